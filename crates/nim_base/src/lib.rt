@@ -1,0 +1,14 @@
+//! What every layer speaks of: numbers, values, tasks, and the small lists and names that they hold.
+#![tactic(auto)]
+
+mod memory;
+mod name;
+mod number;
+mod seq;
+mod task;
+
+pub use memory::{Copied, NoMemory};
+pub use name::Name;
+pub use number::{Epoch, Instance, Object, Position, Shape, Slot, Version, Worker};
+pub use seq::Seq;
+pub use task::{Func, Param, Task, TaskForm};
