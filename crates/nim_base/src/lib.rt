@@ -6,9 +6,11 @@ mod name;
 mod number;
 mod seq;
 mod task;
+mod value;
 
 pub use memory::{Copied, NoMemory};
 pub use name::Name;
 pub use number::{Epoch, Instance, Object, Position, Shape, Slot, Version, Worker};
 pub use seq::Seq;
 pub use task::{Func, Param, Task, TaskForm};
+pub use value::Value;
