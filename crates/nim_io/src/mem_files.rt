@@ -16,7 +16,7 @@ pub enum FileFail {
 }
 
 /// Files in memory. They tell their names with their bytes, and fail where they were made to fail.
-#[derive(Drop)]
+#[derive(Debug, Drop)]
 pub struct MemFiles {
     files: Vec<(String, Vec<u8>)>,
     fails: Vec<FileFail>,

@@ -5,7 +5,7 @@ use std::alloc::Global;
 
 /// A sink in memory. It tells its bytes, takes so many bytes a call at most, and fails at the calls
 /// that it was made to fail at. A write for which there is no memory takes nothing and fails.
-#[derive(Drop)]
+#[derive(Debug, Drop)]
 pub struct MemSink {
     bytes: Vec<u8>,
     most: usize,
@@ -55,7 +55,7 @@ impl Sink for MemSink {
             self.faults = self.faults.saturating_add(1);
             return Err(Failed);
         }
-        if n == 0 {
+        if n == 0 && !piece.is_empty() {
             self.faults = self.faults.saturating_add(1);
         }
         Ok(n)

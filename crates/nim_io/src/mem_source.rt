@@ -5,7 +5,7 @@ use crate::{Failed, Source};
 use std::io::{Cursor, Read};
 
 /// A source in memory, which tells its bytes and fails at the reads that it was made to fail at.
-#[derive(Drop)]
+#[derive(Debug, Drop)]
 pub struct MemSource {
     bytes: Cursor<Vec<u8>>,
     fails: Vec<u32>,

@@ -10,6 +10,7 @@ use crate::Sink;
 pub struct WriteFault;
 
 /// Writes all the bytes. After a fault the first few of them are written. Takes no memory.
+#[tactic(auto, using(crate::proofs::Writes::appends_more))]
 pub fn write_all<K: Sink>(sink: &mut K, bytes: &[u8]) -> Result<(), WriteFault>
     ensures ok { OnOk result (Appends (K.written sink.old) (K.written sink.new) bytes.now) }
     ensures prefix { OnErr result (AppendsFront (K.written sink.old) (K.written sink.new) bytes.now) }
