@@ -1,0 +1,5 @@
+pub mod Counts
+pub mod Files
+pub mod Load
+pub mod MemFiles
+pub mod Sink

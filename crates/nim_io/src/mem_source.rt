@@ -1,0 +1,58 @@
+ghost use Rattle.std.specs.Prelude.{◌≡◌, Some};
+ghost use Rattle.std.specs.Io.Cursor.{cursor_inner, cursor_position};
+
+use crate::{Failed, Source};
+use std::io::{Cursor, Read};
+
+/// A source in memory, which tells its bytes and fails at the reads that it was made to fail at.
+#[derive(Debug, Drop)]
+pub struct MemSource {
+    bytes: Cursor<Vec<u8>>,
+    fails: Vec<u32>,
+    reads: u32,
+    faults: u64,
+}
+
+impl MemSource {
+    /// A source of these bytes. Each read fails whose number, from 0, stands in `fails`.
+    pub fn new(bytes: Vec<u8>, fails: Vec<u32>) -> MemSource
+        ensures bytes { ⟦<MemSource as Source>⟧.left result ≡ Some bytes.items }
+        ensures faults { ⟦<MemSource as Source>⟧.faults result ≡ 0 }
+    {
+        MemSource {
+            bytes: Cursor::new(bytes),
+            fails,
+            reads: 0,
+            faults: 0,
+        }
+    }
+
+    // How often it has failed.
+    pub(crate) fn faults(&self) -> u64
+        ensures { result ≡ ⟦<MemSource as Source>⟧.faults self.now }
+    {
+        self.faults
+    }
+}
+
+impl Source for MemSource {
+    ghost left = { λ s. ⟦<Cursor<Vec<u8>> as Read>⟧.remaining s.bytes };
+
+    ghost faults = { λ s. s.faults };
+
+    fn read(&mut self, buf: &mut [u8]) -> Result<usize, Failed> {
+        let call = self.reads;
+        self.reads = call.saturating_add(1);
+        if self.fails.contains(&call) {
+            self.faults = self.faults.saturating_add(1);
+            return Err(Failed);
+        }
+        match self.bytes.read(buf) {
+            Ok(n) => Ok(n),
+            Err(_) => {
+                self.faults = self.faults.saturating_add(1);
+                Err(Failed)
+            }
+        }
+    }
+}
