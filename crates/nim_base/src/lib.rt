@@ -1,6 +1,7 @@
 //! What every layer speaks of: numbers, values, tasks, and the small lists and names that they hold.
 #![tactic(auto)]
 
+mod fitting;
 mod memory;
 mod name;
 mod number;
@@ -8,6 +9,7 @@ mod seq;
 mod task;
 mod value;
 
+pub use fitting::fit;
 pub use memory::{Copied, NoMemory};
 pub use name::Name;
 pub use number::{Epoch, Instance, Object, Position, Shape, Slot, Version, Worker};
