@@ -7,6 +7,7 @@ mod name;
 mod number;
 mod seq;
 mod task;
+mod text;
 mod value;
 
 pub use fitting::fit;
@@ -15,4 +16,5 @@ pub use name::Name;
 pub use number::{Epoch, Instance, Object, Position, Shape, Slot, Version, Worker};
 pub use seq::Seq;
 pub use task::{Func, Param, Task, TaskForm};
+pub use text::value_text;
 pub use value::Value;
