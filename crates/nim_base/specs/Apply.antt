@@ -1,5 +1,5 @@
 -- What tasks compute: one equation a function, on lists of rows.
-use Rattle.std.specs.Prelude.{ℤ, List, [], ◌∷◌, map, slice_index_or}
+use Rattle.std.specs.Prelude.{ℤ, List, [], ◌∷◌, map}
 use Rattle.std.specs.Int.{int_wrapping_add, w64}
 use Rattle.nim_base.specs.declared.number.Shape.{Shape}
 use Rattle.nim_base.specs.declared.task.Func.{Func}

@@ -1,7 +1,6 @@
 -- A value as every layer sees it: its width and its rows. A cell that isn't there is 0.
-use Rattle.std.specs.Prelude.{◌≡◌, ℕ, ◌+◌, ◌-◌, ◌*◌, ◌^◌, ◌<◌, ◌≤◌, zero, suc, ℤ, pos, List, [], ◌∷◌, ◌++◌, length, take, drop, map, replicate, slice_index_or, All}
-use Rattle.std.specs.List.{flat_map, join_with_byte}
-use Rattle.std.specs.Fmt.{decimal, signed_decimal}
+use Rattle.std.specs.Prelude.{◌≡◌, ℕ, ◌-◌, ◌^◌, ◌<◌, ◌≤◌, zero, suc, ℤ, pos, List, [], ◌∷◌, ◌++◌, length, take, drop, map, replicate, slice_index_or, All}
+use Rattle.std.specs.List.{flat_map}
 use Rattle.nim_base.specs.declared.number.Shape.{Shape}
 
 pub record Grid : Type 0 where

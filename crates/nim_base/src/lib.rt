@@ -1,16 +1,20 @@
 //! What every layer speaks of: numbers, values, tasks, and the small lists and names that they hold.
 #![tactic(auto)]
 
+mod fitting;
 mod memory;
 mod name;
 mod number;
 mod seq;
 mod task;
+mod text;
 mod value;
 
+pub use fitting::fit;
 pub use memory::{Copied, NoMemory};
 pub use name::Name;
 pub use number::{Epoch, Instance, Object, Position, Shape, Slot, Version, Worker};
 pub use seq::Seq;
 pub use task::{Func, Param, Task, TaskForm};
+pub use text::value_text;
 pub use value::Value;

@@ -1,8 +1,8 @@
-ghost use Rattle.std.specs.Prelude.{◌≡◌, [], ◌*◌, ◌≤◌, length, IfOk};
+ghost use Rattle.std.specs.Prelude.{◌≡◌, [], ◌∷◌, ◌++◌, ◌-◌, ◌*◌, ◌^◌, ◌<◌, ◌≤◌, length, IfOk, OnOk, OnErr};
 ghost use Rattle.std.specs.Vec.{vec_len};
 ghost use Rattle.nim_base.specs.Value.{IsGrid, cell_of, cells_of, filled, rows_of};
 
-use crate::{NoMemory, Shape};
+use crate::{Copied, NoMemory, Shape};
 use std::alloc::Global;
 use std::marker::Model;
 
@@ -90,6 +90,40 @@ impl Value {
         Ok(Value {
             width: shape.width,
             rows: shape.rows,
+            cells,
+        })
+    }
+
+    /// The cell of a row and a column, 0 where there is none.
+    pub fn cell(&self, row: u32, column: u32) -> i64
+        ensures { result ≡ cell_of self.now row column }
+    {
+        if row < self.rows && column < self.width {
+            self.cells[row as usize * self.width as usize + column as usize]
+        } else {
+            0
+        }
+    }
+
+    /// One more row at the end.
+    pub fn push_row(&mut self, row: &[i64]) -> Result<(), NoMemory>
+        requires width { length row.now ≡ self.old.width }
+        requires room { length self.old.rows < 2 ^ 32 - 1 }
+        ensures ok { OnOk result (self.new ≡ record self.old { rows = self.old.rows ++ row.now ∷ [] }) }
+        ensures err { OnErr result (self.new ≡ self.old) }
+    {
+        self.cells.extend_from_slice(row)?;
+        self.rows += 1;
+        Ok(())
+    }
+}
+
+impl Copied for Value {
+    fn copy(&self) -> Result<Value, NoMemory> {
+        let cells = Vec::from_slice(*self.cells.allocator(), self.cells.as_slice())?;
+        Ok(Value {
+            width: self.width,
+            rows: self.rows,
             cells,
         })
     }

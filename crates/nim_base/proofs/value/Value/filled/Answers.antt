@@ -1,5 +1,5 @@
 use Rattle.std.proofs.Common.{◌≡◌, ◌*◌, ◌∙◌, ap, replicate, rules, List, ℤ}
-use Rattle.nim_base.specs.Value.{Grid, rows_of}
+use Rattle.nim_base.specs.Value.{rows_of}
 use Rattle.nim_base.proofs.Rows.{rows_of-replicate}
 use Rattle.nim_base.proofs.value.Value.filled.Goals as goal
 
