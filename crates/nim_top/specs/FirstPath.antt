@@ -1,0 +1,174 @@
+-- The drivers that are read so far: variables, one block, its instances, and one output.
+use Rattle.std.specs.Prelude.{ℕ, ◌+◌, ◌-◌, ◌*◌, ◌==◌, Bool, true, false, not, ◌&&◌, ◌||◌, nat_le, ℤ, Option, None, Some, List, [], ◌∷◌, ◌++◌, length, take, drop, map, replicate, codes, if◌then◌else◌, slice_index, slice_index_or}
+use Rattle.std.specs.List.{list_all, list_any, position, prefix_len, sum_by}
+use Rattle.std.specs.Str.{bytes_eq}
+use Rattle.std.specs.Option.{option_and_then, option_map}
+use Rattle.nim_base.specs.declared.number.Shape.{Shape}
+use Rattle.nim_base.specs.declared.task.Func.TheVariants.{Addc}
+use Rattle.nim_base.specs.declared.task.Param.TheVariants.{Const}
+use Rattle.nim_job.specs.declared.block.Block.{Block}
+use Rattle.nim_job.specs.declared.block.Place.{Place}
+use Rattle.nim_job.specs.declared.block.Place.TheVariants.{Fixed, Plus}
+use Rattle.nim_job.specs.declared.block.Ref.{Ref}
+use Rattle.nim_job.specs.declared.block.Stage.{Stage}
+use Rattle.nim_job.specs.declared.job.Init.TheVariants.{Fill}
+use Rattle.nim_job.specs.declared.job.Job.{Job}
+use Rattle.nim_job.specs.declared.job.Var.{Var}
+use Rattle.nim_job.specs.declared.stmt.Stmt.{Stmt, Do, Output}
+use Rattle.nim_job.specs.Whole.{cells_in, is_whole}
+use Rattle.nim_top.specs.Lines.{Line, lines_of, word_at, has_form, is_letter, name_of, number_of, int_of}
+
+-- f of each item, where each has one
+abbrev pub all_of : {A B : Type 0} → (A → Option B) → List A → Option (List B)
+all_of f [] = Some []
+all_of f (x ∷ xs) = option_and_then (λ y. option_map (λ ys. y ∷ ys) (all_of f xs)) (f x)
+
+-- nimbus 1
+abbrev pub first_form : Line
+first_form = codes "nimbus" ∷ codes "1" ∷ []
+
+-- var X parts P width W rows R fill C
+abbrev pub var_form : Line
+var_form = codes "var" ∷ [] ∷ codes "parts" ∷ [] ∷ codes "width" ∷ [] ∷ codes "rows" ∷ [] ∷ codes "fill" ∷ [] ∷ []
+
+abbrev pub var_from : Option ℕ → Option ℕ → Option ℕ → Option ℕ → Option ℤ → Option Var
+var_from (Some x) (Some parts) (Some width) (Some rows) (Some number) =
+    Some (record { name = x ∷ []; parts = parts; shape = record { width = width; rows = rows }; init = Fill number })
+var_from _ _ _ _ _ = None
+
+abbrev pub var_of : Line → Option Var
+var_of line = if has_form line var_form
+    then var_from (name_of (word_at line 1)) (number_of 5 (word_at line 3)) (number_of 5 (word_at line 5)) (number_of 5 (word_at line 7)) (int_of (word_at line 9))
+    else None
+
+-- the letter of a variable
+abbrev pub letter_of : Var → ℕ
+letter_of v = slice_index v.name 0
+
+-- the number of the variable with this letter
+abbrev pub number_in : List Var → ℕ → Option ℕ
+number_in vars letter = position (λ v. letter_of v == letter) vars
+
+-- what stands between the brackets of a reference: i, or a number
+abbrev pub place_of : List ℕ → Option Place
+place_of inside = if bytes_eq inside (codes "i") then Some (Plus 0) else option_map Fixed (number_of 5 inside)
+
+abbrev pub ref_from : Option ℕ → Option Place → Option Ref
+ref_from (Some var) (Some place) = Some (record { var = var; place = place })
+ref_from _ _ = None
+
+-- X[N] or X[i]
+abbrev pub ref_of : List Var → List ℕ → Option Ref
+ref_of vars word = if nat_le 3 (length word) && slice_index word 1 == 91 && slice_index word (length word - 1) == 93
+    then ref_from (number_in vars (slice_index word 0)) (place_of (take (length word - 3) (drop 2 word)))
+    else None
+
+-- addc REF -> REF with C, and the same with each i
+abbrev pub stage_form : Line
+stage_form = codes "addc" ∷ [] ∷ codes "->" ∷ [] ∷ codes "with" ∷ [] ∷ []
+
+abbrev pub each_form : Line
+each_form = codes "addc" ∷ [] ∷ codes "->" ∷ [] ∷ codes "with" ∷ [] ∷ codes "each" ∷ codes "i" ∷ []
+
+abbrev pub stage_from : Bool → Option Ref → Option Ref → Option ℤ → Option Stage
+stage_from each (Some read) (Some written) (Some number) =
+    Some (record { func = Addc; reads = read ∷ []; writes = written ∷ []; params = Const number ∷ []; each = each })
+stage_from each _ _ _ = None
+
+abbrev pub stage_of : List Var → Line → Option Stage
+stage_of vars line = if has_form line stage_form || has_form line each_form
+    then stage_from (has_form line each_form) (ref_of vars (word_at line 1)) (ref_of vars (word_at line 3)) (int_of (word_at line 5))
+    else None
+
+-- X()
+abbrev pub call_of : ℕ → List ℕ
+call_of letter = letter ∷ 40 ∷ 41 ∷ []
+
+-- block X(): the letter
+abbrev pub block_form : Line
+block_form = codes "block" ∷ [] ∷ []
+
+abbrev pub block_letter : Line → Option ℕ
+block_letter line = if has_form line block_form && bytes_eq (word_at line 1) (call_of (slice_index (word_at line 1) 0)) && is_letter (slice_index (word_at line 1) 0)
+    then Some (slice_index (word_at line 1) 0)
+    else None
+
+-- do X(), for the block
+abbrev pub do_form : ℕ → Line
+do_form letter = codes "do" ∷ call_of letter ∷ []
+
+-- output X: the variable's number
+abbrev pub output_form : Line
+output_form = codes "output" ∷ [] ∷ []
+
+abbrev pub output_var : List Var → Line → Option ℕ
+output_var vars line = if has_form line output_form && length (word_at line 1) == 1 then number_in vars (slice_index (word_at line 1) 0) else None
+
+-- the statements: so many instances of the block, and the output
+abbrev pub body_of : ℕ → ℕ → List Stmt
+body_of dos var = replicate dos (Do 0 []) ++ Output var ∷ []
+
+-- no letter stands twice
+abbrev pub is_distinct : List ℕ → Bool
+is_distinct [] = true
+is_distinct (x ∷ xs) = not (list_any (λ y. y == x) xs) && is_distinct xs
+
+-- the job, where it is whole, no name stands twice, and there are at most 65,536 cells
+abbrev pub checked : ℕ → Job → Option Job
+checked letter job = if is_whole job && is_distinct (letter ∷ map letter_of job.vars) && nat_le (sum_by cells_in job.vars) 65536 then Some job else None
+
+abbrev pub job_from : List Var → ℕ → ℕ → Option (List Stage) → Option ℕ → Option Job
+job_from vars letter dos (Some stages) (Some var) = checked letter (record {
+    steps = 1000000;
+    vars = vars;
+    blocks = record { name = letter ∷ []; args = 0; stages = stages } ∷ [];
+    body = body_of dos var })
+job_from vars letter dos _ _ = None
+
+-- whether a line begins with this word
+abbrev pub begins : List ℕ → Line → Bool
+begins word line = bytes_eq (word_at line 0) word
+
+-- how many lines of one kind stand at the front
+abbrev pub count_front : List ℕ → List Line → ℕ
+count_front word lines = prefix_len (begins word) lines
+
+-- a line that is there, or no words
+abbrev pub line_at : List Line → ℕ → Line
+line_at lines k = slice_index_or lines k []
+
+-- Behind the first line come variables, the block's head, stages, `end`, instances, the output, and the end of the text.
+pub record Layout : Type 0 where
+  pub vars : ℕ
+  pub stages : ℕ
+  pub dos : ℕ
+
+abbrev pub layout_of : List Line → Layout
+layout_of lines =
+    let vars : ℕ = count_front (codes "var") (drop 1 lines) in
+    let stages : ℕ = count_front (codes "addc") (drop (2 + vars) lines) in
+    record { vars = vars; stages = stages; dos = count_front (codes "do") (drop (3 + vars + stages) lines) }
+
+-- there is a variable and a stage, the lines that aren't of a kind are in their places, and no line is over
+abbrev pub is_laid_out : List Line → Layout → Bool
+is_laid_out lines at = nat_le 1 at.vars && nat_le 1 at.stages && length lines == 5 + at.vars + at.stages + at.dos
+    && has_form (line_at lines 0) first_form
+    && has_form (line_at lines (2 + at.vars + at.stages)) (codes "end" ∷ [])
+    && has_form (line_at lines (4 + at.vars + at.stages + at.dos)) ([] ∷ [])
+    && length (word_at (line_at lines (4 + at.vars + at.stages + at.dos)) 0) == 0
+
+abbrev pub block_job : List Line → Layout → List Var → ℕ → Option Job
+block_job lines at vars letter =
+    if list_all (λ line. has_form line (do_form letter)) (take at.dos (drop (3 + at.vars + at.stages) lines))
+    then job_from vars letter at.dos (all_of (stage_of vars) (take at.stages (drop (2 + at.vars) lines))) (output_var vars (line_at lines (3 + at.vars + at.stages + at.dos)))
+    else None
+
+abbrev pub vars_job : List Line → Layout → List Var → Option Job
+vars_job lines at vars = option_and_then (block_job lines at vars) (block_letter (line_at lines (1 + at.vars)))
+
+abbrev pub driver_job : List Line → Layout → Option Job
+driver_job lines at = if is_laid_out lines at then option_and_then (vars_job lines at) (all_of var_of (take at.vars (drop 1 lines))) else None
+
+-- the job of a driver, where its text has the form and at most 1,048,576 bytes
+unfoldable pub job_of : List ℕ → Option Job
+job_of bytes = if nat_le (length bytes) 1048576 then driver_job (lines_of bytes) (layout_of (lines_of bytes)) else None
