@@ -1,2 +1,4 @@
+pub mod Answer
 pub mod FirstPath
 pub mod Lines
+pub mod Words

@@ -2,3 +2,10 @@
 #![tactic(auto)]
 
 mod first_path;
+mod replay;
+mod run;
+mod status;
+mod words;
+
+pub use replay::top_replay;
+pub use status::Status;
