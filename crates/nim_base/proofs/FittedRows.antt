@@ -1,6 +1,7 @@
 -- Rows cut and padded, on cells one after another.
 use Rattle.std.proofs.Common.{◌≡◌, ℕ, ◌+◌, ◌-◌, ◌*◌, ◌<◌, ◌≤◌, zero, suc, min, ℤ, pos, List, [], ◌∷◌, ◌++◌, length, take, drop, map, replicate, refl, sym, ◌∙◌, ap, ap₂, arith}
-use Rattle.std.specs.List.{flat_map}
+use Rattle.std.specs.List.{All, flat_map}
+use Rattle.std.proofs.lemmas.List.Elements.{All-cons, All-nil, All-same}
 use Rattle.std.proofs.Math.Nat.{suc-mul}
 use Rattle.std.proofs.Math.Seq.{take-add}
 use Rattle.std.proofs.lemmas.List.{append-nil, length-append, length-take, length-take-le, length-drop, length-replicate, take_all, take_at, drop_at, take_min}
@@ -19,6 +20,18 @@ pub flat_rows-end : {X : Type 0} (does : List ℤ → List X) (n i width : ℕ) 
 flat_rows-end does n i width cells done =
     let left : n - i ≡ 0 = omega arith in
     ap (λ k. flat_map does (rows_of k width cells)) left
+
+-- what holds of each row, at the next row and at the end
+pub fit_rows-step : (P : ℤ → Type 0) (n i width : ℕ) (cells : List ℤ) → i < n → All P (take width cells) → All (All P) (rows_of (n - (i + 1)) width (drop width cells)) → All (All P) (rows_of (n - i) width cells)
+fit_rows-step P n i width cells more first others =
+    let left : n - i ≡ suc (n - (i + 1)) = omega arith in
+    All-same (All P) (rows_of (n - i) width cells) (take width cells ∷ rows_of (n - (i + 1)) width (drop width cells)) (ap (λ k. rows_of k width cells) left)
+    (All-cons (All P) (take width cells) (rows_of (n - (i + 1)) width (drop width cells)) first others)
+
+pub fit_rows-end : (P : ℤ → Type 0) (n i width : ℕ) (cells : List ℤ) → n ≤ i → All (All P) (rows_of (n - i) width cells)
+fit_rows-end P n i width cells done =
+    let left : n - i ≡ 0 = omega arith in
+    All-same (All P) (rows_of (n - i) width cells) [] (ap (λ k. rows_of k width cells) left) (All-nil (All P))
 
 pub enough-step : (n i width : ℕ) (cells : List ℤ) → i < n → (n - i) * width ≤ length cells → (width ≤ length cells) × ((n - (i + 1)) * width ≤ length (drop width cells))
 enough-step n i width cells more enough =
