@@ -1,0 +1,35 @@
+//! The program: it hands the words of the command line to the top calls, and ends with their status.
+#![tactic(auto)]
+
+use nim_io::{HostFiles, HostSink, write_all};
+use nim_top::{Status, top_replay};
+use std::alloc::Global;
+use std::env;
+use std::io;
+use std::process::ExitCode;
+use std::rt::Env;
+
+fn main(rt: HostRuntime) -> ExitCode {
+    let mut err = HostSink::err(rt.stderr());
+    let status = match words(&rt) {
+        Ok(words) => {
+            let mut files = HostFiles::new(rt);
+            let mut out = HostSink::out(rt.stdout());
+            top_replay(rt.alloc(), words.as_slice(), &mut files, &mut out, &mut err)
+        }
+        Err(status) => {
+            let _ = write_all(&mut err, status.text().as_bytes());
+            status
+        }
+    };
+    ExitCode::from(status.0)
+}
+
+// The words behind the program's name. One that isn't text makes the command line a faulty one.
+fn words<R: Env + Alloc<A = Global>>(rt: &R) -> Result<Vec<String>, Status> {
+    match env::args(rt) {
+        Ok(args) => args.skip(1).collect(rt.alloc()).or(Err(Status::MEMORY)),
+        Err(e) if e.kind() == io::ErrorKind::OutOfMemory => Err(Status::MEMORY),
+        Err(_) => Err(Status::WORDS),
+    }
+}
