@@ -1,3 +1,4 @@
 pub mod Apply
+pub mod Functions
 pub mod Text
 pub mod Value
