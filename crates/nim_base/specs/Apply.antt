@@ -1,20 +1,80 @@
--- What tasks compute: one equation a function, on lists of rows.
-use Rattle.std.specs.Prelude.{ℤ, List, [], ◌∷◌, map}
-use Rattle.std.specs.Int.{int_wrapping_add, w64}
+-- What tasks compute: the table of the functions. What each of them gives stands in Functions.antt.
+use Rattle.std.specs.Prelude.{◌≡◌, ℕ, ◌≤◌, ℤ, List, [], ◌∷◌, length}
 use Rattle.nim_base.specs.declared.number.Shape.{Shape}
 use Rattle.nim_base.specs.declared.task.Func.{Func}
-use Rattle.nim_base.specs.declared.task.Func.TheVariants.{Addc}
-use Rattle.nim_base.specs.Value.{Grid, fitted}
+use Rattle.nim_base.specs.declared.task.Func.TheVariants.{Set, Copy, Addc, Mulc, Add, Sub, Max, Sum, Total, Count, Stencil, Keep, Group, Merge, Split}
+use Rattle.nim_base.specs.Value.{Grid, filled, fitted}
+use Rattle.nim_base.specs.Functions.{param_of, read_of, addc_of, mulc_of, add_of, sub_of, max_of, sum_of, total_of, count_of, stencil_of, keep_of, group_of, merge_of, below_of, rest_of}
 
--- addc: each cell plus the number; a sum wraps
-abbrev pub addc_of : ℤ → Grid → Grid
-addc_of number grid = record grid { rows = map (map (λ cell. int_wrapping_add w64 cell number)) grid.rows }
+-- how many parameters a function has
+abbrev pub params_of : Func → ℕ
+params_of Set = 1
+params_of Addc = 1
+params_of Mulc = 1
+params_of Stencil = 2
+params_of Keep = 3
+params_of Group = 2
+params_of Split = 2
+params_of _ = 0
+
+-- the fewest values that a function reads
+abbrev pub fewest_reads : Func → ℕ
+fewest_reads Set = 0
+fewest_reads Add = 2
+fewest_reads Sub = 2
+fewest_reads Max = 2
+fewest_reads Stencil = 3
+fewest_reads _ = 1
+
+-- the most values that a function reads
+abbrev pub most_reads : Func → ℕ
+most_reads Set = 0
+most_reads Add = 2
+most_reads Sub = 2
+most_reads Max = 2
+most_reads Sum = 8
+most_reads Total = 8
+most_reads Count = 8
+most_reads Stencil = 3
+most_reads Merge = 8
+most_reads _ = 1
+
+-- how many results a function has
+abbrev pub writes_of : Func → ℕ
+writes_of Split = 2
+writes_of _ = 1
+
+-- the numbers of parameters, reads and results are the function's
+pub record HasCounts {A B C : Type 0} (func : Func) (numbers : List A) (sources : List B) (results : List C) : Type 0 where
+  pub params : length numbers ≡ params_of func
+  pub fewest : fewest_reads func ≤ length sources
+  pub most : length sources ≤ most_reads func
+  pub writes : length results ≡ writes_of func
+
+-- the functions that `apply` knows so far
+abbrev pub IsKnown : Func → Type 0
+IsKnown func = func ≡ Addc
 
 -- What a function gives for its parameters and the values that it reads, before each result is fitted. The
--- shape is the first that it writes. A function that isn't listed gives nothing yet.
+-- shape is the first that it writes.
 abbrev pub results_of : Func → List ℤ → List Grid → Shape → List Grid
-results_of Addc (number ∷ []) (grid ∷ []) shape = addc_of number grid ∷ []
-results_of _ params reads shape = []
+results_of Set params reads shape = filled shape (param_of params 0) ∷ []
+results_of Copy params reads shape = read_of reads 0 ∷ []
+results_of Addc params reads shape = addc_of (param_of params 0) (read_of reads 0) ∷ []
+results_of Mulc params reads shape = mulc_of (param_of params 0) (read_of reads 0) ∷ []
+results_of Add params reads shape = add_of (read_of reads 0) (read_of reads 1) ∷ []
+results_of Sub params reads shape = sub_of (read_of reads 0) (read_of reads 1) ∷ []
+results_of Max params reads shape = max_of (read_of reads 0) (read_of reads 1) ∷ []
+results_of Sum params reads shape = sum_of reads ∷ []
+results_of Total params reads shape = total_of reads ∷ []
+results_of Count params reads shape = count_of reads ∷ []
+results_of Stencil params reads shape =
+    stencil_of (param_of params 0) (param_of params 1) (read_of reads 0) (read_of reads 1) (read_of reads 2) ∷ []
+results_of Keep params reads shape = keep_of (param_of params 0) (param_of params 1) (param_of params 2) (read_of reads 0) ∷ []
+results_of Group params reads shape = group_of (param_of params 0) (param_of params 1) (read_of reads 0) ∷ []
+results_of Merge params reads shape = merge_of reads ∷ []
+results_of Split params reads shape =
+    below_of (param_of params 0) (param_of params 1) (read_of reads 0) ∷ rest_of (param_of params 0) (param_of params 1) (read_of reads 0) ∷ []
 
 -- each result fitted to the shape that it is written into
 abbrev pub fit_all : List Grid → List Shape → List Grid

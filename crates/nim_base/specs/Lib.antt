@@ -1,4 +1,5 @@
 pub mod Apply
 pub mod ReadBack
+pub mod Functions
 pub mod Text
 pub mod Value

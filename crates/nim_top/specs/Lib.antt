@@ -1,4 +1,5 @@
 pub mod Answer
 pub mod FirstPath
 pub mod Lines
+pub mod Runs
 pub mod Words

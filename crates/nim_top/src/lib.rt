@@ -5,6 +5,8 @@ mod first_path;
 mod replay;
 mod run;
 mod status;
+mod tasks;
+mod values;
 mod words;
 
 pub use replay::top_replay;

@@ -107,7 +107,7 @@ fn answer<K: Sink>(alloc: Global, bytes: &[u8], out: &mut K) -> Status
         Err(_) => return Status::MEMORY,
     };
     match run(alloc, &job) {
-        Ok(Some(output)) => print(output.as_slice(), out),
+        Ok(Some(machine)) => print(machine.output(), out),
         Ok(None) => Status::LIMIT,
         Err(_) => Status::MEMORY,
     }

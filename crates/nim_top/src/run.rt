@@ -1,16 +1,74 @@
-ghost use Rattle.std.specs.Prelude.{◌≡◌, [], IfOk, IfSome, IfNone, IsTrue};
+ghost use Rattle.std.specs.Prelude.{◌≡◌, ◌+◌, [], length, IfOk, IfSome, IfNone, IsTrue, OnOk};
+ghost use Rattle.std.specs.List.{list_all};
+ghost use Rattle.nim_job.specs.Objects.{initial_values, objects_of, shapes_of};
 ghost use Rattle.nim_job.specs.Serial.{serial_of};
+ghost use Rattle.nim_job.specs.Step.{output_of};
 ghost use Rattle.nim_job.specs.Whole.{is_whole};
+ghost use Rattle.nim_top.specs.Runs.{Stands};
+ghost use Rattle.nim_top.specs.declared.run.Turn.{Turn};
 
-use nim_base::NoMemory;
-use nim_job::Job;
+use crate::tasks::run_tasks;
+use crate::values::{initial_values, output_text};
+use nim_base::{NoMemory, Shape, Value};
+use nim_job::{Ask, DriverMachine, Job, block_tasks, shapes};
 use std::alloc::Global;
 
-/// What a job prints, its tasks applied one after another; nothing where it passes its limits.
-pub fn run(alloc: Global, job: &Job) -> Result<Option<Vec<u8>>, NoMemory>
+/// Whether a driver goes on.
+#[derive(Clone, Copy, Debug, PartialEq, Eq)]
+pub enum Turn {
+    Goes,
+    Finished,
+    Limit,
+}
+
+/// Applies the tasks of a job one after another, and gives the machine that stands at its end and has
+/// what the job prints; nothing where the job passes its limits.
+pub fn run(alloc: Global, job: &Job) -> Result<Option<DriverMachine>, NoMemory>
     requires { IsTrue (is_whole job.now) }
-    ensures output { IfOk result (λ output. IfSome output (λ bytes. serial_of job.now ≡ record { status = 0; bytes = bytes.items })) }
-    ensures limit { IfOk result (λ output. IfNone output (serial_of job.now ≡ record { status = 4; bytes = [] })) }
+    ensures output { IfOk result (λ end. IfSome end (λ m. serial_of job.now ≡ record { status = 0; bytes = m.driver.output })) }
+    ensures limit { IfOk result (λ end. IfNone end (serial_of job.now ≡ record { status = 4; bytes = [] })) }
 {
-    Err(NoMemory)
+    let shapes = shapes(alloc, job)?;
+    let mut values = initial_values(alloc, job)?;
+    let mut machine = DriverMachine::new(alloc, job)?;
+    loop {
+        match turn(alloc, job, &shapes, &mut values, &mut machine)? {
+            Turn::Goes => {}
+            Turn::Finished => return Ok(Some(machine)),
+            Turn::Limit => return Ok(None),
+        }
+    }
+}
+
+// Does what the driver asks for next.
+fn turn(
+    alloc: Global,
+    job: &Job,
+    shapes: &[Shape],
+    values: &mut Vec<Value>,
+    machine: &mut DriverMachine,
+) -> Result<Turn, NoMemory>
+    requires whole { IsTrue (is_whole job.now) }
+    requires shapes { shapes.now ≡ shapes_of job.now.vars }
+    requires stands { Stands job.now machine.old values.old.items }
+    ensures goes { IfOk result (λ turn. turn ≡ Turn.Goes → Stands job.now machine.new values.new.items) }
+    ensures nearer { IfOk result (λ turn. turn ≡ Turn.Goes → length machine.new.driver.todo + 1 ≡ length machine.old.driver.todo) }
+    ensures finished { IfOk result (λ turn. turn ≡ Turn.Finished → serial_of job.now ≡ record { status = 0; bytes = machine.new.driver.output }) }
+    ensures limit { IfOk result (λ turn. turn ≡ Turn.Limit → serial_of job.now ≡ record { status = 4; bytes = [] }) }
+{
+    match machine.next()? {
+        Ask::Run { block, args } => {
+            let tasks = block_tasks(alloc, job, block, args.as_slice())?;
+            run_tasks(alloc, shapes, values, &tasks)?;
+            machine.answer(0);
+            Ok(Turn::Goes)
+        }
+        Ask::Output { var } => {
+            let text = output_text(alloc, job, values, var)?;
+            machine.append(&text)?;
+            Ok(Turn::Goes)
+        }
+        Ask::Finished => Ok(Turn::Finished),
+        _ => Ok(Turn::Limit),
+    }
 }
