@@ -18,6 +18,7 @@ pub enum LoadFault {
     Read,
     /// It has more bytes than are wanted.
     TooLong,
+    /// Memory was refused.
     NoMemory,
 }
 
