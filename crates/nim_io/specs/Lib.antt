@@ -2,4 +2,5 @@ pub mod Counts
 pub mod Files
 pub mod Load
 pub mod MemFiles
+pub mod MemSink
 pub mod Sink

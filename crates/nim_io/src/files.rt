@@ -3,22 +3,24 @@ ghost use Rattle.nim_io.specs.Counts.{Rose, NeverFalls};
 ghost use Rattle.nim_io.specs.Files.{Opens};
 
 use crate::Source;
-use std::alloc::{AllocError, Global};
+use nim_base::NoMemory;
+use std::alloc::Global;
 
 /// Why a file couldn't be opened.
 #[derive(Clone, Copy, Debug, PartialEq, Eq)]
 pub enum OpenFault {
     /// The files failed, and have counted it. That a file is missing is such a failure.
     Failed,
+    /// Memory was refused.
     NoMemory,
 }
 
-impl From<AllocError> for OpenFault {
+impl From<NoMemory> for OpenFault {
     ghost use Rattle.nim_io.specs.declared.files.OpenFault.TheVariants.{NoMemory};
 
     ghost from_gives = { λ _ fault. fault ≡ NoMemory };
 
-    fn from(_refused: AllocError) -> OpenFault {
+    fn from(_refused: NoMemory) -> OpenFault {
         OpenFault::NoMemory
     }
 }

@@ -22,6 +22,7 @@ pub struct HostSource<F: Read> {
 }
 
 impl<R: std::rt::Files> HostFiles<R> {
+    /// The files that this runtime reaches, with no fault counted yet.
     pub fn new(rt: R) -> HostFiles<R>
         ensures { ⟦<HostFiles<R> as Files>⟧.faults result ≡ 0 }
     {
@@ -30,7 +31,7 @@ impl<R: std::rt::Files> HostFiles<R> {
 }
 
 impl<F: Read> Source for HostSource<F> {
-    ghost left = { λ _. None };
+    ghost left = { λ s. F.remaining s.file };
 
     ghost faults = { λ s. s.faults };
 

@@ -1,4 +1,7 @@
-ghost use Rattle.std.specs.Prelude.{◌≡◌, None};
+ghost use Rattle.std.specs.Prelude.{◌≡◌, ◌<◌, None, length, OnErr, IfOk};
+ghost use Rattle.std.specs.Io.{WritesAtMost};
+ghost use Rattle.std.specs.Io.KnownBytes.{WriteAppends};
+ghost use Rattle.nim_io.specs.Counts.{Rose, NeverFalls};
 
 use crate::{Failed, Sink};
 use std::io::Write;
@@ -46,20 +49,30 @@ impl Sink for HostSink {
     ghost faults = { λ s. s.faults };
 
     fn write(&mut self, piece: &[u8]) -> Result<usize, Failed> {
-        let wrote = match self.stream {
-            Stream::Out(mut stdout) => stdout.write(piece),
-            Stream::Err(mut stderr) => stderr.write(piece),
-        };
-        match wrote {
-            Ok(n) if n > 0 || piece.is_empty() => Ok(n),
-            Ok(n) => {
-                self.faults = self.faults.saturating_add(1);
-                Ok(n)
-            }
-            Err(_) => {
-                self.faults = self.faults.saturating_add(1);
-                Err(Failed)
-            }
+        match &mut self.stream {
+            Stream::Out(stdout) => write_once(stdout, piece, &mut self.faults),
+            Stream::Err(stderr) => write_once(stderr, piece, &mut self.faults),
+        }
+    }
+}
+
+// One write of a stream. It counts an error, and that nothing was taken of a piece that isn't empty.
+fn write_once<W: Write>(stream: &mut W, piece: &[u8], faults: &mut u64) -> Result<usize, Failed>
+    ensures bound { WritesAtMost result piece.now }
+    ensures bytes { WriteAppends (W.contents stream.old) (W.contents stream.new) result piece.now }
+    ensures cause { OnErr result (Rose faults.old faults.new) }
+    ensures stuck { IfOk result (λ n. n ≡ 0 → 0 < length piece.now → Rose faults.old faults.new) }
+    ensures later { NeverFalls faults.old faults.new }
+{
+    match stream.write(piece) {
+        Ok(n) if n > 0 || piece.is_empty() => Ok(n),
+        Ok(n) => {
+            *faults = faults.saturating_add(1);
+            Ok(n)
+        }
+        Err(_) => {
+            *faults = faults.saturating_add(1);
+            Err(Failed)
         }
     }
 }

@@ -1,4 +1,4 @@
-ghost use Rattle.std.specs.Prelude.{◌≡◌, ℕ, ◌+◌, ◌^◌, ◌<◌, ◌≤◌, length, IfOk, IfSome, IsErr, IsErrOf};
+ghost use Rattle.std.specs.Prelude.{◌≡◌, ℕ, ◌+◌, ◌^◌, ◌<◌, ◌≤◌, length, IfOk, IfSome, IsErrOf};
 ghost use Rattle.nim_io.specs.Counts.{Rose, NeverFalls};
 ghost use Rattle.nim_io.specs.Files.{content, Tells, TellsSome};
 ghost use Rattle.nim_io.specs.Load.{Loads};
@@ -18,6 +18,7 @@ pub enum LoadFault {
     Read,
     /// It has more bytes than are wanted.
     TooLong,
+    /// Memory was refused.
     NoMemory,
 }
 
@@ -32,7 +33,9 @@ impl From<AllocError> for LoadFault {
 }
 
 /// The whole content of the file of this name, of at most `most` bytes. The file is closed again,
-/// and no byte is read past the one that makes it too long.
+/// and no byte is read past the one that makes it too long. Which bytes files tell for a name is
+/// `content` of `specs/Files.antt`, and what may be answered where nothing failed `Loads` of
+/// `specs/Load.antt`.
 pub fn read_all<L: Files>(
     alloc: Global,
     files: &mut L,

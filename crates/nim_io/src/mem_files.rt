@@ -1,17 +1,18 @@
-ghost use Rattle.std.specs.Prelude.{◌≡◌, Some};
+ghost use Rattle.std.specs.Prelude.{◌≡◌, Some, IfOk};
 ghost use Rattle.std.specs.Option.{option_copied, option_map};
 ghost use Rattle.nim_io.specs.Files.{content};
 ghost use Rattle.nim_io.specs.MemFiles.{entries};
 
 use crate::{Files, MemSource, OpenFault, Source};
-use std::alloc::{AllocError, Global};
+use nim_base::NoMemory;
+use std::alloc::Global;
 
 /// Where files in memory are to fail. All numbers count from 0.
 #[derive(Clone, Copy, Debug, PartialEq, Eq)]
 pub enum FileFail {
     /// At the open of this number.
     Open(u32),
-    /// At a read of the source that was opened as number `opened`.
+    /// At the read of this number of the source of number `opened`. An open that fails opens none.
     Read { opened: u32, read: u32 },
 }
 
@@ -40,8 +41,11 @@ impl MemFiles {
         }
     }
 
-    // The reads that are to fail of the source that is opened next.
-    fn fails_of_next(&self, alloc: Global) -> Result<Vec<u32>, AllocError> {
+    // The source that is opened next, of these bytes, with the reads at which it is to fail.
+    fn next_source(&self, alloc: Global, bytes: &[u8]) -> Result<MemSource, NoMemory>
+        ensures bytes { IfOk result (λ s. ⟦<MemSource as Source>⟧.left s ≡ Some bytes.now) }
+        ensures faults { IfOk result (λ s. ⟦<MemSource as Source>⟧.faults s ≡ 0) }
+    {
         let mut reads = Vec::new(alloc);
         for fail in self.fails.as_slice() {
             if let FileFail::Read { opened, read } = fail {
@@ -50,7 +54,7 @@ impl MemFiles {
                 }
             }
         }
-        Ok(reads)
+        Ok(MemSource::new(bytes.to_vec(alloc)?, reads))
     }
 }
 
@@ -84,7 +88,7 @@ impl Files for MemFiles {
             self.faults = self.faults.saturating_add(1);
             return Err(OpenFault::Failed);
         };
-        let source = MemSource::new(bytes.to_vec(alloc)?, self.fails_of_next(alloc)?);
+        let source = self.next_source(alloc, bytes)?;
         self.opened = self.opened.saturating_add(1);
         Ok(source)
     }

@@ -1,4 +1,7 @@
-ghost use Rattle.std.specs.Prelude.{◌≡◌, [], Some};
+ghost use Rattle.std.specs.Prelude.{◌≡◌, ◌+◌, ◌-◌, ◌^◌, ◌<◌, [], Some, min, length, Contains, IfOk, IsErr, OnErr};
+ghost use Rattle.std.specs.Io.{WritesAtMost};
+ghost use Rattle.std.specs.Io.KnownBytes.{WriteAppends};
+ghost use Rattle.nim_io.specs.Counts.{Rose, NeverFalls};
 
 use crate::{Failed, Sink};
 use std::alloc::Global;
@@ -15,11 +18,15 @@ pub struct MemSink {
 }
 
 impl MemSink {
+    ghost use Rattle.nim_io.specs.MemSink.{most_of, fails_of, writes_of};
+
     /// An empty sink that takes at most `most` bytes a call. Each write fails whose number, from 0,
     /// stands in `fails`.
     pub fn new(alloc: Global, most: usize, fails: Vec<u32>) -> MemSink
         ensures empty { ⟦<MemSink as Sink>⟧.written result ≡ Some [] }
         ensures faults { ⟦<MemSink as Sink>⟧.faults result ≡ 0 }
+        ensures limit { most_of result ≡ most }
+        ensures fails { (fails_of result ≡ fails.items) × (writes_of result ≡ 0) }
     {
         MemSink {
             bytes: Vec::new(alloc),
@@ -39,11 +46,25 @@ impl MemSink {
 }
 
 impl Sink for MemSink {
+    ghost use Rattle.nim_io.specs.MemSink.{most_of, fails_of, writes_of};
+
     ghost written = { λ s. Some s.bytes.items };
 
     ghost faults = { λ s. s.faults };
 
-    fn write(&mut self, piece: &[u8]) -> Result<usize, Failed> {
+    fn write(&mut self, piece: &[u8]) -> Result<usize, Failed>
+        ensures bound { WritesAtMost result piece.now }
+        ensures bytes { WriteAppends (Some self.old.bytes.items) (Some self.new.bytes.items) result piece.now }
+        ensures cause { OnErr result (Rose self.old.faults self.new.faults) }
+        ensures stuck { IfOk result (λ n. n ≡ 0 → 0 < length piece.now → Rose self.old.faults self.new.faults) }
+        ensures later { NeverFalls self.old.faults self.new.faults }
+
+        // It takes as much as it may, and fails where it is to fail.
+        ensures taken { IfOk result (λ n. n ≡ min (length piece.now) (most_of self.old)) }
+        ensures named { Contains (fails_of self.old) (writes_of self.old) → IsErr result }
+        ensures kept { (most_of self.new ≡ most_of self.old) × (fails_of self.new ≡ fails_of self.old) }
+        ensures counted { writes_of self.new ≡ min (writes_of self.old + 1) (2 ^ 32 - 1) }
+    {
         let call = self.writes;
         self.writes = call.saturating_add(1);
         if self.fails.contains(&call) {

@@ -4,7 +4,8 @@ ghost use Rattle.std.specs.Io.Cursor.{cursor_inner, cursor_position};
 use crate::{Failed, Source};
 use std::io::{Cursor, Read};
 
-/// A source in memory, which tells its bytes and fails at the reads that it was made to fail at.
+/// A file of `MemFiles` that was opened. It tells its bytes, and fails at the reads that it was made
+/// to fail at.
 #[derive(Debug, Drop)]
 pub struct MemSource {
     bytes: Cursor<Vec<u8>>,
@@ -14,8 +15,8 @@ pub struct MemSource {
 }
 
 impl MemSource {
-    /// A source of these bytes. Each read fails whose number, from 0, stands in `fails`.
-    pub fn new(bytes: Vec<u8>, fails: Vec<u32>) -> MemSource
+    // A source of these bytes. Each read fails whose number, from 0, stands in `fails`.
+    pub(crate) fn new(bytes: Vec<u8>, fails: Vec<u32>) -> MemSource
         ensures bytes { ⟦<MemSource as Source>⟧.left result ≡ Some bytes.items }
         ensures faults { ⟦<MemSource as Source>⟧.faults result ≡ 0 }
     {

@@ -1,5 +1,5 @@
 -- what was read is what the source no longer has left
-use Rattle.std.proofs.Common.{◌≡◌, ◌+◌, ◌-◌, ◌≤◌, length}
+use Rattle.std.proofs.Common.{◌+◌, ◌-◌, ◌≤◌, length}
 use Rattle.std.specs.Io.KnownBytes.{Consumes}
 use Rattle.nim_io.specs.Counts.{NeverFalls}
 use Rattle.nim_io.proofs.load.drain.Given as goal

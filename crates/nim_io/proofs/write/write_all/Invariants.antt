@@ -1,5 +1,5 @@
 -- what stands before the place is written
-use Rattle.std.proofs.Common.{◌≡◌, ◌-◌, ◌≤◌, length, take}
+use Rattle.std.proofs.Common.{◌-◌, ◌≤◌, length, take}
 use Rattle.std.specs.Io.KnownBytes.{Appends}
 use Rattle.nim_io.specs.Counts.{NeverFalls}
 use Rattle.nim_io.proofs.write.write_all.Given as goal
