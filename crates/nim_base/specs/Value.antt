@@ -1,5 +1,6 @@
 -- A value as every layer sees it: its width and its rows. A cell that isn't there is 0.
-use Rattle.std.specs.Prelude.{◌≡◌, ℕ, ◌-◌, ◌^◌, ◌<◌, ◌≤◌, zero, suc, ℤ, pos, List, [], ◌∷◌, ◌++◌, length, take, drop, map, replicate, slice_index_or, All}
+use Rattle.std.specs.Prelude.{◌≡◌, ℕ, ◌-◌, ◌*◌, ◌^◌, ◌<◌, ◌≤◌, zero, suc, ℤ, pos, List, [], ◌∷◌, ◌++◌, length, take, drop, map, replicate, slice_index_or, All}
+use Rattle.std.specs.Int.{int_wrapping_add, w64}
 use Rattle.std.specs.List.{flat_map}
 use Rattle.nim_base.specs.declared.number.Shape.{Shape}
 
@@ -41,3 +42,12 @@ fit_row width row = take width row ++ replicate (width - length row) (pos 0)
 -- at most the shape's rows, each cut or padded with 0 to the shape's width
 abbrev pub fitted : Grid → Shape → Grid
 fitted grid shape = record { width = shape.width; rows = map (fit_row shape.width) (take shape.rows grid.rows) }
+
+-- so many numbers, each 1 more than the one before; a sum wraps
+abbrev pub counted : ℕ → ℤ → List ℤ
+counted zero first = []
+counted (suc n) first = first ∷ counted n (int_wrapping_add w64 first (pos 1))
+
+-- as many rows as the shape has, whose cells count up from the first, row by row
+abbrev pub iota_of : Shape → ℤ → Grid
+iota_of shape first = record { width = shape.width; rows = rows_of shape.rows shape.width (counted (shape.rows * shape.width) first) }

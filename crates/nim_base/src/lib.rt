@@ -1,12 +1,15 @@
 //! What every layer speaks of: numbers, values, tasks, and the small lists and names that they hold.
 #![tactic(auto)]
 
+mod counting;
 mod fitting;
 mod memory;
 mod name;
 mod number;
 mod seq;
 mod task;
+#[cfg(test)]
+mod tests;
 mod text;
 mod value;
 
