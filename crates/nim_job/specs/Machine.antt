@@ -71,6 +71,14 @@ takes_cell (Some Asked.Get) = true
 takes_cell (Some Asked.Checkpoint) = true
 takes_cell _ = false
 
+-- which kind of answer an ask wants
+abbrev pub asked_by : Ask → Option Asked
+asked_by (Ask.Run block args) = Some Asked.Run
+asked_by (Ask.Get object row cell) = Some Asked.Get
+asked_by Ask.Checkpoint = Some Asked.Checkpoint
+asked_by (Ask.Output var) = Some Asked.Output
+asked_by _ = None
+
 -- no more is counted than the most that are, and no more is printed than may be
 pub record IsWithin (m : Machine) : Type 0 where
   pub counted : m.driver.count ≤ m.steps

@@ -3,7 +3,7 @@ ghost use Rattle.nim_job.specs.declared.ask.Asked.{Asked as asked_kind};
 ghost use Rattle.nim_job.specs.declared.stmt.Stmt.{out-Stmt};
 ghost use Rattle.nim_job.specs.Driver.{atom_of};
 ghost use Rattle.nim_job.specs.Machine as spec;
-ghost use Rattle.nim_job.specs.Machine.{after_ask, answered, appended, ask_of, IsWithin, start_machine, takes_cell};
+ghost use Rattle.nim_job.specs.Machine.{after_ask, answered, appended, ask_of, asked_by, IsWithin, start_machine, takes_cell};
 ghost use Rattle.nim_job.specs.Whole.{is_whole};
 
 use crate::copies::copy_stmts;
@@ -127,6 +127,7 @@ impl DriverMachine {
     pub fn next(&mut self) -> Result<Ask, NoMemory>
         requires answered { self.old.asked ≡ None }
         ensures ask { IfOk result (λ ask. ask ≡ ask_of self.old) }
+        ensures asked { IfOk result (λ ask. self.new.asked ≡ asked_by ask) }
         ensures ok { OnOk result (self.new ≡ after_ask self.old) }
         ensures err { OnErr result (self.new ≡ self.old) }
     {
@@ -153,7 +154,7 @@ impl DriverMachine {
         requires asked { IsTrue (takes_cell self.old.asked) }
         ensures { self.new ≡ answered self.old }
     {
-        self.asked = None;
+        self.asked = None; // no statement uses the cell yet
     }
 
     /// Ends an output: the text is printed. Where more than 16,777,216 bytes would be printed none is, and each later
