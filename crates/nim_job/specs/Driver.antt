@@ -1,7 +1,7 @@
 -- Where a driver stands, apart from what the objects hold.
-use Rattle.std.specs.Prelude.{◌≡◌, ℕ, ◌+◌, ℤ, pos, List, [], ◌∷◌, ◌++◌, map, slice_index_or}
+use Rattle.std.specs.Prelude.{ℕ, ◌+◌, ℤ, pos, List, [], map, slice_index_or}
 use Rattle.nim_job.specs.declared.item.Item.{Item}
-use Rattle.nim_job.specs.declared.item.Item.TheVariants.{Run, Again}
+use Rattle.nim_job.specs.declared.item.Item.TheVariants.{Run}
 use Rattle.nim_job.specs.declared.job.Job.{Job}
 use Rattle.nim_job.specs.declared.stmt.Atom.{Atom}
 use Rattle.nim_job.specs.declared.stmt.Atom.TheVariants.{Const, Scalar}

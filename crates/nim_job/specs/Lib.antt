@@ -1,4 +1,5 @@
 pub mod Driver
+pub mod Follows
 pub mod Machine
 pub mod Objects
 pub mod Serial

@@ -1,5 +1,5 @@
 -- The machine that takes a driver's statements in order: what it asks, and where it stands then.
-use Rattle.std.specs.Prelude.{ℕ, ◌+◌, ℤ, Bool, true, false, nat_le, Option, None, Some, List, [], ◌∷◌, ◌++◌, length, map, if◌then◌else◌}
+use Rattle.std.specs.Prelude.{ℕ, ◌≤◌, ◌+◌, ℤ, Bool, true, false, nat_le, Option, None, Some, List, [], ◌∷◌, ◌++◌, length, map, if◌then◌else◌}
 use Rattle.nim_job.specs.declared.ask.Ask.{Ask}
 use Rattle.nim_job.specs.declared.ask.Asked.{Asked}
 use Rattle.nim_job.specs.declared.item.Item.{Item}
@@ -8,6 +8,7 @@ use Rattle.nim_job.specs.declared.job.Job.{Job}
 use Rattle.nim_job.specs.declared.stmt.Stmt.{Stmt, out-Stmt}
 use Rattle.nim_job.specs.declared.stmt.Stmt.TheOpen.{Stmt-F}
 use Rattle.nim_job.specs.Driver.{Driver, start_driver, atom_of, output_limit, passed}
+use Rattle.nim_job.specs.Step.{State}
 
 -- the most statements that are counted, where the driver stands, which kind of ask isn't answered, and whether
 -- too much was printed
@@ -62,3 +63,27 @@ appended m text =
     if nat_le (length m.driver.output + length text) output_limit
     then record m { driver = record m.driver { output = m.driver.output ++ text }; asked = None }
     else record m { asked = None; full = true }
+
+-- whether an ask is one that a cell or nothing answers, and not a text
+abbrev pub takes_cell : Option Asked → Bool
+takes_cell (Some Asked.Run) = true
+takes_cell (Some Asked.Get) = true
+takes_cell (Some Asked.Checkpoint) = true
+takes_cell _ = false
+
+-- which kind of answer an ask wants
+abbrev pub asked_by : Ask → Option Asked
+asked_by (Ask.Run block args) = Some Asked.Run
+asked_by (Ask.Get object row cell) = Some Asked.Get
+asked_by Ask.Checkpoint = Some Asked.Checkpoint
+asked_by (Ask.Output var) = Some Asked.Output
+asked_by _ = None
+
+-- no more is counted than the most that are, and no more is printed than may be
+pub record IsWithin (m : Machine) : Type 0 where
+  pub counted : m.driver.count ≤ m.steps
+  pub printed : length m.driver.output ≤ output_limit
+
+-- the machine of a job where it has asked nothing yet and stands at a state's driver
+abbrev pub machine_at : Job → State → Machine
+machine_at job state = record { steps = job.steps; driver = state.driver; asked = None; full = false }

@@ -1,5 +1,5 @@
 -- Variables as objects: one a part, numbered in order of declaration and then of part.
-use Rattle.std.specs.Prelude.{ℕ, ◌+◌, ℤ, List, [], ◌∷◌, ◌++◌, take, drop, replicate, slice_get, slice_index_or}
+use Rattle.std.specs.Prelude.{ℕ, List, [], take, drop, replicate, slice_get, slice_index_or}
 use Rattle.std.specs.List.{flat_map, sum_by}
 use Rattle.std.specs.Option.{option_map_or}
 use Rattle.nim_base.specs.declared.number.Object.{Object}
@@ -8,7 +8,6 @@ use Rattle.nim_base.specs.Value.{Grid, empty_grid, filled}
 use Rattle.nim_job.specs.declared.job.Init.{Init}
 use Rattle.nim_job.specs.declared.job.Init.TheVariants.{Fill, Iota, Loaded}
 use Rattle.nim_job.specs.declared.job.Var.{Var}
-use Rattle.nim_job.specs.declared.job.Job.{Job}
 
 -- how many parts a variable has; there is none past the last
 abbrev pub parts_of : List Var → ℕ → ℕ

@@ -1,5 +1,5 @@
 -- The tasks of a block: those of its stages in order.
-use Rattle.std.specs.Prelude.{ℕ, ◌+◌, ◌-◌, ◌%◌, ℤ, pos, List, [], ◌∷◌, map, if◌then◌else◌, slice_get, slice_index_or}
+use Rattle.std.specs.Prelude.{ℕ, ◌+◌, ◌-◌, ◌%◌, ℤ, pos, List, [], map, if◌then◌else◌, slice_get, slice_index_or}
 use Rattle.std.specs.List.{flat_map, range_with_len}
 use Rattle.std.specs.Option.{option_map_or}
 use Rattle.nim_base.specs.declared.number.Object.{Object}
@@ -11,7 +11,6 @@ use Rattle.nim_job.specs.declared.block.Place.{Place}
 use Rattle.nim_job.specs.declared.block.Place.TheVariants.{Fixed, Plus, Minus}
 use Rattle.nim_job.specs.declared.block.Ref.{Ref}
 use Rattle.nim_job.specs.declared.block.Stage.{Stage}
-use Rattle.nim_job.specs.declared.block.Block.{Block}
 use Rattle.nim_job.specs.declared.job.Var.{Var}
 use Rattle.nim_job.specs.declared.job.Job.{Job}
 use Rattle.nim_job.specs.Objects.{parts_of, first_object}
@@ -50,6 +49,10 @@ forms_of vars stages = flat_map (stage_forms vars) stages
 -- the stages of a block; there are none past the last block
 abbrev pub stages_of : Job → ℕ → List Stage
 stages_of job block = option_map_or (λ b. b.stages) (slice_get job.blocks block) []
+
+-- how many arguments a block takes
+abbrev pub takes_of : Job → ℕ → ℕ
+takes_of job block = option_map_or (λ b. b.args) (slice_get job.blocks block) 0
 
 -- a parameter with the arguments put in
 abbrev pub param_of : List ℤ → Param → ℤ

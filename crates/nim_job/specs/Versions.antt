@@ -1,5 +1,5 @@
 -- Which content of an object a task reads.
-use Rattle.std.specs.Prelude.{◌≡◌, ℕ, ◌+◌, ◌<◌, ◌==◌, zero, suc, Bool, true, false, List, [], ◌∷◌, take, slice_get, if◌then◌else◌, IfSome, Contains}
+use Rattle.std.specs.Prelude.{◌≡◌, ℕ, ◌+◌, ◌≤◌, ◌==◌, zero, suc, Bool, false, List, take, slice_get, if◌then◌else◌}
 use Rattle.std.specs.List.{list_any}
 use Rattle.std.specs.Option.{option_map_or}
 use Rattle.nim_base.specs.declared.number.Object.{Object}
@@ -7,7 +7,7 @@ use Rattle.nim_base.specs.declared.task.Task.{Task}
 use Rattle.nim_base.specs.Value.{Grid}
 use Rattle.nim_job.specs.declared.job.Job.{Job}
 use Rattle.nim_job.specs.Objects.{initial_values, shapes_of, value_at}
-use Rattle.nim_job.specs.Serial.{tasks_of}
+use Rattle.nim_job.specs.Serial.{driver_at, tasks_of}
 use Rattle.nim_job.specs.Step.{after_tasks}
 
 -- whether a task writes the object
@@ -35,3 +35,7 @@ version_value job object v = value_at (values_after job v) object
 -- Each object that each task reads holds, right before the task, the content of the version that it reads.
 abbrev pub ReadsVersions : Job → Type 0
 ReadsVersions job = (k : ℕ) (object : Object) → value_at (values_after job k) object ≡ version_value job object (read_version job k object)
+
+-- After each step the objects hold what the first so many tasks leave, as many as ran.
+abbrev pub KeepsVersions : Job → Type 0
+KeepsVersions job = (n : ℕ) → n ≤ job.steps → (driver_at job n).values ≡ values_after job (driver_at job n).position

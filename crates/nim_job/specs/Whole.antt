@@ -1,19 +1,21 @@
 -- When a job is whole: what its calls need of the tree, rule by rule. Functions and statements that aren't there
 -- yet have no case, so a job with one of them isn't whole.
-use Rattle.std.specs.Prelude.{ℕ, ◌+◌, ◌*◌, ◌^◌, ◌==◌, Bool, true, false, ◌&&◌, nat_lt, nat_le, List, length, map, slice_get}
+use Rattle.std.specs.Prelude.{ℕ, ◌*◌, ◌^◌, ◌==◌, Bool, true, false, ◌&&◌, nat_lt, nat_le, List, length, slice_get}
 use Rattle.std.specs.List.{list_all, sum_by}
 use Rattle.std.specs.Option.{option_map_or}
+use Rattle.nim_base.specs.declared.number.Object.{Object}
 use Rattle.nim_base.specs.declared.task.Func.{Func}
 use Rattle.nim_base.specs.declared.task.Func.TheVariants.{Addc}
 use Rattle.nim_base.specs.declared.task.Param.{Param}
 use Rattle.nim_base.specs.declared.task.Param.TheVariants.{Const, Arg}
+use Rattle.nim_base.specs.declared.task.Task.{Task}
 use Rattle.nim_job.specs.declared.block.Place.{Place}
 use Rattle.nim_job.specs.declared.block.Place.TheVariants.{Fixed, Plus, Minus}
 use Rattle.nim_job.specs.declared.block.Ref.{Ref}
 use Rattle.nim_job.specs.declared.block.Stage.{Stage}
 use Rattle.nim_job.specs.declared.block.Block.{Block}
 use Rattle.nim_job.specs.declared.job.Init.{Init}
-use Rattle.nim_job.specs.declared.job.Init.TheVariants.{Fill, Iota, Loaded}
+use Rattle.nim_job.specs.declared.job.Init.TheVariants.{Fill}
 use Rattle.nim_job.specs.declared.job.Var.{Var}
 use Rattle.nim_job.specs.declared.job.Job.{Job}
 use Rattle.nim_job.specs.declared.stmt.Stmt.{Stmt, out-Stmt}
@@ -62,6 +64,10 @@ abbrev pub is_param : ℕ → Param → Bool
 is_param args (Const number) = true
 is_param args (Arg a) = nat_lt a args
 
+-- whether what a stage reads and writes are variables that are there, at numbers that are small enough
+abbrev pub has_refs : List Var → Stage → Bool
+has_refs vars stage = list_all (is_ref vars true) stage.reads && list_all (is_ref vars true) stage.writes
+
 abbrev pub is_stage : List Var → ℕ → Stage → Bool
 is_stage vars args stage = has_counts stage.func (length stage.params) (length stage.reads) (length stage.writes)
     && list_all (is_param args) stage.params && list_all (is_ref vars stage.each) stage.reads && list_all (is_ref vars stage.each) stage.writes
@@ -83,3 +89,12 @@ is_stmt job stmt = is_stmt_out job (out-Stmt stmt)
 abbrev pub is_whole : Job → Bool
 is_whole job = is_between 1 1000000 job.steps && are_vars job.vars && nat_le (length job.blocks) 32
     && list_all (is_block job.vars) job.blocks && list_all (is_stmt job) job.body
+
+-- whether the object is one of so many
+abbrev pub is_object : ℕ → Object → Bool
+is_object objects object = nat_lt object.0 objects
+
+-- whether a task's counts are its function's, and what it reads and writes are of so many objects
+abbrev pub is_task : ℕ → Task → Bool
+is_task objects task = has_counts task.func (length task.params) (length task.reads) (length task.writes)
+    && list_all (is_object objects) task.reads && list_all (is_object objects) task.writes

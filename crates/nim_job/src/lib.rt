@@ -4,12 +4,24 @@
 
 mod ask;
 mod block;
+mod copies;
+mod driver;
+mod forms;
 mod item;
 mod job;
+mod laws;
+mod layout;
+mod objects;
 mod stmt;
+mod tasks;
 
 pub use ask::{Ask, Asked};
 pub use block::{Block, Place, Ref, Stage};
+pub use driver::DriverMachine;
+pub use forms::block_forms;
 pub use item::Item;
 pub use job::{Init, Job, Var};
+pub use laws::{machine_follows, versions_are_read};
+pub use objects::shapes;
 pub use stmt::{Arith, Atom, Cmp, Cond, Stmt};
+pub use tasks::block_tasks;

@@ -1,0 +1,5 @@
+pub mod Asks
+pub mod Lists
+pub mod Whole
+pub mod Versions
+pub mod Follows

@@ -1,0 +1,63 @@
+-- Lists taken one more item at a time, and tests of all their items.
+use Rattle.std.proofs.Common.{◌≡◌, ℕ, ◌+◌, ◌<◌, zero, suc, Bool, true, List, [], ◌∷◌, ◌++◌, length, take, map, get_or, refl, ap, ap₂, sym, subst, ◌∙◌}
+use Rattle.std.specs.Prelude.{slice_get}
+use Rattle.std.specs.List.{flat_map, list_all, range_with_len}
+use Rattle.std.specs.Option.{option_to_list}
+use Rattle.std.proofs.Common.{arith}
+use Rattle.std.proofs.lemmas.Grind.{common_steps}
+use Rattle.std.proofs.lemmas.Bool.{and_parts, and_from}
+use Rattle.std.proofs.lemmas.List.{append-nil, append_assoc, map_push, take_more}
+use Rattle.std.proofs.lemmas.List.Concat.{flat_map-append}
+use Rattle.std.proofs.lemmas.List.FromFn.{map-range_with_len_more}
+use Rattle.std.proofs.lemmas.List.Folds.{list_all-append}
+use Rattle.std.proofs.lemmas.List.Sums.{AllPass-from_list_all}
+
+pub flat_map_step : {X A : Type 0} (f : X → List A) (xs : List X) (i : ℕ) (x : X) → i < length xs → x ≡ get_or xs i x → flat_map f (take (i + 1) xs) ≡ flat_map f (take i xs) ++ f x
+flat_map_step {X} f xs i x within is =
+    ap (flat_map f) (take_more xs i x within ∙ ap (λ (y : X). take i xs ++ y ∷ []) (sym is))
+    ∙ flat_map-append f (take i xs) (x ∷ []) ∙ ap (λ ys. flat_map f (take i xs) ++ ys) (append-nil (f x))
+
+pub map_step : {X A : Type 0} (f : X → A) (xs : List X) (i : ℕ) (x : X) → i < length xs → x ≡ get_or xs i x → map f (take (i + 1) xs) ≡ map f (take i xs) ++ f x ∷ []
+map_step f xs i x within is = grind (arith, common_steps)
+
+pub list_all_item : {X : Type 0} (p : X → Bool) (xs : List X) (i : ℕ) (x : X) → list_all p xs ≡ true → i < length xs → x ≡ get_or xs i x → p x ≡ true
+list_all_item {X} p xs i x all within is = subst (λ (y : X). p y ≡ true) (sym is) (AllPass-from_list_all p xs all i x within)
+
+pub list_all_weaker : {X : Type 0} (p q : X → Bool) → ((x : X) → p x ≡ true → q x ≡ true) → (xs : List X) → list_all p xs ≡ true → list_all q xs ≡ true
+list_all_weaker p q weaker [] all = refl
+list_all_weaker p q weaker (x ∷ xs) all =
+    let parts = and_parts (p x) (list_all p xs) all in
+    and_from (q x) (list_all q xs) (weaker x parts.0) (list_all_weaker p q weaker xs parts.1)
+
+pub list_all_always : {X : Type 0} (p : X → Bool) → ((x : X) → p x ≡ true) → (xs : List X) → list_all p xs ≡ true
+list_all_always p always [] = refl
+list_all_always p always (x ∷ xs) = and_from (p x) (list_all p xs) (always x) (list_all_always p always xs)
+
+pub list_all-flat_map : {X A : Type 0} (p : A → Bool) (f : X → List A) (q : X → Bool) → ((x : X) → q x ≡ true → list_all p (f x) ≡ true) → (xs : List X) → list_all q xs ≡ true → list_all p (flat_map f xs) ≡ true
+list_all-flat_map p f q each [] all = refl
+list_all-flat_map p f q each (x ∷ xs) all =
+    let parts = and_parts (q x) (list_all q xs) all in
+    list_all-append p (f x) (flat_map f xs)
+    ∙ and_from (list_all p (f x)) (list_all p (flat_map f xs)) (each x parts.0) (list_all-flat_map p f q each xs parts.1)
+
+-- one more item is taken, where there is one
+pub take_next : {X : Type 0} (xs : List X) (k : ℕ) → take (suc k) xs ≡ take k xs ++ option_to_list (slice_get xs k)
+take_next [] zero = refl
+take_next [] (suc k) = refl
+take_next (x ∷ xs) zero = refl
+take_next (x ∷ xs) (suc k) = ap (λ rest. x ∷ rest) (take_next xs k)
+
+-- one more item of a function of the numbers from 0 is pushed
+pub pushed : {A : Type 0} (f : ℕ → A) (old now next : List A) (item : A) (turn : ℕ) → next ≡ now ++ item ∷ [] → now ≡ old ++ map f (range_with_len 0 turn)
+    → item ≡ f turn → next ≡ old ++ map f (range_with_len 0 (turn + 1))
+pushed {A} f old now next item turn push before is =
+    push ∙ ap₂ (λ (xs : List A) (x : A). xs ++ x ∷ []) before is ∙ append_assoc old (map f (range_with_len 0 turn)) (f turn ∷ [])
+    ∙ ap (λ (xs : List A). old ++ xs) (sym (map-range_with_len_more f 0 turn turn (omega arith)))
+
+-- the same, of a function of these
+pub pushed_again : {A B : Type 0} (g : A → B) (f : ℕ → A) (old now next : List B) (item : B) (turn : ℕ) → next ≡ now ++ item ∷ []
+    → now ≡ old ++ map g (map f (range_with_len 0 turn)) → item ≡ g (f turn) → next ≡ old ++ map g (map f (range_with_len 0 (turn + 1)))
+pushed_again {A} {B} g f old now next item turn push before is =
+    push ∙ ap₂ (λ (xs : List B) (x : B). xs ++ x ∷ []) before is ∙ append_assoc old (map g (map f (range_with_len 0 turn))) (g (f turn) ∷ [])
+    ∙ ap (λ (xs : List B). old ++ xs)
+    (sym (ap (map g) (map-range_with_len_more f 0 turn turn (omega arith)) ∙ map_push g (map f (range_with_len 0 turn)) (f turn)))
