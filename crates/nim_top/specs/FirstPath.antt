@@ -1,6 +1,6 @@
 -- The drivers that are read so far: variables, one block, its instances, and one output.
-use Rattle.std.specs.Prelude.{ℕ, ◌+◌, ◌-◌, ◌*◌, ◌==◌, Bool, true, false, not, ◌&&◌, ◌||◌, nat_le, ℤ, Option, None, Some, List, [], ◌∷◌, ◌++◌, length, take, drop, map, replicate, codes, if◌then◌else◌, slice_index, slice_index_or}
-use Rattle.std.specs.List.{list_all, list_any, position, prefix_len, sum_by}
+use Rattle.std.specs.Prelude.{ℕ, ◌+◌, ◌-◌, ◌*◌, ◌==◌, Bool, true, false, not, ◌&&◌, ◌||◌, nat_le, ℤ, Option, None, Some, List, [], ◌∷◌, ◌++◌, length, take, drop, map, replicate, codes, if◌then◌else◌, slice_index, slice_index_or, slice_range}
+use Rattle.std.specs.List.{list_all, list_any, position_from, prefix_len, sum_by}
 use Rattle.std.specs.Str.{bytes_eq}
 use Rattle.std.specs.Option.{option_and_then, option_map}
 use Rattle.nim_base.specs.declared.number.Shape.{Shape}
@@ -16,6 +16,7 @@ use Rattle.nim_job.specs.declared.job.Job.{Job}
 use Rattle.nim_job.specs.declared.job.Var.{Var}
 use Rattle.nim_job.specs.declared.stmt.Stmt.{Stmt, Do, Output}
 use Rattle.nim_job.specs.Whole.{cells_in, is_whole}
+use Rattle.nim_top.specs.declared.first_path.layout.Layout.{Layout}
 use Rattle.nim_top.specs.Lines.{Line, lines_of, word_at, has_form, is_letter, name_of, number_of, int_of}
 
 -- f of each item, where each has one
@@ -47,7 +48,7 @@ letter_of v = slice_index v.name 0
 
 -- the number of the variable with this letter
 abbrev pub number_in : List Var → ℕ → Option ℕ
-number_in vars letter = position (λ v. letter_of v == letter) vars
+number_in vars letter = position_from (λ v. letter_of v == letter) 0 vars
 
 -- what stands between the brackets of a reference: i, or a number
 abbrev pub place_of : List ℕ → Option Place
@@ -60,7 +61,7 @@ ref_from _ _ = None
 -- X[N] or X[i]
 abbrev pub ref_of : List Var → List ℕ → Option Ref
 ref_of vars word = if nat_le 3 (length word) && slice_index word 1 == 91 && slice_index word (length word - 1) == 93
-    then ref_from (number_in vars (slice_index word 0)) (place_of (take (length word - 3) (drop 2 word)))
+    then ref_from (number_in vars (slice_index word 0)) (place_of (slice_range word 2 (length word - 1)))
     else None
 
 -- addc REF -> REF with C, and the same with each i
@@ -84,14 +85,16 @@ stage_of vars line = if has_form line stage_form || has_form line each_form
 abbrev pub call_of : ℕ → List ℕ
 call_of letter = letter ∷ 40 ∷ 41 ∷ []
 
+-- the letter of a word X()
+abbrev pub callee_of : List ℕ → Option ℕ
+callee_of word = if is_letter (slice_index word 0) && bytes_eq word (call_of (slice_index word 0)) then Some (slice_index word 0) else None
+
 -- block X(): the letter
 abbrev pub block_form : Line
 block_form = codes "block" ∷ [] ∷ []
 
 abbrev pub block_letter : Line → Option ℕ
-block_letter line = if has_form line block_form && bytes_eq (word_at line 1) (call_of (slice_index (word_at line 1) 0)) && is_letter (slice_index (word_at line 1) 0)
-    then Some (slice_index (word_at line 1) 0)
-    else None
+block_letter line = if has_form line block_form then callee_of (word_at line 1) else None
 
 -- do X(), for the block
 abbrev pub do_form : ℕ → Line
@@ -138,11 +141,6 @@ abbrev pub line_at : List Line → ℕ → Line
 line_at lines k = slice_index_or lines k []
 
 -- Behind the first line come variables, the block's head, stages, `end`, instances, the output, and the end of the text.
-pub record Layout : Type 0 where
-  pub vars : ℕ
-  pub stages : ℕ
-  pub dos : ℕ
-
 abbrev pub layout_of : List Line → Layout
 layout_of lines =
     let vars : ℕ = count_front (codes "var") (drop 1 lines) in
@@ -163,8 +161,9 @@ block_job lines at vars letter =
     then job_from vars letter at.dos (all_of (stage_of vars) (take at.stages (drop (2 + at.vars) lines))) (output_var vars (line_at lines (3 + at.vars + at.stages + at.dos)))
     else None
 
+-- at most 32 variables
 abbrev pub vars_job : List Line → Layout → List Var → Option Job
-vars_job lines at vars = option_and_then (block_job lines at vars) (block_letter (line_at lines (1 + at.vars)))
+vars_job lines at vars = if nat_le (length vars) 32 then option_and_then (block_job lines at vars) (block_letter (line_at lines (1 + at.vars))) else None
 
 abbrev pub driver_job : List Line → Layout → Option Job
 driver_job lines at = if is_laid_out lines at then option_and_then (vars_job lines at) (all_of var_of (take at.vars (drop 1 lines))) else None

@@ -1,5 +1,6 @@
-ghost use Rattle.std.specs.Prelude.{◌≡◌, map, IfOk};
-ghost use Rattle.nim_top.specs.Lines.{has_form, lines_of, word_at, words_of};
+ghost use Rattle.std.specs.Prelude.{◌≡◌, ◌==◌, map, IfOk};
+ghost use Rattle.std.specs.List.{slice_split};
+ghost use Rattle.nim_top.specs.Lines.{fits, has_form, lines_of, word_at, words_of};
 
 use nim_base::NoMemory;
 use std::alloc::Global;
@@ -23,7 +24,7 @@ impl<'a> Line<'a> {
     fn cut(alloc: Global, text: &'a [u8]) -> Result<Line<'a>, NoMemory>
         ensures { IfOk result (λ line. line ≡ words_of text.now) }
     {
-        let words = text.split(|b| *b == b' ').collect(alloc)?;
+        let words = pieces(alloc, text, b' ')?;
         Ok(Line { words })
     }
 
@@ -42,25 +43,46 @@ impl<'a> Line<'a> {
     pub fn has_form(&self, form: &[&[u8]]) -> bool
         ensures { result ≡ has_form self.now (map (λ word. word.now) form.now) }
     {
-        if self.words.len() != form.len() {
+        have_form(self.words.as_slice(), form)
+    }
+}
+
+fn fits(word: &[u8], expected: &[u8]) -> bool
+    ensures { result ≡ fits word.now expected.now }
+{
+    expected.is_empty() || *word == *expected
+}
+
+fn have_form(words: &[&[u8]], form: &[&[u8]]) -> bool
+    ensures { result ≡ has_form (map (λ word. word.now) words.now) (map (λ word. word.now) form.now) }
+{
+    if words.len() != form.len() {
+        return false;
+    }
+    for at in 0..form.len() {
+        if !fits(words[at], form[at]) {
             return false;
         }
-        for (word, expected) in self.words.iter().zip(form) {
-            if !expected.is_empty() && *word != *expected {
-                return false;
-            }
-        }
-        true
     }
+    true
+}
+
+/// The pieces of a text between bytes that equal the mark.
+fn pieces<'a>(alloc: Global, text: &'a [u8], mark: u8) -> Result<Vec<&'a [u8]>, NoMemory>
+    ensures { IfOk result (λ pieces. map (λ piece. piece.now) pieces.items ≡ slice_split (λ b. b == mark) text.now) }
+{
+    let pieces = text.split(|b| *b == mark).collect(alloc)?;
+    Ok(pieces)
 }
 
 /// The lines of a text; behind its last newline stands an empty one.
 pub fn lines<'a>(alloc: Global, text: &'a [u8]) -> Result<Vec<Line<'a>>, NoMemory>
     ensures { IfOk result (λ lines. lines.items ≡ lines_of text.now) }
 {
+    let pieces = pieces(alloc, text, b'\n')?;
     let mut lines = Vec::new(alloc);
-    for piece in text.split(|b| *b == b'\n') {
-        lines.push(Line::cut(alloc, piece)?)?;
+    for piece in &pieces {
+        lines.push(Line::cut(alloc, *piece)?)?;
     }
     Ok(lines)
 }
