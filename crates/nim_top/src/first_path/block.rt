@@ -1,8 +1,8 @@
-ghost use Rattle.std.specs.Prelude.{◌≡◌, ◌≤◌, length, IfOk, [], ◌∷◌};
+ghost use Rattle.std.specs.Prelude.{◌≡◌, ◌≤◌, ◌<◌, length, IfOk, IfSome, [], ◌∷◌};
 ghost use Rattle.std.specs.List.{list_all};
 ghost use Rattle.std.specs.Option.{option_map};
 ghost use Rattle.nim_top.specs.Lines.{has_form};
-ghost use Rattle.nim_top.specs.FirstPath.{all_of, block_letter, callee_of, do_form, output_var, place_of, ref_of, stage_of};
+ghost use Rattle.nim_top.specs.FirstPath.{all_of, block_letter, callee_of, do_form, output_var, place_of, ref_of, stage_of, stage_with};
 ghost use Rattle.nim_base.specs.declared.task.Func.TheVariants.{Addc};
 ghost use Rattle.nim_base.specs.declared.task.Param.TheVariants.{Const};
 
@@ -14,7 +14,8 @@ use nim_job::{Place, Ref, Stage, Var};
 use std::alloc::Global;
 
 fn callee(word: &[u8]) -> Option<u8>
-    ensures { result ≡ callee_of word.now }
+    ensures value { result ≡ callee_of word.now }
+    ensures ascii { IfSome result (λ letter. letter < 128) }
 {
     if word.is_empty() {
         return None;
@@ -29,7 +30,8 @@ fn callee(word: &[u8]) -> Option<u8>
 
 /// The letter of the block whose head this line is.
 pub fn block_letter(line: &Line) -> Option<u8>
-    ensures { result ≡ block_letter line.now }
+    ensures value { result ≡ block_letter line.now }
+    ensures ascii { IfSome result (λ letter. letter < 128) }
 {
     if line.has_form(&[b"block", b""]) {
         callee(line.word(1))
@@ -96,14 +98,11 @@ fn addc(alloc: Global, each: bool, read: Ref, written: Ref, number: i64) -> Resu
     })
 }
 
-fn stage(alloc: Global, vars: &[Var], line: &Line) -> Result<Option<Stage>, NoMemory>
+#[tactic(auto, unfolding(crate::specs::FirstPath::stage_with))]
+fn stage_with(alloc: Global, vars: &[Var], line: &Line, each: bool) -> Result<Option<Stage>, NoMemory>
     requires { length vars.now ≤ 256 }
-    ensures { IfOk result (λ stage. stage ≡ stage_of vars.now line.now) }
+    ensures { IfOk result (λ stage. stage ≡ stage_with vars.now line.now each) }
 {
-    let each = line.has_form(&[b"addc", b"", b"->", b"", b"with", b"", b"each", b"i"]);
-    if !each && !line.has_form(&[b"addc", b"", b"->", b"", b"with", b""]) {
-        return Ok(None);
-    }
     let Some(read) = reference(vars, line.word(1)) else {
         return Ok(None);
     };
@@ -114,6 +113,19 @@ fn stage(alloc: Global, vars: &[Var], line: &Line) -> Result<Option<Stage>, NoMe
         return Ok(None);
     };
     Ok(Some(addc(alloc, each, read, written, number)?))
+}
+
+fn stage(alloc: Global, vars: &[Var], line: &Line) -> Result<Option<Stage>, NoMemory>
+    requires { length vars.now ≤ 256 }
+    ensures { IfOk result (λ stage. stage ≡ stage_of vars.now line.now) }
+{
+    if line.has_form(&[b"addc", b"", b"->", b"", b"with", b"", b"each", b"i"]) {
+        return stage_with(alloc, vars, line, true);
+    }
+    if line.has_form(&[b"addc", b"", b"->", b"", b"with", b""]) {
+        return stage_with(alloc, vars, line, false);
+    }
+    Ok(None)
 }
 
 /// The stages of these lines, where each line is one.

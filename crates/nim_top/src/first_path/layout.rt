@@ -1,4 +1,4 @@
-ghost use Rattle.std.specs.Prelude.{◌≡◌, ◌+◌, ◌≤◌, drop, length};
+ghost use Rattle.std.specs.Prelude.{◌≡◌, ◌+◌, ◌≤◌, drop, length, IsTrue};
 ghost use Rattle.nim_top.specs.FirstPath.{count_front, is_laid_out, layout_of};
 
 use super::line::Line;
@@ -29,6 +29,7 @@ fn after<'s, 'a>(lines: &'s [Line<'a>], at: usize) -> &'s [Line<'a>]
     if at < lines.len() { &lines[at..] } else { &[] }
 }
 
+#[tactic(auto, unfolding(crate::specs::FirstPath::layout_of))]
 /// The layout that the first words of the lines give.
 pub fn lay_out(lines: &[Line]) -> Layout
     ensures value { result ≡ layout_of lines.now }
@@ -40,10 +41,12 @@ pub fn lay_out(lines: &[Line]) -> Layout
     Layout { vars, stages, dos }
 }
 
+#[tactic(auto, unfolding(crate::specs::FirstPath::is_laid_out))]
 /// Whether there is a variable and a stage, and the other lines are in their places.
 pub fn is_laid_out(lines: &[Line], at: &Layout) -> bool
     requires { at.now.vars + at.now.stages + at.now.dos ≤ length lines.now }
-    ensures { result ≡ is_laid_out lines.now at.now }
+    ensures value { result ≡ is_laid_out lines.now at.now }
+    ensures whole { IsTrue result → length lines.now ≡ 5 + at.now.vars + at.now.stages + at.now.dos }
 {
     if at.vars == 0 || at.stages == 0 || lines.len() != 5 + at.vars + at.stages + at.dos {
         return false;
