@@ -1,6 +1,6 @@
 -- The drivers that are read so far: variables, one block, its instances, and one output.
-use Rattle.std.specs.Prelude.{ℕ, ◌+◌, ◌-◌, ◌*◌, ◌==◌, Bool, true, false, not, ◌&&◌, ◌||◌, nat_le, ℤ, Option, None, Some, List, [], ◌∷◌, ◌++◌, length, take, drop, map, replicate, codes, if◌then◌else◌, slice_index, slice_index_or}
-use Rattle.std.specs.List.{list_all, list_any, position, prefix_len, sum_by}
+use Rattle.std.specs.Prelude.{ℕ, ◌+◌, ◌-◌, ◌*◌, ◌==◌, Bool, true, false, not, ◌&&◌, ◌||◌, nat_le, ℤ, Option, None, Some, List, [], ◌∷◌, ◌++◌, length, take, drop, map, replicate, codes, if◌then◌else◌, slice_index, slice_index_or, slice_range}
+use Rattle.std.specs.List.{list_all, list_any, position_from, prefix_len, sum_by}
 use Rattle.std.specs.Str.{bytes_eq}
 use Rattle.std.specs.Option.{option_and_then, option_map}
 use Rattle.nim_base.specs.declared.number.Shape.{Shape}
@@ -15,7 +15,8 @@ use Rattle.nim_job.specs.declared.job.Init.TheVariants.{Fill}
 use Rattle.nim_job.specs.declared.job.Job.{Job}
 use Rattle.nim_job.specs.declared.job.Var.{Var}
 use Rattle.nim_job.specs.declared.stmt.Stmt.{Stmt, Do, Output}
-use Rattle.nim_job.specs.Whole.{cells_in, is_whole}
+use Rattle.nim_job.specs.Whole.{are_vars, cells_in, is_whole}
+use Rattle.nim_top.specs.declared.first_path.layout.Layout.{Layout}
 use Rattle.nim_top.specs.Lines.{Line, lines_of, word_at, has_form, is_letter, name_of, number_of, int_of}
 
 -- f of each item, where each has one
@@ -47,7 +48,7 @@ letter_of v = slice_index v.name 0
 
 -- the number of the variable with this letter
 abbrev pub number_in : List Var → ℕ → Option ℕ
-number_in vars letter = position (λ v. letter_of v == letter) vars
+number_in vars letter = position_from (λ v. letter_of v == letter) 0 vars
 
 -- what stands between the brackets of a reference: i, or a number
 abbrev pub place_of : List ℕ → Option Place
@@ -60,7 +61,7 @@ ref_from _ _ = None
 -- X[N] or X[i]
 abbrev pub ref_of : List Var → List ℕ → Option Ref
 ref_of vars word = if nat_le 3 (length word) && slice_index word 1 == 91 && slice_index word (length word - 1) == 93
-    then ref_from (number_in vars (slice_index word 0)) (place_of (take (length word - 3) (drop 2 word)))
+    then ref_from (number_in vars (slice_index word 0)) (place_of (slice_range word 2 (length word - 1)))
     else None
 
 -- addc REF -> REF with C, and the same with each i
@@ -75,23 +76,26 @@ stage_from each (Some read) (Some written) (Some number) =
     Some (record { func = Addc; reads = read ∷ []; writes = written ∷ []; params = Const number ∷ []; each = each })
 stage_from each _ _ _ = None
 
+unfoldable pub stage_with : List Var → Line → Bool → Option Stage
+stage_with vars line each = stage_from each (ref_of vars (word_at line 1)) (ref_of vars (word_at line 3)) (int_of (word_at line 5))
+
 abbrev pub stage_of : List Var → Line → Option Stage
-stage_of vars line = if has_form line stage_form || has_form line each_form
-    then stage_from (has_form line each_form) (ref_of vars (word_at line 1)) (ref_of vars (word_at line 3)) (int_of (word_at line 5))
-    else None
+stage_of vars line = if has_form line each_form then stage_with vars line true else if has_form line stage_form then stage_with vars line false else None
 
 -- X()
 abbrev pub call_of : ℕ → List ℕ
 call_of letter = letter ∷ 40 ∷ 41 ∷ []
+
+-- the letter of a word X()
+abbrev pub callee_of : List ℕ → Option ℕ
+callee_of word = if is_letter (slice_index word 0) && bytes_eq word (call_of (slice_index word 0)) then Some (slice_index word 0) else None
 
 -- block X(): the letter
 abbrev pub block_form : Line
 block_form = codes "block" ∷ [] ∷ []
 
 abbrev pub block_letter : Line → Option ℕ
-block_letter line = if has_form line block_form && bytes_eq (word_at line 1) (call_of (slice_index (word_at line 1) 0)) && is_letter (slice_index (word_at line 1) 0)
-    then Some (slice_index (word_at line 1) 0)
-    else None
+block_letter line = if has_form line block_form then callee_of (word_at line 1) else None
 
 -- do X(), for the block
 abbrev pub do_form : ℕ → Line
@@ -113,16 +117,20 @@ abbrev pub is_distinct : List ℕ → Bool
 is_distinct [] = true
 is_distinct (x ∷ xs) = not (list_any (λ y. y == x) xs) && is_distinct xs
 
--- the job, where it is whole, no name stands twice, and there are at most 65,536 cells
-abbrev pub checked : ℕ → Job → Option Job
-checked letter job = if is_whole job && is_distinct (letter ∷ map letter_of job.vars) && nat_le (sum_by cells_in job.vars) 65536 then Some job else None
-
-abbrev pub job_from : List Var → ℕ → ℕ → Option (List Stage) → Option ℕ → Option Job
-job_from vars letter dos (Some stages) (Some var) = checked letter (record {
+-- the job that the parts of a driver make
+abbrev pub built : List Var → ℕ → ℕ → List Stage → ℕ → Job
+built vars letter dos stages var = record {
     steps = 1000000;
     vars = vars;
     blocks = record { name = letter ∷ []; args = 0; stages = stages } ∷ [];
-    body = body_of dos var })
+    body = body_of dos var }
+
+-- the job, where it is whole and no name stands twice
+unfoldable pub checked : ℕ → Job → Option Job
+checked letter job = if is_whole job && is_distinct (letter ∷ map letter_of job.vars) then Some job else None
+
+abbrev pub job_from : List Var → ℕ → ℕ → Option (List Stage) → Option ℕ → Option Job
+job_from vars letter dos (Some stages) (Some var) = checked letter (built vars letter dos stages var)
 job_from vars letter dos _ _ = None
 
 -- whether a line begins with this word
@@ -138,37 +146,38 @@ abbrev pub line_at : List Line → ℕ → Line
 line_at lines k = slice_index_or lines k []
 
 -- Behind the first line come variables, the block's head, stages, `end`, instances, the output, and the end of the text.
-pub record Layout : Type 0 where
-  pub vars : ℕ
-  pub stages : ℕ
-  pub dos : ℕ
-
-abbrev pub layout_of : List Line → Layout
+unfoldable pub layout_of : List Line → Layout
 layout_of lines =
     let vars : ℕ = count_front (codes "var") (drop 1 lines) in
     let stages : ℕ = count_front (codes "addc") (drop (2 + vars) lines) in
     record { vars = vars; stages = stages; dos = count_front (codes "do") (drop (3 + vars + stages) lines) }
 
 -- there is a variable and a stage, the lines that aren't of a kind are in their places, and no line is over
-abbrev pub is_laid_out : List Line → Layout → Bool
+unfoldable pub is_laid_out : List Line → Layout → Bool
 is_laid_out lines at = nat_le 1 at.vars && nat_le 1 at.stages && length lines == 5 + at.vars + at.stages + at.dos
     && has_form (line_at lines 0) first_form
     && has_form (line_at lines (2 + at.vars + at.stages)) (codes "end" ∷ [])
     && has_form (line_at lines (4 + at.vars + at.stages + at.dos)) ([] ∷ [])
     && length (word_at (line_at lines (4 + at.vars + at.stages + at.dos)) 0) == 0
 
-abbrev pub block_job : List Line → Layout → List Var → ℕ → Option Job
+unfoldable pub block_job : List Line → Layout → List Var → ℕ → Option Job
 block_job lines at vars letter =
-    if list_all (λ line. has_form line (do_form letter)) (take at.dos (drop (3 + at.vars + at.stages) lines))
-    then job_from vars letter at.dos (all_of (stage_of vars) (take at.stages (drop (2 + at.vars) lines))) (output_var vars (line_at lines (3 + at.vars + at.stages + at.dos)))
+    if list_all (λ line. has_form line (do_form letter)) (slice_range lines (3 + at.vars + at.stages) (3 + at.vars + at.stages + at.dos))
+    then job_from vars letter at.dos (all_of (stage_of vars) (slice_range lines (2 + at.vars) (2 + at.vars + at.stages))) (output_var vars (line_at lines (3 + at.vars + at.stages + at.dos)))
     else None
 
-abbrev pub vars_job : List Line → Layout → List Var → Option Job
-vars_job lines at vars = option_and_then (block_job lines at vars) (block_letter (line_at lines (1 + at.vars)))
+-- whether the variables are whole, and have at most 65,536 cells in all
+abbrev pub are_small : List Var → Bool
+are_small vars = are_vars vars && nat_le (sum_by cells_in vars) 65536
 
-abbrev pub driver_job : List Line → Layout → Option Job
-driver_job lines at = if is_laid_out lines at then option_and_then (vars_job lines at) (all_of var_of (take at.vars (drop 1 lines))) else None
+unfoldable pub vars_job : List Line → Layout → List Var → Option Job
+vars_job lines at vars = if are_small vars then option_and_then (block_job lines at vars) (block_letter (line_at lines (1 + at.vars))) else None
+
+unfoldable pub driver_job : List Line → Option Job
+driver_job lines =
+    let at : Layout = layout_of lines in
+    if is_laid_out lines at then option_and_then (vars_job lines at) (all_of var_of (slice_range lines 1 (1 + at.vars))) else None
 
 -- the job of a driver, where its text has the form and at most 1,048,576 bytes
 unfoldable pub job_of : List ℕ → Option Job
-job_of bytes = if nat_le (length bytes) 1048576 then driver_job (lines_of bytes) (layout_of (lines_of bytes)) else None
+job_of bytes = if nat_le (length bytes) 1048576 then driver_job (lines_of bytes) else None

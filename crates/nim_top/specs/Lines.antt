@@ -1,5 +1,5 @@
 -- A driver's text as lines of words, and the words that its lines are made of.
-use Rattle.std.specs.Prelude.{ℕ, ◌+◌, ◌-◌, ◌*◌, ◌^◌, ◌==◌, Bool, true, false, not, ◌&&◌, ◌||◌, nat_lt, nat_le, nat_eq, zero, suc, ℤ, pos, negsuc, Option, None, Some, List, [], ◌∷◌, length, take, map, fold, codes, if◌then◌else◌, slice_index, slice_index_or}
+use Rattle.std.specs.Prelude.{ℕ, ◌+◌, ◌-◌, ◌*◌, ◌^◌, ◌==◌, Bool, true, false, not, ◌&&◌, ◌||◌, nat_lt, nat_le, nat_eq, zero, suc, ℤ, pos, negsuc, Option, None, Some, List, [], ◌∷◌, length, take, drop, map, fold, codes, if◌then◌else◌, slice_index, slice_index_or}
 use Rattle.std.specs.List.{slice_split, list_all}
 use Rattle.std.specs.Char.{is_ascii_digit}
 use Rattle.std.specs.Str.{bytes_eq}
@@ -20,10 +20,14 @@ lines_of bytes = map words_of (slice_split (λ b. b == 10) bytes)
 abbrev pub word_at : Line → ℕ → List ℕ
 word_at line k = slice_index_or line k []
 
--- a line of a set form: as many words as the form has, and where the form has a word that isn't empty the same
+-- a word of a form is that word; an empty one stands for any word
+abbrev pub fits : List ℕ → List ℕ → Bool
+fits word expected = nat_eq (length expected) 0 || bytes_eq word expected
+
+-- a line of a set form: as many words as the form has, each of which fits
 abbrev pub has_form : Line → Line → Bool
 has_form [] [] = true
-has_form (word ∷ words) (expected ∷ form) = (nat_eq (length expected) 0 || bytes_eq word expected) && has_form words form
+has_form (word ∷ words) (expected ∷ form) = fits word expected && has_form words form
 has_form _ _ = false
 
 -- a name: one letter from a to z other than i
@@ -56,5 +60,4 @@ negative_of n = if nat_le n (2 ^ 63) then Some (negated n) else None
 
 -- an optional minus sign and 1 to 19 digits, in the range of 64 bits
 abbrev pub int_of : List ℕ → Option ℤ
-int_of [] = None
-int_of (b ∷ digits) = if b == 45 then option_and_then negative_of (number_of 19 digits) else option_and_then positive_of (number_of 19 (b ∷ digits))
+int_of word = if slice_index word 0 == 45 then option_and_then negative_of (number_of 19 (drop 1 word)) else option_and_then positive_of (number_of 19 word)
