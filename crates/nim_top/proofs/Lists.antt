@@ -1,5 +1,5 @@
 -- Lists item by item, as loops go over them.
-use Rattle.std.proofs.Common.{◌≡◌, ℕ, ◌+◌, ◌<◌, zero, suc, Bool, true, false, Option, None, Some, List, [], ◌∷◌, ◌++◌, length, take, drop, get_or, refl, ap, ◌∙◌, sym, arith, rules}
+use Rattle.std.proofs.Common.{◌≡◌, ℕ, ◌+◌, ◌<◌, zero, suc, Bool, true, false, Option, None, Some, List, [], ◌∷◌, ◌++◌, length, take, drop, get_or, refl, ap, ◌∙◌, arith}
 use Rattle.std.specs.List.{position_from}
 use Rattle.std.specs.Option.{option_and_then, option_map}
 use Rattle.std.proofs.lemmas.List.{at_drop_more, take_more}
@@ -15,7 +15,7 @@ one None = refl
 one (Some y) = refl
 
 onto : {B : Type 0} (a : Option B) (b : Option (List B)) (c : Option B)
-  → option_and_then (λ y. option_map (λ ys. y ∷ ys) (joined b c)) a ≡ joined (option_and_then (λ y. option_map (λ ys. y ∷ ys) b) a) c
+    → option_and_then (λ y. option_map (λ ys. y ∷ ys) (joined b c)) a ≡ joined (option_and_then (λ y. option_map (λ ys. y ∷ ys) b) a) c
 onto None b c = refl
 onto (Some y) None c = refl
 onto (Some y) (Some ys) None = refl
@@ -27,7 +27,7 @@ snoc f (z ∷ zs) x = ap (λ b. option_and_then (λ y. option_map (λ ys. y ∷ 
 
 -- one item more
 pub all_of_more : {A B : Type 0} (f : A → Option B) (xs : List A) (i : ℕ) (d : A) (ys : List B) (y : B) → i < length xs
-  → all_of f (take i xs) ≡ Some ys → f (get_or xs i d) ≡ Some y → all_of f (take (i + 1) xs) ≡ Some (ys ++ y ∷ [])
+    → all_of f (take i xs) ≡ Some ys → f (get_or xs i d) ≡ Some y → all_of f (take (i + 1) xs) ≡ Some (ys ++ y ∷ [])
 all_of_more f xs i d ys y h before one_more =
     ap (all_of f) (take_more xs i d h) ∙ snoc f (take i xs) (get_or xs i d)
     ∙ ap (λ b. joined b (f (get_or xs i d))) before ∙ ap (joined (Some ys)) one_more
@@ -46,10 +46,10 @@ all_of_none f (x ∷ xs) (suc i) d h e =
 
 -- the first place isn't here
 pub position_step : {A : Type 0} (t : A → Bool) (xs : List A) (i : ℕ) (d : A) → i < length xs → t (get_or xs i d) ≡ false
-  → position_from t i (drop i xs) ≡ position_from t (i + 1) (drop (i + 1) xs)
+    → position_from t i (drop i xs) ≡ position_from t (i + 1) (drop (i + 1) xs)
 position_step t xs i d h e = at_drop_more (position_from t i) xs i d h ∙ rw e refl
 
 -- the first place is here
 pub position_hit : {A : Type 0} (t : A → Bool) (xs : List A) (i : ℕ) (d : A) → i < length xs → t (get_or xs i d) ≡ true
-  → position_from t i (drop i xs) ≡ Some i
+    → position_from t i (drop i xs) ≡ Some i
 position_hit t xs i d h e = at_drop_more (position_from t i) xs i d h ∙ rw e refl

@@ -1,12 +1,10 @@
 -- The drivers that are read so far: variables, one block, its instances, and one output.
-use Rattle.std.specs.Prelude.{ℕ, ◌+◌, ◌-◌, ◌*◌, ◌==◌, Bool, true, false, not, ◌&&◌, ◌||◌, nat_le, ℤ, Option, None, Some, List, [], ◌∷◌, ◌++◌, length, take, drop, map, replicate, codes, if◌then◌else◌, slice_index, slice_index_or, slice_range}
+use Rattle.std.specs.Prelude.{ℕ, ◌+◌, ◌-◌, ◌==◌, Bool, true, false, not, ◌&&◌, nat_le, ℤ, Option, None, Some, List, [], ◌∷◌, ◌++◌, length, drop, map, replicate, codes, if◌then◌else◌, slice_index, slice_index_or, slice_range}
 use Rattle.std.specs.List.{list_all, list_any, position_from, prefix_len, sum_by}
 use Rattle.std.specs.Str.{bytes_eq}
 use Rattle.std.specs.Option.{option_and_then, option_map}
-use Rattle.nim_base.specs.declared.number.Shape.{Shape}
 use Rattle.nim_base.specs.declared.task.Func.TheVariants.{Addc}
 use Rattle.nim_base.specs.declared.task.Param.TheVariants.{Const}
-use Rattle.nim_job.specs.declared.block.Block.{Block}
 use Rattle.nim_job.specs.declared.block.Place.{Place}
 use Rattle.nim_job.specs.declared.block.Place.TheVariants.{Fixed, Plus}
 use Rattle.nim_job.specs.declared.block.Ref.{Ref}
@@ -120,10 +118,11 @@ is_distinct (x ∷ xs) = not (list_any (λ y. y == x) xs) && is_distinct xs
 -- the job that the parts of a driver make
 abbrev pub built : List Var → ℕ → ℕ → List Stage → ℕ → Job
 built vars letter dos stages var = record {
-    steps = 1000000;
-    vars = vars;
-    blocks = record { name = letter ∷ []; args = 0; stages = stages } ∷ [];
-    body = body_of dos var }
+  steps = 1000000;
+  vars = vars;
+  blocks = record { name = letter ∷ []; args = 0; stages = stages } ∷ [];
+  body = body_of dos var;
+}
 
 -- the job, where it is whole and no name stands twice
 unfoldable pub checked : ℕ → Job → Option Job

@@ -1,9 +1,9 @@
 -- A driver's text as lines of words, and the words that its lines are made of.
-use Rattle.std.specs.Prelude.{ℕ, ◌+◌, ◌-◌, ◌*◌, ◌^◌, ◌==◌, Bool, true, false, not, ◌&&◌, ◌||◌, nat_lt, nat_le, nat_eq, zero, suc, ℤ, pos, negsuc, Option, None, Some, List, [], ◌∷◌, length, take, drop, map, fold, codes, if◌then◌else◌, slice_index, slice_index_or}
+use Rattle.std.specs.Prelude.{ℕ, ◌+◌, ◌-◌, ◌*◌, ◌^◌, ◌==◌, Bool, true, false, not, ◌&&◌, ◌||◌, nat_lt, nat_le, nat_eq, zero, suc, ℤ, pos, negsuc, Option, None, Some, List, [], ◌∷◌, length, drop, map, fold, if◌then◌else◌, slice_index, slice_index_or}
 use Rattle.std.specs.List.{slice_split, list_all}
 use Rattle.std.specs.Char.{is_ascii_digit}
 use Rattle.std.specs.Str.{bytes_eq}
-use Rattle.std.specs.Option.{option_and_then, option_map}
+use Rattle.std.specs.Option.{option_and_then}
 
 -- a line as its words, which have one space between them
 abbrev pub Line : Type 0

@@ -6,6 +6,8 @@ mod block;
 mod build;
 mod layout;
 mod line;
+#[cfg(test)]
+mod tests;
 mod var;
 mod whole;
 mod word;
@@ -21,7 +23,13 @@ use var::variables;
 use whole::{are_vars, cells};
 
 #[tactic(auto, unfolding(crate::specs::FirstPath::block_job))]
-fn block_job(alloc: Global, lines: &[Line], at: &Layout, vars: Vec<Var>, letter: u8) -> Result<Option<Job>, NoMemory>
+fn block_job(
+    alloc: Global,
+    lines: &[Line],
+    at: &Layout,
+    vars: Vec<Var>,
+    letter: u8,
+) -> Result<Option<Job>, NoMemory>
     requires laid_out { length lines.now ≡ 5 + at.now.vars + at.now.stages + at.now.dos }
     requires few { length vars.items ≤ 256 }
     requires ascii { letter < 128 }
@@ -32,17 +40,31 @@ fn block_job(alloc: Global, lines: &[Line], at: &Layout, vars: Vec<Var>, letter:
     if !are_instances(&lines[behind..behind + at.dos], letter) {
         return Ok(None);
     }
-    let Some(stages) = stages(alloc, vars.as_slice(), &lines[2 + at.vars..2 + at.vars + at.stages])? else {
+    let Some(stages) = stages(
+        alloc,
+        vars.as_slice(),
+        &lines[2 + at.vars..2 + at.vars + at.stages],
+    )?
+    else {
         return Ok(None);
     };
     let Some(var) = output_var(vars.as_slice(), &lines[behind + at.dos]) else {
         return Ok(None);
     };
-    checked(alloc, letter, build(alloc, vars, letter, at.dos, stages, var)?)
+    checked(
+        alloc,
+        letter,
+        build(alloc, vars, letter, at.dos, stages, var)?,
+    )
 }
 
 #[tactic(auto, unfolding(crate::specs::FirstPath::vars_job))]
-fn vars_job(alloc: Global, lines: &[Line], at: &Layout, vars: Vec<Var>) -> Result<Option<Job>, NoMemory>
+fn vars_job(
+    alloc: Global,
+    lines: &[Line],
+    at: &Layout,
+    vars: Vec<Var>,
+) -> Result<Option<Job>, NoMemory>
     requires laid_out { length lines.now ≡ 5 + at.now.vars + at.now.stages + at.now.dos }
     ensures value { IfOk result (λ job. job ≡ vars_job lines.now at.now vars.items) }
     ensures whole { IfOk result (λ job. IfSome job (λ j. IsTrue (is_whole j))) }

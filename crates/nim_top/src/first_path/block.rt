@@ -99,7 +99,12 @@ fn addc(alloc: Global, each: bool, read: Ref, written: Ref, number: i64) -> Resu
 }
 
 #[tactic(auto, unfolding(crate::specs::FirstPath::stage_with))]
-fn stage_with(alloc: Global, vars: &[Var], line: &Line, each: bool) -> Result<Option<Stage>, NoMemory>
+fn stage_with(
+    alloc: Global,
+    vars: &[Var],
+    line: &Line,
+    each: bool,
+) -> Result<Option<Stage>, NoMemory>
     requires { length vars.now ≤ 256 }
     ensures { IfOk result (λ stage. stage ≡ stage_with vars.now line.now each) }
 {

@@ -59,7 +59,14 @@ fn body(alloc: Global, dos: usize, var: u8) -> Result<Items<Stmt>, NoMemory>
 }
 
 /// The job of the parts of a driver.
-pub fn build(alloc: Global, vars: Vec<Var>, letter: u8, dos: usize, stages: Vec<Stage>, var: u8) -> Result<Job, NoMemory>
+pub fn build(
+    alloc: Global,
+    vars: Vec<Var>,
+    letter: u8,
+    dos: usize,
+    stages: Vec<Stage>,
+    var: u8,
+) -> Result<Job, NoMemory>
     requires { letter < 128 }
     ensures { IfOk result (λ job. job ≡ built vars.items letter dos stages.items var) }
 {

@@ -52,5 +52,8 @@ pub fn is_laid_out(lines: &[Line], at: &Layout) -> bool
         return false;
     }
     let last = &lines[4 + at.vars + at.stages + at.dos];
-    lines[0].has_form(&[b"nimbus", b"1"]) && lines[2 + at.vars + at.stages].has_form(&[b"end"]) && last.has_form(&[b""]) && last.word(0).is_empty()
+    lines[0].has_form(&[b"nimbus", b"1"])
+        && lines[2 + at.vars + at.stages].has_form(&[b"end"])
+        && last.has_form(&[b""])
+        && last.word(0).is_empty()
 }

@@ -21,7 +21,9 @@ pub fn name_of_letter(alloc: Global, letter: u8) -> Result<Name, NoMemory>
 fn variable(alloc: Global, line: &Line) -> Result<Option<Var>, NoMemory>
     ensures { IfOk result (λ var. var ≡ var_of line.now) }
 {
-    if !line.has_form(&[b"var", b"", b"parts", b"", b"width", b"", b"rows", b"", b"fill", b""]) {
+    if !line.has_form(&[
+        b"var", b"", b"parts", b"", b"width", b"", b"rows", b"", b"fill", b"",
+    ]) {
         return Ok(None);
     }
     let Some(letter) = name(line.word(1)) else {

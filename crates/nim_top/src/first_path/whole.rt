@@ -143,8 +143,12 @@ fn has_counts(func: Func, params: usize, reads: usize, writes: usize) -> bool
 fn is_stage(vars: &[Var], args: u8, stage: &Stage) -> bool
     ensures { result ≡ is_stage vars.now args stage.now }
 {
-    has_counts(stage.func, stage.params.len(), stage.reads.len(), stage.writes.len())
-        && are_params(args, stage.params.as_slice())
+    has_counts(
+        stage.func,
+        stage.params.len(),
+        stage.reads.len(),
+        stage.writes.len(),
+    ) && are_params(args, stage.params.as_slice())
         && are_refs(vars, stage.each, stage.reads.as_slice())
         && are_refs(vars, stage.each, stage.writes.as_slice())
 }
@@ -198,7 +202,10 @@ fn are_blocks(vars: &[Var], blocks: &[Block]) -> bool
     ensures { result ≡ list_all (is_block vars.now) blocks.now }
 {
     for block in blocks {
-        if block.args > 8 || !are_few_tasks(vars, block.stages.as_slice()) || !are_stages(vars, block.args, block.stages.as_slice()) {
+        if block.args > 8
+            || !are_few_tasks(vars, block.stages.as_slice())
+            || !are_stages(vars, block.args, block.stages.as_slice())
+        {
             return false;
         }
     }

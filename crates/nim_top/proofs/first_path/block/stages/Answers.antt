@@ -1,5 +1,5 @@
 use Rattle.std.proofs.Common.{◌≡◌, None, Some, get_or, sym, ap, ◌∙◌}
-use Rattle.nim_top.specs.FirstPath.{all_of, stage_of, var_of}
+use Rattle.nim_top.specs.FirstPath.{stage_of}
 use Rattle.nim_top.proofs.Lists.{all_of_more, all_of_none}
 use Rattle.nim_top.proofs.first_path.block.stages.Goals as goal
 

@@ -1,4 +1,4 @@
-use Rattle.std.proofs.Common.{rules, ◌≡◌, sym, map}
+use Rattle.std.proofs.Common.{sym}
 use Rattle.nim_top.proofs.Forms.{has_form-length}
 use Rattle.nim_top.proofs.first_path.line.have_form.Goals as goal
 

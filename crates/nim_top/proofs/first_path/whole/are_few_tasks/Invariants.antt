@@ -6,4 +6,5 @@ use Rattle.nim_top.proofs.first_path.whole.are_few_tasks.Given as goal
 abbrev pub invariant-loop-stage : goal.invariant-loop-stage
 invariant-loop-stage l = record {
   sum : l.tasks ≡ sum_by (turns_of l.vars) (take l.stage-index l.stages);
-  below : l.tasks ≤ 1024 }
+  below : l.tasks ≤ 1024;
+}

@@ -6,4 +6,5 @@ use Rattle.nim_top.proofs.first_path.whole.cells.Given as goal
 abbrev pub invariant-loop-var : goal.invariant-loop-var
 invariant-loop-var l = record {
   sum : l.cells ≡ sum_by cells_in (take l.var-index l.vars);
-  below : l.cells ≤ 4194304 * l.var-index }
+  below : l.cells ≤ 4194304 * l.var-index;
+}

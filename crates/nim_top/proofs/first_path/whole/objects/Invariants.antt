@@ -5,4 +5,5 @@ use Rattle.nim_top.proofs.first_path.whole.objects.Given as goal
 abbrev pub invariant-loop-var : goal.invariant-loop-var
 invariant-loop-var l = record {
   sum : l.objects ≡ sum_by (λ v. v.parts) (take l.var-index l.vars);
-  below : l.objects ≤ 4294967296 * l.var-index }
+  below : l.objects ≤ 4294967296 * l.var-index;
+}

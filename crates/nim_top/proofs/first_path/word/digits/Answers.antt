@@ -1,4 +1,4 @@
-use Rattle.std.proofs.Common.{arith, ◌<◌}
+use Rattle.std.proofs.Common.{arith}
 use Rattle.nim_top.proofs.Numbers.{digits_fit}
 use Rattle.nim_top.proofs.first_path.word.digits.Goals as goal
 
