@@ -1,5 +1,5 @@
 pub mod TooLong
-pub mod Values
+pub mod Written
 pub mod Forms
 pub mod Lists
 pub mod Numbers

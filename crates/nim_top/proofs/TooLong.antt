@@ -7,14 +7,14 @@ use Rattle.nim_io.specs.Files.{content, TellsSome}
 use Rattle.nim_job.specs.Serial.{Ending}
 use Rattle.nim_job.specs.declared.job.Job.{Job}
 use Rattle.nim_top.specs.Answer.{answer_of, ending_from, HasStatus, IsAnswer, OfDriver}
-use Rattle.nim_top.specs.FirstPath.{driver_job, job_of, layout_of}
+use Rattle.nim_top.specs.FirstPath.{driver_job, job_of}
 use Rattle.nim_top.specs.Lines.{lines_of}
 use Rattle.nim_top.specs.Words.{driver_name}
 
 no_job : (bytes : List ℕ) → 1048576 < length bytes → job_of bytes ≡ None
 unfolding job_of
 no_job bytes long =
-    ap (λ b. if b then driver_job (lines_of bytes) (layout_of (lines_of bytes)) else None) (lt-leb (length bytes) 1048576 long)
+    ap (λ b. if b then driver_job (lines_of bytes) else None) (lt-leb (length bytes) 1048576 long)
 
 refused : (bytes : List ℕ) → 1048576 < length bytes → answer_of bytes ≡ record { status = 2; bytes = [] }
 refused bytes long = ap ending_from (no_job bytes long)

@@ -9,7 +9,7 @@ use Rattle.nim_job.specs.Serial.{driver_at, serial_of}
 -- the machine and what the objects hold are those of the job after as many steps as are counted
 pub record StandsAt (job : Job) (m : Machine) (values : List Grid) : Type 0 where
   pub machine : m ≡ machine_at job (driver_at job m.driver.count)
-  pub values : values ≡ (driver_at job m.driver.count).values
+  pub held : values ≡ (driver_at job m.driver.count).values
 
 -- Nothing is unanswered. Where too much was printed the job passes its limits, else all stands at a state of the job.
 pub record Stands (job : Job) (m : Machine) (values : List Grid) : Type 0 where

@@ -5,7 +5,7 @@ ghost use Rattle.nim_job.specs.Serial.{serial_of};
 ghost use Rattle.nim_job.specs.Step.{output_of};
 ghost use Rattle.nim_job.specs.Whole.{is_whole};
 ghost use Rattle.nim_top.specs.Runs.{Stands};
-ghost use Rattle.nim_top.specs.declared.run.Turn.{Turn};
+ghost use Rattle.nim_top.specs.declared.run.Progress.{Progress};
 
 use crate::tasks::run_tasks;
 use crate::values::{initial_values, output_text};
@@ -15,7 +15,7 @@ use std::alloc::Global;
 
 /// Whether a driver goes on.
 #[derive(Clone, Copy, Debug, PartialEq, Eq)]
-pub enum Turn {
+pub enum Progress {
     Goes,
     Finished,
     Limit,
@@ -29,13 +29,13 @@ pub fn run(alloc: Global, job: &Job) -> Result<Option<DriverMachine>, NoMemory>
     ensures limit { IfOk result (λ end. IfNone end (serial_of job.now ≡ record { status = 4; bytes = [] })) }
 {
     let shapes = shapes(alloc, job)?;
-    let mut values = initial_values(alloc, job)?;
+    let mut values = initial_values(alloc, job.vars.as_slice())?;
     let mut machine = DriverMachine::new(alloc, job)?;
     loop {
         match turn(alloc, job, &shapes, &mut values, &mut machine)? {
-            Turn::Goes => {}
-            Turn::Finished => return Ok(Some(machine)),
-            Turn::Limit => return Ok(None),
+            Progress::Goes => {}
+            Progress::Finished => return Ok(Some(machine)),
+            Progress::Limit => return Ok(None),
         }
     }
 }
@@ -47,28 +47,28 @@ fn turn(
     shapes: &[Shape],
     values: &mut Vec<Value>,
     machine: &mut DriverMachine,
-) -> Result<Turn, NoMemory>
+) -> Result<Progress, NoMemory>
     requires whole { IsTrue (is_whole job.now) }
     requires shapes { shapes.now ≡ shapes_of job.now.vars }
     requires stands { Stands job.now machine.old values.old.items }
-    ensures goes { IfOk result (λ turn. turn ≡ Turn.Goes → Stands job.now machine.new values.new.items) }
-    ensures nearer { IfOk result (λ turn. turn ≡ Turn.Goes → length machine.new.driver.todo + 1 ≡ length machine.old.driver.todo) }
-    ensures finished { IfOk result (λ turn. turn ≡ Turn.Finished → serial_of job.now ≡ record { status = 0; bytes = machine.new.driver.output }) }
-    ensures limit { IfOk result (λ turn. turn ≡ Turn.Limit → serial_of job.now ≡ record { status = 4; bytes = [] }) }
+    ensures goes { IfOk result (λ turn. turn ≡ Progress.Goes → Stands job.now machine.new values.new.items) }
+    ensures nearer { IfOk result (λ turn. turn ≡ Progress.Goes → length machine.new.driver.todo + 1 ≡ length machine.old.driver.todo) }
+    ensures finished { IfOk result (λ turn. turn ≡ Progress.Finished → serial_of job.now ≡ record { status = 0; bytes = machine.new.driver.output }) }
+    ensures limit { IfOk result (λ turn. turn ≡ Progress.Limit → serial_of job.now ≡ record { status = 4; bytes = [] }) }
 {
     match machine.next()? {
         Ask::Run { block, args } => {
             let tasks = block_tasks(alloc, job, block, args.as_slice())?;
             run_tasks(alloc, shapes, values, &tasks)?;
             machine.answer(0);
-            Ok(Turn::Goes)
+            Ok(Progress::Goes)
         }
         Ask::Output { var } => {
             let text = output_text(alloc, job, values, var)?;
             machine.append(&text)?;
-            Ok(Turn::Goes)
+            Ok(Progress::Goes)
         }
-        Ask::Finished => Ok(Turn::Finished),
-        _ => Ok(Turn::Limit),
+        Ask::Finished => Ok(Progress::Finished),
+        _ => Ok(Progress::Limit),
     }
 }

@@ -66,12 +66,15 @@ fn shapes_at(alloc: Global, shapes: &[Shape], objects: &[Object]) -> Result<Vec<
 }
 
 // Puts each result where its object stands.
-fn write(values: &mut Vec<Value>, objects: &[Object], results: Vec<Value>)
+fn write(values: &mut Vec<Value>, objects: &[Object], mut results: Vec<Value>)
     requires { IsTrue (list_all (is_object (length values.old.items)) objects.now) }
     ensures values { values.new.items ≡ written values.old.items objects.now results.items }
     ensures counts { length values.new.items ≡ length values.old.items }
 {
-    for (object, result) in objects.iter().zip(results) {
-        values[usize::from(object.0)] = result;
+    for object in objects {
+        if results.is_empty() {
+            return;
+        }
+        values[usize::from(object.0)] = results.remove(0);
     }
 }
