@@ -1,3 +1,5 @@
 pub mod Forms
 pub mod Lists
+pub mod NoLimit
 pub mod Numbers
+pub mod Run
