@@ -30,11 +30,13 @@ first_form = codes "nimbus" ∷ codes "1" ∷ []
 abbrev pub var_form : Line
 var_form = codes "var" ∷ [] ∷ codes "parts" ∷ [] ∷ codes "width" ∷ [] ∷ codes "rows" ∷ [] ∷ codes "fill" ∷ [] ∷ []
 
+-- a variable from its letter, parts, width, rows and number, where all are there
 abbrev pub var_from : Option ℕ → Option ℕ → Option ℕ → Option ℕ → Option ℤ → Option Var
 var_from (Some x) (Some parts) (Some width) (Some rows) (Some number) =
     Some (record { name = x ∷ []; parts = parts; shape = record { width = width; rows = rows }; init = Fill number })
 var_from _ _ _ _ _ = None
 
+-- the variable that a line declares
 abbrev pub var_of : Line → Option Var
 var_of line = if has_form line var_form
     then var_from (name_of (word_at line 1)) (number_of 5 (word_at line 3)) (number_of 5 (word_at line 5)) (number_of 5 (word_at line 7)) (int_of (word_at line 9))
@@ -52,6 +54,7 @@ number_in vars letter = position_from (λ v. letter_of v == letter) 0 vars
 abbrev pub place_of : List ℕ → Option Place
 place_of inside = if bytes_eq inside (codes "i") then Some (Plus 0) else option_map Fixed (number_of 5 inside)
 
+-- a reference from its variable and place, where both are there
 abbrev pub ref_from : Option ℕ → Option Place → Option Ref
 ref_from (Some var) (Some place) = Some (record { var = var; place = place })
 ref_from _ _ = None
@@ -66,17 +69,21 @@ ref_of vars word = if nat_le 3 (length word) && slice_index word 1 == 91 && slic
 abbrev pub stage_form : Line
 stage_form = codes "addc" ∷ [] ∷ codes "->" ∷ [] ∷ codes "with" ∷ [] ∷ []
 
+-- the same with `each i`
 abbrev pub each_form : Line
 each_form = codes "addc" ∷ [] ∷ codes "->" ∷ [] ∷ codes "with" ∷ [] ∷ codes "each" ∷ codes "i" ∷ []
 
+-- a stage from what it reads and writes and its number, where all are there
 abbrev pub stage_from : Bool → Option Ref → Option Ref → Option ℤ → Option Stage
 stage_from each (Some read) (Some written) (Some number) =
     Some (record { func = Addc; reads = read ∷ []; writes = written ∷ []; params = Const number ∷ []; each = each })
 stage_from each _ _ _ = None
 
+-- the stage of a line of one of the two forms
 unfoldable pub stage_with : List Var → Line → Bool → Option Stage
 stage_with vars line each = stage_from each (ref_of vars (word_at line 1)) (ref_of vars (word_at line 3)) (int_of (word_at line 5))
 
+-- the stage that a line stands for
 abbrev pub stage_of : List Var → Line → Option Stage
 stage_of vars line = if has_form line each_form then stage_with vars line true else if has_form line stage_form then stage_with vars line false else None
 
@@ -92,6 +99,7 @@ callee_of word = if is_letter (slice_index word 0) && bytes_eq word (call_of (sl
 abbrev pub block_form : Line
 block_form = codes "block" ∷ [] ∷ []
 
+-- the letter of the block whose head a line is
 abbrev pub block_letter : Line → Option ℕ
 block_letter line = if has_form line block_form then callee_of (word_at line 1) else None
 
@@ -103,6 +111,7 @@ do_form letter = codes "do" ∷ call_of letter ∷ []
 abbrev pub output_form : Line
 output_form = codes "output" ∷ [] ∷ []
 
+-- the number of the variable that a line puts out
 abbrev pub output_var : List Var → Line → Option ℕ
 output_var vars line = if has_form line output_form && length (word_at line 1) == 1 then number_in vars (slice_index (word_at line 1) 0) else None
 
@@ -128,6 +137,7 @@ built vars letter dos stages var = record {
 unfoldable pub checked : ℕ → Job → Option Job
 checked letter job = if is_whole job && is_distinct (letter ∷ map letter_of job.vars) then Some job else None
 
+-- the job of a driver's parts, where its stages and its output are there
 abbrev pub job_from : List Var → ℕ → ℕ → Option (List Stage) → Option ℕ → Option Job
 job_from vars letter dos (Some stages) (Some var) = checked letter (built vars letter dos stages var)
 job_from vars letter dos _ _ = None
@@ -159,6 +169,7 @@ is_laid_out lines at = nat_le 1 at.vars && nat_le 1 at.stages && length lines ==
     && has_form (line_at lines (4 + at.vars + at.stages + at.dos)) ([] ∷ [])
     && length (word_at (line_at lines (4 + at.vars + at.stages + at.dos)) 0) == 0
 
+-- the job once the variables and the block's letter are known: each instance names the block, each stage is one
 unfoldable pub block_job : List Line → Layout → List Var → ℕ → Option Job
 block_job lines at vars letter =
     if list_all (λ line. has_form line (do_form letter)) (slice_range lines (3 + at.vars + at.stages) (3 + at.vars + at.stages + at.dos))
@@ -169,9 +180,11 @@ block_job lines at vars letter =
 abbrev pub are_small : List Var → Bool
 are_small vars = are_vars vars && nat_le (sum_by cells_in vars) 65536
 
+-- the job once the variables are known
 unfoldable pub vars_job : List Line → Layout → List Var → Option Job
 vars_job lines at vars = if are_small vars then option_and_then (block_job lines at vars) (block_letter (line_at lines (1 + at.vars))) else None
 
+-- the job of lines that are laid out as a driver
 unfoldable pub driver_job : List Line → Option Job
 driver_job lines =
     let at : Layout = layout_of lines in
