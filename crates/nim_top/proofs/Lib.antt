@@ -1,7 +1,9 @@
-pub mod TooLong
-pub mod Written
 pub mod Forms
 pub mod Lists
+pub mod Next
 pub mod NoLimit
 pub mod Numbers
-pub mod Run
+pub mod Limits
+pub mod TooLong
+pub mod Written
+pub mod Stood

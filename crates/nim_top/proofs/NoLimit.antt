@@ -15,7 +15,7 @@ use Rattle.nim_top.specs.FirstPath.{all_of, are_small, block_job, block_letter, 
 use Rattle.nim_job.specs.Driver.{output_limit}
 use Rattle.nim_job.specs.Serial.{driver_at, is_limit, is_nil}
 use Rattle.nim_job.specs.Whole.{is_whole}
-use Rattle.nim_top.proofs.Run.{none_after}
+use Rattle.nim_top.proofs.Limits.{none_after}
 
 -- the parts of an answer that is there
 pub if_there : {X : Type 0} (b : Bool) (o : Option X) (x : X) → (if b then o else None) ≡ Some x → (b ≡ true) × (o ≡ Some x)

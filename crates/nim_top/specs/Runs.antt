@@ -1,5 +1,5 @@
 -- What stays true while a job's tasks are applied one after another.
-use Rattle.std.specs.Prelude.{◌≡◌, ℕ, ◌≤◌, true, false, None, List, [], length}
+use Rattle.std.specs.Prelude.{◌≡◌, true, false, None, List, [], length}
 use Rattle.nim_base.specs.Value.{Grid}
 use Rattle.nim_job.specs.declared.job.Job.{Job}
 use Rattle.nim_job.specs.Machine.{Machine, machine_at}
@@ -14,7 +14,6 @@ pub record StandsAt (job : Job) (m : Machine) (values : List Grid) : Type 0 wher
 -- Nothing is unanswered. Where too much was printed the job passes its limits, else all stands at a state of the job.
 pub record Stands (job : Job) (m : Machine) (values : List Grid) : Type 0 where
   pub answered : m.asked ≡ None
-  pub within : m.driver.count ≤ job.steps
   pub counts : length values ≡ objects_of job.vars
   pub at : m.full ≡ false → StandsAt job m values
   pub full : m.full ≡ true → serial_of job ≡ record { status = 4; bytes = [] }

@@ -56,6 +56,7 @@ fn turn(
     ensures finished { IfOk result (λ turn. turn ≡ Progress.Finished → serial_of job.now ≡ record { status = 0; bytes = machine.new.driver.output }) }
     ensures limit { IfOk result (λ turn. turn ≡ Progress.Limit → serial_of job.now ≡ record { status = 4; bytes = [] }) }
 {
+    let _printed = machine.output();
     match machine.next()? {
         Ask::Run { block, args } => {
             let tasks = block_tasks(alloc, job, block, args.as_slice())?;
@@ -69,6 +70,6 @@ fn turn(
             Ok(Progress::Goes)
         }
         Ask::Finished => Ok(Progress::Finished),
-        _ => Ok(Progress::Limit),
+        Ask::Limit | Ask::Get { .. } | Ask::Checkpoint => Ok(Progress::Limit),
     }
 }
