@@ -1,20 +1,27 @@
 -- Each turn of a run keeps that the machine and the values stand at a state of the job.
 use Rattle.std.proofs.Common.{◌≡◌, ℕ, ◌+◌, ◌<◌, ◌≤◌, suc, Bool, true, false, ℤ, Option, None, Some, List, [], ◌∷◌, ◌++◌, length, refl, sym, ap, ap₂, subst, ◌∙◌, inl, inr, arith, add-one}
-use Rattle.std.specs.Prelude.{nat_le, if◌then◌else◌}
-use Rattle.std.proofs.lemmas.Bool.{both_ways, leb_tells, cond-true, cond-false}
-use Rattle.std.proofs.lemmas.List.{length-append}
-use Rattle.nim_base.specs.Value.{Grid}
+use Rattle.std.specs.Prelude.{nat_le, ◌*◌, ◌&&◌, if◌then◌else◌}
+use Rattle.std.specs.List.{list_all}
+use Rattle.std.proofs.lemmas.Bool.{and_parts, both_ways, cond-true, cond-false}
+use Rattle.std.proofs.lemmas.Bool.Decides.{leb_tells}
+use Rattle.std.proofs.lemmas.List.{length-append, length-replicate}
+use Rattle.std.proofs.lemmas.List.Sums.{sum_by-cons}
+use Rattle.nim_base.specs.Value.{Grid, filled}
 use Rattle.nim_job.specs.declared.ask.Ask.{Ask}
 use Rattle.nim_job.specs.declared.ask.Asked.{Asked}
+use Rattle.nim_job.specs.declared.job.Init.{Init}
+use Rattle.nim_job.specs.declared.job.Init.TheVariants.{Fill, Iota, Loaded}
 use Rattle.nim_job.specs.declared.job.Job.{Job}
+use Rattle.nim_job.specs.declared.job.Var.{Var}
 use Rattle.nim_job.specs.Driver.{output_limit}
-use Rattle.nim_job.specs.Machine.{Machine, IsWithin, after_ask, answered, appended, ask_of, machine_at, takes_cell}
-use Rattle.nim_job.specs.Objects.{objects_of, shapes_of}
+use Rattle.nim_job.specs.Machine.{Machine, IsWithin, start_machine, after_ask, answered, appended, ask_of, machine_at, takes_cell}
+use Rattle.nim_job.specs.Objects.{initial_parts, initial_values, objects_of, shapes_of}
 use Rattle.nim_job.specs.Serial.{driver_at, serial_of}
 use Rattle.nim_job.specs.Step.{State, after_tasks, output_of, step, tasks_next}
 use Rattle.nim_job.specs.Tasks.{block_tasks_of, takes_of}
-use Rattle.nim_job.specs.Whole.{is_whole}
-use Rattle.nim_job.proofs.Follows.{answer_follows, append_follows, finished_ends, full_ends, left_whole, limit_reached, output_prints, run_tasks}
+use Rattle.nim_job.specs.Whole.{is_between, is_init, is_var, is_whole}
+use Rattle.nim_job.proofs.Follows.{answer_follows, append_follows, finished_ends, full_ends, left_whole, limit_reached, output_prints, run_tasks, starts}
+use Rattle.nim_job.proofs.Whole.{vars_sizes, whole_vars}
 use Rattle.nim_job.proofs.Versions.{step_moves}
 use Rattle.nim_top.specs.Runs.{Stands, StandsAt}
 use Rattle.nim_top.proofs.Next.{asking_prints_nothing, finished_open, goes_on, items_allowed, items_quiet, items_var, passes}
@@ -131,3 +138,37 @@ pub output_allowed : (job : Job) (m : Machine) (values : List Grid) (var : ℕ) 
 output_allowed job m values var whole stands is =
     let at = stands.at (passes m (ap goes_on is)).0 in
     items_var job (machine_at job (state_of job m)) (state_of job m).driver.todo var (left_whole job m.driver.count whole) (here job m values (Ask.Output var) at is)
+
+-- as many values as objects
+length_parts : (v : Var) (init : Init) → is_init init ≡ true → length (initial_parts v init) ≡ v.parts
+length_parts v (Fill number) is = length-replicate v.parts (filled v.shape number)
+length_parts v Iota is = absurd (both_ways false refl is)
+length_parts v (Loaded values) is = absurd (both_ways false refl is)
+
+init_of : (v : Var) → is_var v ≡ true → is_init v.init ≡ true
+init_of v is = (and_parts (is_between 1 64 v.parts && is_between 1 65536 v.shape.width && is_between 1 65536 v.shape.rows && nat_le (v.shape.width * v.shape.rows) 65536) (is_init v.init) is).1
+
+length_initial : (vars : List Var) → list_all is_var vars ≡ true → length (initial_values vars) ≡ objects_of vars
+length_initial [] all = refl
+length_initial (v ∷ vars) all =
+    let parts = and_parts (is_var v) (list_all is_var vars) all in
+    omega (arith, length-append (initial_parts v v.init) (initial_values vars), length_parts v v.init (init_of v parts.0), length_initial vars parts.1, sum_by-cons (λ (w : Var). w.parts) v vars)
+
+first_values : (job : Job) → (driver_at job 0).values ≡ initial_values job.vars
+unfolding driver_at
+first_values job = refl
+
+-- a run begins at the state before any step
+pub begins_stood : (job : Job) (m : Machine) (values : List Grid) → is_whole job ≡ true → m ≡ start_machine job → values ≡ initial_values job.vars → Stands job m values
+begins_stood job m values whole new initial =
+    let none : m.driver.count ≡ 0 = ap (λ (k : Machine). k.driver.count) new in
+    let first : driver_at job m.driver.count ≡ driver_at job 0 = ap (driver_at job) none in
+    record {
+      answered = ap (λ (k : Machine). k.asked) new;
+      counts = ap length initial ∙ length_initial job.vars (vars_sizes job.vars (whole_vars job whole)).1;
+      at = λ _. record {
+        machine = new ∙ starts job ∙ ap (machine_at job) (sym first);
+        held = initial ∙ sym (first_values job) ∙ ap (λ (s : State). s.values) (sym first);
+      };
+      full = λ full. absurd (both_ways m.full (ap (λ (k : Machine). k.full) new) full);
+    }

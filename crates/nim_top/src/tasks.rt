@@ -19,6 +19,7 @@ pub fn run_tasks(
     requires wide { All (λ shape. 1 ≤ shape.width) shapes.now }
     requires tasks { IsTrue (list_all (is_task (length shapes.now)) tasks.now) }
     ensures values { OnOk result (values.new.items ≡ after_tasks shapes.now values.old.items tasks.now) }
+    ensures counts { OnOk result (length values.new.items ≡ length values.old.items) }
 {
     for task in tasks {
         run_task(alloc, shapes, values, task)?;
