@@ -1,5 +1,5 @@
-ghost use Rattle.std.specs.Prelude.{◌≡◌, ◌&&◌, int_le, IfOk};
-ghost use Rattle.nim_base.specs.Functions.{at_column, keep_of};
+ghost use Rattle.std.specs.Prelude.{◌≡◌, ◌&&◌, int_le, length, IfOk};
+ghost use Rattle.nim_base.specs.Functions.{at_column, keep_of, param_of};
 
 use crate::rows::{cell_in_column, no_rows, push_if, row_of};
 use nim_base::{NoMemory, Value};
@@ -14,7 +14,7 @@ fn is_within(row: &[i64], column: i64, low: i64, high: i64) -> bool
 }
 
 /// The rows whose cell at the column is at least `low` and at most `high`, in order.
-pub fn keep(alloc: Global, value: &Value, column: i64, low: i64, high: i64) -> Result<Value, NoMemory>
+fn keep(alloc: Global, value: &Value, column: i64, low: i64, high: i64) -> Result<Value, NoMemory>
     ensures { IfOk result (λ rows. rows ≡ keep_of column low high value.now) }
 {
     let mut rows = no_rows(alloc, value);
@@ -23,4 +23,13 @@ pub fn keep(alloc: Global, value: &Value, column: i64, low: i64, high: i64) -> R
         push_if(&mut rows, row, is_within(row, column, low, high))?;
     }
     Ok(rows)
+}
+
+/// The same, by the parameters `column`, `low` and `high`.
+pub fn keep_by(alloc: Global, value: &Value, params: &[i64]) -> Result<Value, NoMemory>
+    requires { length params.now ≡ 3 }
+    ensures { IfOk result (λ rows. rows
+        ≡ keep_of (param_of params.now 0) (param_of params.now 1) (param_of params.now 2) value.now) }
+{
+    keep(alloc, value, params[0], params[1], params[2])
 }

@@ -1,5 +1,5 @@
 ghost use Rattle.std.specs.Prelude.{◌≡◌, ◌++◌, ◌<◌, ◌≤◌, length, IfOk, OnOk};
-ghost use Rattle.nim_base.specs.Functions.{left_of, quotient, row_above, row_below, row_by, stencil_cell, stencil_of};
+ghost use Rattle.nim_base.specs.Functions.{left_of, param_of, quotient, row_above, row_below, row_by, stencil_cell, stencil_of};
 
 use crate::rows::{cell_or_zero, row_of, width_of};
 use nim_base::{NoMemory, Value};
@@ -9,10 +9,9 @@ use std::alloc::Global;
 fn divided(dividend: i64, divisor: i64) -> i64
     ensures { result ≡ quotient dividend divisor }
 {
-    if divisor == 0 {
-        0
-    } else {
-        dividend.wrapping_div_euclid(divisor)
+    match divisor {
+        0 => 0,
+        _ => dividend.wrapping_div_euclid(divisor),
     }
 }
 
@@ -83,7 +82,7 @@ fn push_stencil(
 
 /// In the shape of the middle value: each cell times the factor, and its four neighbours, divided.
 #[tactic(auto, using(crate::proofs::CellRows::grid_more))]
-pub fn stencil(
+fn stencil(
     alloc: Global,
     factor: i64,
     divisor: i64,
@@ -102,4 +101,19 @@ pub fn stencil(
         push_stencil(&mut cells, factor, divisor, up, row_of(middle, row), down)?;
     }
     Ok(Value::from_cells(width, rows, cells))
+}
+
+/// The same, by the parameters `factor` and `divisor`.
+pub fn stencil_by(
+    alloc: Global,
+    params: &[i64],
+    above: &Value,
+    middle: &Value,
+    below: &Value,
+) -> Result<Value, NoMemory>
+    requires { length params.now ≡ 2 }
+    ensures { IfOk result (λ made. made
+        ≡ stencil_of (param_of params.now 0) (param_of params.now 1) above.now middle.now below.now) }
+{
+    stencil(alloc, params[0], params[1], above, middle, below)
 }
