@@ -1,11 +1,11 @@
 -- Cells one after another, and the rows that they make.
-use Rattle.std.proofs.Common.{◌≡◌, ℕ, ◌+◌, ◌-◌, ◌*◌, ◌<◌, ◌≤◌, zero, suc, ℤ, List, [], ◌∷◌, ◌++◌, length, take, drop, map, get_or, append_assoc, refl, sym, ◌∙◌, ap, ap₂, subst, arith, All}
+use Rattle.std.proofs.Common.{◌≡◌, ℕ, ◌+◌, ◌-◌, ◌*◌, ◌<◌, ◌≤◌, zero, suc, ℤ, List, [], ◌∷◌, ◌++◌, length, take, drop, map, get_or, append_assoc, refl, sym, ◌∙◌, ap, ap₂, arith, All}
 use Rattle.std.proofs.Math.Nat.{suc-mul, mul-le-mul_left}
 use Rattle.std.proofs.lemmas.List.{take-map, drop-map, take_at, drop_at, drop-drop, length-append, append-nil, length-drop, length-take-le}
 use Rattle.std.proofs.lemmas.List.Elements.{All-head, All-tail, All-nil, All-cons}
 use Rattle.nim_base.specs.Value.{Grid, rows_of, cells_of}
 use Rattle.nim_base.specs.Functions.{line_of, row_by, grid_by}
-use Rattle.std.specs.List.{range_with_len, flat_map, filter}
+use Rattle.std.specs.List.{range_with_len}
 use Rattle.std.proofs.lemmas.List.Concat.{flat_map-append}
 use Rattle.std.proofs.lemmas.List.FromFn.{map-range_with_len_more, length-map-range_with_len}
 

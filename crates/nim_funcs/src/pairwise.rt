@@ -46,7 +46,12 @@ impl Pairing for Greater {
 
 /// Adds the cells of one row, from the rows at its place.
 #[tactic(auto, using(crate::proofs::CellRows::row_more))]
-fn push_pairs<P: Pairing>(cells: &mut Vec<i64>, first: &[i64], second: &[i64], width: u32) -> Result<(), NoMemory>
+fn push_pairs<P: Pairing>(
+    cells: &mut Vec<i64>,
+    first: &[i64],
+    second: &[i64],
+    width: u32,
+) -> Result<(), NoMemory>
     ensures { OnOk result (cells.new.items ≡ cells.old.items ++ row_by width (λ column.
         P.pair (cell_at first.now column) (cell_at second.now column))) }
 {

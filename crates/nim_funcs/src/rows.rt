@@ -45,7 +45,11 @@ pub fn cell_or_zero(row: &[i64], column: usize) -> i64
 pub fn cell_in_column(row: &[i64], column: i64) -> i64
     ensures { result ≡ at_column column row.now }
 {
-    if column < 0 { 0 } else { cell_or_zero(row, column as usize) }
+    if column < 0 {
+        0
+    } else {
+        cell_or_zero(row, column as usize)
+    }
 }
 
 /// Adds a row where it passes.

@@ -31,7 +31,12 @@ fn one(alloc: Global, value: Value, shape: Shape) -> Result<Vec<Value>, NoMemory
 }
 
 /// The two results of a task, each fitted to its shape.
-fn two(alloc: Global, values: (Value, Value), first: Shape, second: Shape) -> Result<Vec<Value>, NoMemory>
+fn two(
+    alloc: Global,
+    values: (Value, Value),
+    first: Shape,
+    second: Shape,
+) -> Result<Vec<Value>, NoMemory>
     requires first { 1 ≤ first.width }
     requires second { 1 ≤ second.width }
     ensures { IfOk result (λ written. written.items ≡ fitted values.0 first ∷ (fitted values.1 second ∷ [])) }
@@ -62,22 +67,47 @@ pub fn apply(
         ≡ apply_of func params.now (reads_of values.now reads.now) shapes.now) }
 {
     match func {
-        Func::Set => one(alloc, Value::filled(alloc, shapes[0], params[0])?, shapes[0]),
+        Func::Set => one(
+            alloc,
+            Value::filled(alloc, shapes[0], params[0])?,
+            shapes[0],
+        ),
         Func::Copy => alone(alloc, fit(alloc, &values[reads[0]], shapes[0])?),
         Func::Addc => one(alloc, addc(alloc, &values[reads[0]], params[0])?, shapes[0]),
         Func::Mulc => one(alloc, mulc(alloc, &values[reads[0]], params[0])?, shapes[0]),
-        Func::Add => one(alloc, add(alloc, &values[reads[0]], &values[reads[1]])?, shapes[0]),
-        Func::Sub => one(alloc, sub(alloc, &values[reads[0]], &values[reads[1]])?, shapes[0]),
-        Func::Max => one(alloc, max(alloc, &values[reads[0]], &values[reads[1]])?, shapes[0]),
+        Func::Add => one(
+            alloc,
+            add(alloc, &values[reads[0]], &values[reads[1]])?,
+            shapes[0],
+        ),
+        Func::Sub => one(
+            alloc,
+            sub(alloc, &values[reads[0]], &values[reads[1]])?,
+            shapes[0],
+        ),
+        Func::Max => one(
+            alloc,
+            max(alloc, &values[reads[0]], &values[reads[1]])?,
+            shapes[0],
+        ),
         Func::Sum => one(alloc, sum(alloc, values, reads)?, shapes[0]),
         Func::Total => one(alloc, total(alloc, values, reads)?, shapes[0]),
         Func::Count => one(alloc, count(alloc, values, reads)?, shapes[0]),
         Func::Stencil => {
             let (above, middle, below) = (&values[reads[0]], &values[reads[1]], &values[reads[2]]);
-            one(alloc, stencil_by(alloc, params, above, middle, below)?, shapes[0])
+            one(
+                alloc,
+                stencil_by(alloc, params, above, middle, below)?,
+                shapes[0],
+            )
         }
         Func::Keep => one(alloc, keep_by(alloc, &values[reads[0]], params)?, shapes[0]),
-        Func::Split => two(alloc, split_by(alloc, &values[reads[0]], params)?, shapes[0], shapes[1]),
+        Func::Split => two(
+            alloc,
+            split_by(alloc, &values[reads[0]], params)?,
+            shapes[0],
+            shapes[1],
+        ),
         Func::Group | Func::Merge => Ok(Vec::new(alloc)),
     }
 }

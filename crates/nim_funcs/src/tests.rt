@@ -19,12 +19,21 @@ fn value_of(rt: &impl Abort, alloc: Global, width: u32, rows: &[&[i64]]) -> Resu
         cells.extend_from_slice(row)?;
     }
     let count = rows.len();
-    assert!(rt; width >= 1 && count < 100 && cells.len() == count * width as usize, "rows of one width");
+    assert!(rt;
+        width >= 1 && count < 100 && cells.len() == count * width as usize,
+        "rows of one width"
+    );
     Ok(Value::from_cells(width, count as u32, cells))
 }
 
 /// Asserts that a value has these rows.
-fn has_rows(rt: &impl Abort, alloc: Global, value: &Value, width: u32, rows: &[&[i64]]) -> Result<(), Fail> {
+fn has_rows(
+    rt: &impl Abort,
+    alloc: Global,
+    value: &Value,
+    width: u32,
+    rows: &[&[i64]],
+) -> Result<(), Fail> {
     let expected = value_of(rt, alloc, width, rows)?;
     assert_eq!(rt; value.width(), width);
     assert_eq!(rt; value.cells(), expected.cells());

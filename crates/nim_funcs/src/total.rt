@@ -17,7 +17,9 @@ fn one_cell(alloc: Global, cell: i64) -> Result<Value, NoMemory>
 fn sum_from(start: i64, cells: &[i64]) -> i64
     ensures { result ≡ fold plus start cells.now }
 {
-    cells.iter().fold(start, |sum, cell| sum.wrapping_add(*cell))
+    cells
+        .iter()
+        .fold(start, |sum, cell| sum.wrapping_add(*cell))
 }
 
 #[tactic(auto, using(crate::proofs::SoFar::total_more))]

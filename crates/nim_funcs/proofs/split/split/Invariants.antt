@@ -1,5 +1,5 @@
-use Rattle.std.proofs.Common.{◌≡◌, ◌&&◌, not}
-use Rattle.std.specs.Prelude.{int_le, int_lt}
+use Rattle.std.proofs.Common.{◌≡◌, not}
+use Rattle.std.specs.Prelude.{int_lt}
 use Rattle.nim_base.specs.Functions.{at_column}
 use Rattle.nim_funcs.proofs.Kept.{kept_to}
 use Rattle.nim_funcs.proofs.split.split.Given as goal

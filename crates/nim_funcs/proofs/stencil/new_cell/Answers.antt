@@ -1,4 +1,4 @@
-use Rattle.std.proofs.Common.{◌≡◌, ◌∙◌, ap}
+use Rattle.std.proofs.Common.{◌∙◌, ap}
 use mir.Syntax.{w64}
 use Rattle.std.specs.Int.{int_wrapping_mul}
 use Rattle.std.proofs.lemmas.Int.{to_z-of_z}
