@@ -53,7 +53,9 @@ pub record HasCounts {A B C : Type 0} (func : Func) (numbers : List A) (sources 
 
 -- the functions that `apply` knows so far
 abbrev pub IsKnown : Func → Type 0
-IsKnown func = func ≡ Addc
+IsKnown Group = ⊥
+IsKnown Merge = ⊥
+IsKnown _ = Unit {0}
 
 -- What a function gives for its parameters and the values that it reads, before each result is fitted. The
 -- shape is the first that it writes.

@@ -1,6 +1,6 @@
 -- What each function gives, on lists of rows. A cell that isn't there is 0, sums and products wrap, and no result
 -- is fitted to a shape yet.
-use Rattle.std.specs.Prelude.{ℕ, ◌+◌, ◌-◌, zero, suc, max, Bool, not, ◌&&◌, ◌==◌, if◌then◌else◌, ℤ, pos, negsuc, int_lt, int_le, List, [], ◌∷◌, length, map, fold, filter, slice_index_or}
+use Rattle.std.specs.Prelude.{ℕ, ◌+◌, ◌-◌, max, Bool, not, ◌&&◌, ◌==◌, if◌then◌else◌, ℤ, pos, negsuc, int_lt, int_le, List, [], ◌∷◌, length, map, fold, filter, slice_index_or}
 use Rattle.std.specs.Ordering.{int_eq}
 use Rattle.std.specs.Int.{int_wrapping_add, int_wrapping_sub, int_wrapping_mul, int_wrapping_div_euclid, int_max, w64}
 use Rattle.std.specs.List.{flat_map, sum_by, range_with_len}
@@ -37,6 +37,14 @@ addc_of number grid = each_cell (λ cell. int_wrapping_add w64 cell number) grid
 -- mulc: each cell times the number
 abbrev pub mulc_of : ℤ → Grid → Grid
 mulc_of number grid = each_cell (λ cell. int_wrapping_mul w64 cell number) grid
+
+-- a row of a value, empty where there is none
+abbrev pub line_of : Grid → ℕ → List ℤ
+line_of grid row = slice_index_or grid.rows row []
+
+-- the cell of a row, 0 where there is none
+abbrev pub cell_at : List ℤ → ℕ → ℤ
+cell_at row column = slice_index_or row column (pos 0)
 
 -- the row of a width that has a given cell in each column
 abbrev pub row_by : ℕ → (ℕ → ℤ) → List ℤ
@@ -96,37 +104,29 @@ count_of reads = single (pos (sum_by (λ grid. length grid.rows) reads))
 abbrev pub quotient : ℤ → ℤ → ℤ
 quotient dividend divisor = if int_eq divisor (pos 0) then pos 0 else int_wrapping_div_euclid w64 dividend divisor
 
--- the cell above a place: over the first row lies the last row of another value
-abbrev pub up_of : Grid → Grid → ℕ → ℕ → ℤ
-up_of above middle zero column = cell_of above (length above.rows - 1) column
-up_of above middle (suc row) column = cell_of middle row column
+-- the row above: over the first row lies the last row of another value
+abbrev pub row_above : Grid → Grid → ℕ → List ℤ
+row_above above middle row = if row == 0 then line_of above (length above.rows - 1) else line_of middle (row - 1)
 
--- the cell below a place: under the last row lies the first row of another value
-abbrev pub down_of : Grid → Grid → ℕ → ℕ → ℤ
-down_of middle below row column =
-    if row + 1 == length middle.rows then cell_of below 0 column else cell_of middle (row + 1) column
+-- the row below: under the last row lies the first row of another value
+abbrev pub row_below : Grid → Grid → ℕ → List ℤ
+row_below middle below row = if row + 1 == length middle.rows then line_of below 0 else line_of middle (row + 1)
 
--- the cell to the left of a place, 0 before the first column
-abbrev pub left_of : Grid → ℕ → ℕ → ℤ
-left_of middle row zero = pos 0
-left_of middle row (suc column) = cell_of middle row column
+-- the cell to the left of a column, 0 before the first
+abbrev pub left_of : List ℤ → ℕ → ℤ
+left_of row column = if column == 0 then pos 0 else cell_at row (column - 1)
 
--- the cell to the right of a place
-abbrev pub right_of : Grid → ℕ → ℕ → ℤ
-right_of middle row column = cell_of middle row (column + 1)
-
--- a factor times the cell of a place, and its four neighbours, divided
-abbrev pub stencil_cell : ℤ → ℤ → Grid → Grid → Grid → ℕ → ℕ → ℤ
-stencil_cell factor divisor above middle below row column =
-    quotient
-    (plus (plus (plus (plus (int_wrapping_mul w64 factor (cell_of middle row column))
-    (up_of above middle row column)) (down_of middle below row column)) (left_of middle row column)) (right_of middle row column))
-    divisor
+-- a factor times the cell of a column, and its four neighbours, divided
+abbrev pub stencil_cell : ℤ → ℤ → List ℤ → List ℤ → List ℤ → ℕ → ℤ
+stencil_cell factor divisor up row down column =
+    let here = int_wrapping_mul w64 factor (cell_at row column) in
+    quotient (plus (plus (plus (plus here (cell_at up column)) (cell_at down column)) (left_of row column)) (cell_at row (column + 1))) divisor
 
 -- stencil: in the shape of the middle value
 abbrev pub stencil_of : ℤ → ℤ → Grid → Grid → Grid → Grid
 stencil_of factor divisor above middle below =
-    grid_by (length middle.rows) middle.width (stencil_cell factor divisor above middle below)
+    grid_by (length middle.rows) middle.width
+    (λ row. stencil_cell factor divisor (row_above above middle row) (line_of middle row) (row_below middle below row))
 
 -- the cell of a row at a column that may be any number, 0 where there is none
 abbrev pub at_column : ℤ → List ℤ → ℤ

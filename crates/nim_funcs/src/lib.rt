@@ -2,8 +2,15 @@
 #![tactic(auto)]
 
 mod cellwise;
+mod keep;
+mod pairwise;
+mod rows;
+mod split;
+mod stencil;
+mod sum;
 mod table;
 #[cfg(test)]
 mod tests;
+mod total;
 
 pub use table::apply;

@@ -2,7 +2,7 @@ use Rattle.std.proofs.Common.{rules, ◌≡◌, ◌∙◌, ap, map, ℤ, List, l
 use Rattle.std.specs.Int.{int_wrapping_add, w64}
 use Rattle.std.proofs.lemmas.Int.{to_z-of_z}
 use Rattle.nim_base.specs.Value.{rows_of}
-use Rattle.nim_funcs.proofs.Rows.{mapped}
+use Rattle.nim_funcs.proofs.CellRows.{mapped}
 use Rattle.nim_funcs.proofs.cellwise.addc.Goals as goal
 
 pub returns : goal.returns
