@@ -23,12 +23,14 @@ pub record Front : Type 0 where
   pub len : ℕ
   pub kind : Option TokenKind
 
+-- how many bytes a text has, 0 where there is none
+abbrev pub found_length : Option (List ℕ) → ℕ
+found_length None = 0
+found_length (Some text) = length text
+
 -- how many bytes the sign at the front has, 0 where there is none
 abbrev pub sign_length : List ℕ → ℕ
-sign_length text = found_length (find (starts_with nat_eq text) signs) where
-  found_length : Option (List ℕ) → ℕ
-  found_length None = 0
-  found_length (Some sign) = length sign
+sign_length text = found_length (find (starts_with nat_eq text) signs)
 
 -- the longest token at the front: a name begins with a letter, a number is digits
 abbrev pub front_of : List ℕ → Front

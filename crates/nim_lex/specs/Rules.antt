@@ -3,7 +3,7 @@ use Rattle.std.specs.Prelude.{ℕ, ◌^◌, nat_lt, if◌then◌else◌, Bool, t
 use Rattle.std.specs.List.{list_any}
 use Rattle.nim_lex.specs.declared.token.TokenKind.{TokenKind}
 use Rattle.nim_lex.specs.declared.token.TokenKind.TheVariants.{Name, Number, Sign}
-use Rattle.nim_lex.specs.Pieces.{Piece}
+use Rattle.nim_lex.specs.Pieces.{Piece, front_of, piece}
 
 -- the driver has more than 1,048,576 bytes
 abbrev pub is_too_long : List ℕ → Bool
@@ -51,6 +51,10 @@ first_broken (rule ∷ rules) ps = if list_any rule.breaks ps then Some rule.num
 -- the smallest rule that the pieces of a line break
 unfoldable pub broken_by : List Piece → Option ℕ
 broken_by ps = first_broken line_rules ps
+
+-- the smallest rule that what stands at the front of a text breaks
+abbrev pub front_rule : List ℕ → Option ℕ
+front_rule text = broken_by (piece 0 (front_of text) ∷ [])
 
 -- the smaller of two broken rules, where there are two
 abbrev pub smaller : Option ℕ → Option ℕ → Option ℕ

@@ -25,11 +25,15 @@ pub record Line : Type 0 where
   pub at : ℕ
   pub bytes : List ℕ
 
+-- the line with a number, at a place
+abbrev pub line_at : ℕ → ℕ → List ℕ → Line
+line_at number at bytes = record { number = number; at = at; bytes = bytes }
+
 -- the lines that follow in the source, the first with this number and at this place
 abbrev pub numbered : ℕ → ℕ → List (List ℕ) → List Line
 numbered number at [] = []
 numbered number at (bytes ∷ rest) =
-    record { number = number; at = at; bytes = bytes } ∷ numbered (number + 1) (at + length bytes + 1) rest
+    line_at number at bytes ∷ numbered (number + 1) (at + length bytes + 1) rest
 
 -- the lines of a driver: their numbers count from 1
 abbrev pub lines_of : List ℕ → List Line

@@ -1,9 +1,9 @@
-ghost use Rattle.std.specs.Prelude.{◌≡◌, ◌<◌, ◌≤◌, ◌^◌, ◌-◌, length, min, MatchResult, IfOk, IfErr, OnOk, [], ◌∷◌, None, Some};
+ghost use Rattle.std.specs.Prelude.{◌≡◌, ◌<◌, ◌≤◌, ◌^◌, ◌-◌, length, min, MatchResult, IfOk, IfErr, OnOk, None, Some};
 ghost use Rattle.std.specs.List.{prefix_len};
 ghost use Rattle.std.specs.Char.{is_ascii_digit};
 ghost use Rattle.nim_lex.specs.Bytes.{is_blank, is_name_byte};
-ghost use Rattle.nim_lex.specs.Pieces.{front_of, number_of, sign_length, piece};
-ghost use Rattle.nim_lex.specs.Rules.{broken_by};
+ghost use Rattle.nim_lex.specs.Pieces.{front_of, number_of, sign_length};
+ghost use Rattle.nim_lex.specs.Rules.{front_rule};
 
 use crate::TokenKind;
 
@@ -30,6 +30,7 @@ pub struct Found {
     pub kind: Result<TokenKind, u8>,
 }
 
+/// Space, tab or carriage return.
 pub fn is_blank(b: u8) -> bool
     ensures { result ≡ is_blank b }
 {
@@ -81,31 +82,45 @@ fn sign_len(text: &[u8]) -> usize
     }
 }
 
-#[tactic(auto, unfolding(crate::specs::Rules::broken_by))]
 /// The longest token at the front of a text that begins with no blank and no comment.
+#[tactic(auto, unfolding(crate::specs::Rules::broken_by))]
 pub fn front(text: &[u8]) -> Found
     requires { 0 < length text.now }
     ensures len { result.len ≡ (front_of text.now).len }
     ensures some { 0 < result.len }
     ensures within { result.len ≤ length text.now }
     ensures token { IfOk result.kind (λ kind. (front_of text.now).kind ≡ Some kind) }
-    ensures sound { OnOk result.kind (broken_by (piece 0 (front_of text.now) ∷ []) ≡ None) }
-    ensures broken { IfErr result.kind (λ rule. broken_by (piece 0 (front_of text.now) ∷ []) ≡ Some rule) }
+    ensures sound { OnOk result.kind (front_rule text.now ≡ None) }
+    ensures broken { IfErr result.kind (λ rule. front_rule text.now ≡ Some rule) }
 {
     let first = text[0];
     if first.is_ascii_alphabetic() {
         let len = name_len(text);
-        let kind = if len > LONGEST_NAME { Err(LONG_NAME) } else { Ok(TokenKind::Name) };
+        let kind = if len > LONGEST_NAME {
+            Err(LONG_NAME)
+        } else {
+            Ok(TokenKind::Name)
+        };
         Found { len, kind }
     } else if first.is_ascii_digit() {
         let len = digits_len(text);
         let value = number(&text[..len]);
-        let kind = if value > MOST { Err(BIG_NUMBER) } else { Ok(TokenKind::Number(value)) };
+        let kind = if value > MOST {
+            Err(BIG_NUMBER)
+        } else {
+            Ok(TokenKind::Number(value))
+        };
         Found { len, kind }
     } else {
         match sign_len(text) {
-            0 => Found { len: 1, kind: Err(STRAY) },
-            len => Found { len, kind: Ok(TokenKind::Sign) },
+            0 => Found {
+                len: 1,
+                kind: Err(STRAY),
+            },
+            len => Found {
+                len,
+                kind: Ok(TokenKind::Sign),
+            },
         }
     }
 }

@@ -1,7 +1,8 @@
-ghost use Rattle.std.specs.Prelude.{◌≡◌, IfOk, IfErr, None};
+ghost use Rattle.std.specs.Prelude.{◌≡◌, IfOk, IfErr, None, length, All};
 ghost use Rattle.std.specs.List.{position_or_len};
 ghost use Rattle.nim_lex.specs.Bytes.{is_newline};
 ghost use Rattle.nim_lex.specs.Source.{tokens_of, refusal_of, IsRefusal};
+ghost use Rattle.nim_lex.specs.Texts.{HasItsText, InOrder};
 
 use crate::line::read_line;
 use crate::{LexFault, Token};
@@ -28,6 +29,8 @@ fn line_len(text: &[u8]) -> usize
 pub fn tokens(alloc: Global, bytes: &[u8]) -> Result<Vec<Token>, LexFault>
     ensures accepted { IfOk result (λ all. refusal_of bytes.now ≡ None) }
     ensures tokens { IfOk result (λ all. all.items ≡ tokens_of bytes.now) }
+    ensures texts { IfOk result (λ all. All (HasItsText bytes.now) all.items) }
+    ensures order { IfOk result (λ all. InOrder 0 (length bytes.now) all.items) }
     ensures refused { IfErr result (IsRefusal (refusal_of bytes.now)) }
 {
     if bytes.len() > MOST_BYTES {

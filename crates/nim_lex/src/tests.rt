@@ -74,10 +74,18 @@ fn the_first_refused_line_and_its_smallest_rule(rt: HostRuntime) {
         (b"\n\n_a".as_slice(), 3, 2),
         (b"# \xc3\xa9\n\xc3\xa9".as_slice(), 2, 2),
         (b"abcdefgh_23456789".as_slice(), 1, 3),
-        (b"a\nabcdefgh_23456789 9223372036854775809\n$".as_slice(), 2, 3),
+        (
+            b"a\nabcdefgh_23456789 9223372036854775809\n$".as_slice(),
+            2,
+            3,
+        ),
         (b"abcdefgh_23456789 $".as_slice(), 1, 2),
         (b"9223372036854775809".as_slice(), 1, 4),
-        (b"\n100000000000000000000000 abcdefghijklmnopq".as_slice(), 2, 3),
+        (
+            b"\n100000000000000000000000 abcdefghijklmnopq".as_slice(),
+            2,
+            3,
+        ),
         (b"1\n100000000000000000000000 # $".as_slice(), 2, 4),
     ] {
         let fault = tokens(rt.alloc(), text).err();

@@ -1,4 +1,4 @@
-use Rattle.std.proofs.Common.{◌≡◌, ◌+◌, Bool, true, false, get_or, sym, ◌∙◌, arith, rules, eq-eqb, drop, take, [], ◌∷◌, None, Some,  ◌-◌, length}
+use Rattle.std.proofs.Common.{◌≡◌, ◌+◌, Bool, true, false, get_or, sym, ◌∙◌, arith, rules, eq-eqb, drop, take, [], ◌∷◌, None, Some, ◌-◌, length}
 use Rattle.std.proofs.lemmas.List.{take_rest, length-drop}
 use Rattle.nim_lex.specs.Bytes.{is_hash, is_blank}
 use Rattle.nim_lex.specs.Pieces.{front_of, piece, pieces}
@@ -33,21 +33,22 @@ loop-at-preserved c =
     let sound = (rw text at c.front-found.ensures.sound) in
     let broken = (rw text at c.front-found.ensures.broken) in
     elim c.match-found.branch [
-      in-Ok+in_ok-push-in-Ok w ↦
-        let here : broken_by (p ∷ []) ≡ None = broken-piece (c.args.start + i) (front_of (drop i line)) ∙ (rw w.in-Ok.is at sound) in
-        record {
-          within = omega (arith, length-drop i line);
-          broken = rw w.broken-is (after_sound c.loop-at.broken p rest (pieces c.args.start 0 line) here (rw step at c.loop-at.invariant.broken));
-          tokens = λ none. rw (w.tokens-is, w.in_ok-push-in-Ok.ensures.items)
-            (after_token c.args.number len p w.in-Ok.kind rest c.loop-at.tokens.items _ is_len (rw w.in-Ok.is at token) (rw step at (c.loop-at.invariant.tokens (sym w.broken-is ∙ none))));
-        }
-    | in-Err w ↦
-        let here : broken_by (p ∷ []) ≡ Some w.in-Err.rule = broken-piece (c.args.start + i) (front_of (drop i line)) ∙ (rw w.in-Err.is at broken) in
-        record {
-          within = omega (arith, length-drop i line);
-          broken = rw (w.broken-is, w.smaller-broken.ensures) (after_broken c.loop-at.broken p rest (pieces c.args.start 0 line) w.in-Err.rule here (rw step at c.loop-at.invariant.broken));
-          tokens = λ none. absurd (smaller-some c.loop-at.broken w.in-Err.rule (sym w.smaller-broken.ensures ∙ sym w.broken-is ∙ none));
-        } ]
+      | in-Ok+in_ok-push-in-Ok w ↦
+          let here : broken_by (p ∷ []) ≡ None = broken-piece (c.args.start + i) (front_of (drop i line)) ∙ (rw w.in-Ok.is at sound) in
+          record {
+            within = omega (arith, length-drop i line);
+            broken = rw w.broken-is (after_sound c.loop-at.broken p rest (pieces c.args.start 0 line) here (rw step at c.loop-at.invariant.broken));
+            tokens = λ none. rw (w.tokens-is, w.in_ok-push-in-Ok.ensures.items)
+                (after_token c.args.number len p w.in-Ok.kind rest c.loop-at.tokens.items _ is_len (rw w.in-Ok.is at token) (rw step at (c.loop-at.invariant.tokens (sym w.broken-is ∙ none))));
+          }
+      | in-Err w ↦
+          let here : broken_by (p ∷ []) ≡ Some w.in-Err.rule = broken-piece (c.args.start + i) (front_of (drop i line)) ∙ (rw w.in-Err.is at broken) in
+          record {
+            within = omega (arith, length-drop i line);
+            broken = rw (w.broken-is, w.smaller-broken.ensures) (after_broken c.loop-at.broken p rest (pieces c.args.start 0 line) w.in-Err.rule here (rw step at c.loop-at.invariant.broken));
+            tokens = λ none. absurd (smaller-some c.loop-at.broken w.in-Err.rule (sym w.smaller-broken.ensures ∙ sym w.broken-is ∙ none));
+          }
+    ]
 
 pub returns-else-line-at-ne35-clause-rule : goal.returns-else-line-at-ne35-clause-rule
 returns-else-line-at-ne35-clause-rule c =

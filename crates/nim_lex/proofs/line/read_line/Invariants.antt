@@ -11,7 +11,7 @@ invariant-loop-at l = record {
   within : l.at ≤ length l.line;
   broken : smaller l.broken (broken_by (pieces (l.start + l.at) 0 (drop l.at l.line))) ≡ broken_by (pieces l.start 0 l.line);
   tokens : l.broken ≡ None → l.tokens.items ++ filter_map (token_of l.number) (pieces (l.start + l.at) 0 (drop l.at l.line))
-    ≡ l.initial.tokens.items ++ filter_map (token_of l.number) (pieces l.start 0 l.line);
+      ≡ l.initial.tokens.items ++ filter_map (token_of l.number) (pieces l.start 0 l.line);
 }
 
 abbrev pub decreases-loop-at : goal.decreases-loop-at
