@@ -1,5 +1,5 @@
 -- The text of the token at the front of a text.
-use Rattle.std.proofs.Common.{◌≡◌, ℕ, zero, suc, ◌+◌, ◌<◌, ◌≤◌, cond, ◌||◌, ◌&&◌, Bool, true, false, List, [], ◌∷◌, length, get_or, take, drop, refl, sym, subst, ◌∙◌, ap, arith, rules, None, Some}
+use Rattle.std.proofs.Common.{◌≡◌, ℕ, suc, ◌<◌, ◌≤◌, cond, ◌||◌, Bool, true, false, List, [], ◌∷◌, length, take, refl, sym, subst, ◌∙◌, ap, arith, None, Some}
 use Rattle.std.specs.Prelude.{Contains, nat_eq, Option, ◌==◌}
 use Rattle.std.specs.List.{find, list_all, prefix_len, starts_with, take_while}
 use Rattle.std.specs.Int.{is_in_range}

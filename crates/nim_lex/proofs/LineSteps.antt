@@ -1,5 +1,5 @@
 -- The pieces of what is left of a line, one step at a time.
-use Rattle.std.proofs.Common.{◌≡◌, ℕ, zero, suc, ◌+◌, ◌-◌, ◌<◌, ◌≤◌, cond, ◌||◌, Bool, true, false, List, [], ◌∷◌, ◌++◌, append_assoc, length, get_or, take, drop, refl, sym, subst, ◌∙◌, ap, add-zero, add-one, add_assoc, arith, Option, None, Some, min}
+use Rattle.std.proofs.Common.{◌≡◌, ℕ, zero, suc, ◌+◌, ◌-◌, ◌<◌, ◌≤◌, cond, ◌||◌, Bool, true, false, List, [], ◌∷◌, ◌++◌, append_assoc, length, get_or, drop, refl, sym, subst, ◌∙◌, ap, add-zero, add-one, add_assoc, arith, Option, None, Some}
 use Rattle.std.proofs.Math.Seq.{drop-cons}
 use Rattle.std.proofs.lemmas.List.{drop-drop, drop_all}
 use Rattle.std.specs.List.{list_any, filter_map}
@@ -8,7 +8,7 @@ use Rattle.nim_lex.specs.declared.token.TokenKind.{TokenKind}
 use Rattle.nim_lex.specs.Source.{token_of}
 use Rattle.nim_lex.specs.Bytes.{is_blank, is_hash}
 use Rattle.nim_lex.specs.Pieces.{Front, Piece, front_of, piece, pieces}
-use Rattle.nim_lex.specs.Rules.{LineRule, broken_by, first_broken, line_rules, smaller, is_stray, is_long_name, is_big_number}
+use Rattle.nim_lex.specs.Rules.{broken_by, smaller, is_stray, is_long_name, is_big_number}
 
 -- after the bytes that belong to the piece before
 skip : (at n : ℕ) (xs : List ℕ) → pieces at n xs ≡ pieces (at + n) 0 (drop n xs)

@@ -1,8 +1,8 @@
 -- The rules that refuse a driver's text, by number.
-use Rattle.std.specs.Prelude.{ℕ, ◌^◌, nat_lt, if◌then◌else◌, Bool, true, false, List, [], ◌∷◌, length, min, Option, None, Some}
+use Rattle.std.specs.Prelude.{ℕ, nat_lt, if◌then◌else◌, Bool, true, false, List, [], ◌∷◌, length, min, Option, None, Some}
 use Rattle.std.specs.List.{list_any}
 use Rattle.nim_lex.specs.declared.token.TokenKind.{TokenKind}
-use Rattle.nim_lex.specs.declared.token.TokenKind.TheVariants.{Name, Number, Sign}
+use Rattle.nim_lex.specs.declared.token.TokenKind.TheVariants.{Name, Number}
 use Rattle.nim_lex.specs.Pieces.{Piece, front_of, piece}
 
 -- the driver has more than 1,048,576 bytes

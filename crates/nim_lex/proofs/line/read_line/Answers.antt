@@ -1,9 +1,9 @@
-use Rattle.std.proofs.Common.{◌≡◌, ◌+◌, Bool, true, false, get_or, sym, ◌∙◌, arith, rules, eq-eqb, drop, take, [], ◌∷◌, None, Some, ◌-◌, length}
+use Rattle.std.proofs.Common.{◌≡◌, ◌+◌, true, false, get_or, sym, ◌∙◌, arith, rules, eq-eqb, drop, take, [], ◌∷◌, None, Some, ◌-◌, length}
 use Rattle.std.proofs.lemmas.List.{take_rest, length-drop}
-use Rattle.nim_lex.specs.Bytes.{is_hash, is_blank}
+use Rattle.nim_lex.specs.Bytes.{is_hash}
 use Rattle.nim_lex.specs.Pieces.{front_of, piece, pieces}
 use Rattle.nim_lex.specs.Rules.{broken_by}
-use Rattle.nim_lex.proofs.LineSteps.{step_blank, step_token, at_hash, at_end, broken-cons, broken-nil, broken-piece, smaller_assoc, smaller-none, smaller-some, after_sound, after_broken, after_token}
+use Rattle.nim_lex.proofs.LineSteps.{step_blank, step_token, at_hash, at_end, broken-nil, broken-piece, smaller-none, smaller-some, after_sound, after_broken, after_token}
 use Rattle.nim_lex.proofs.line.read_line.Goals as goal
 use Rattle.nim_lex.proofs.line.read_line.Goals.{in-Ok+in_ok-push-in-Ok, in-Err}
 

@@ -1,4 +1,4 @@
-use Rattle.std.proofs.Common.{◌≡◌, ◌+◌, ◌-◌, ◌++◌, append_assoc, List, Bool, true, false, None, Some, take, drop, length, sym, ◌∙◌, ap, arith, rules}
+use Rattle.std.proofs.Common.{◌≡◌, ◌+◌, ◌-◌, ◌++◌, append_assoc, false, None, Some, take, drop, length, sym, ◌∙◌, ap, arith, rules}
 use Rattle.std.proofs.lemmas.List.{take_rest, length-drop}
 use Rattle.std.proofs.lemmas.List.Sums.{prefix_len-le-length}
 use Rattle.std.proofs.lemmas.Grind.{common_steps}
@@ -6,7 +6,7 @@ use Rattle.std.specs.Prelude.{not}
 use Rattle.std.specs.List.{flat_map, position_or_len}
 use Rattle.nim_lex.specs.Bytes.{is_newline}
 use Rattle.nim_lex.specs.Rules.{broken_by, is_too_long}
-use Rattle.nim_lex.specs.Source.{Line, cut, first_refusal, line_at, line_tokens, lines_of, numbered, pieces_of, tokens_of}
+use Rattle.nim_lex.specs.Source.{Line, cut, first_refusal, line_at, line_tokens, numbered, pieces_of, tokens_of}
 use Rattle.nim_lex.proofs.SourceSteps.{step_line, refusal_here, refusal_later}
 use Rattle.nim_lex.proofs.SourceTexts.{texts, order}
 use Rattle.nim_lex.proofs.scan.tokens.Goals as goal
