@@ -61,16 +61,16 @@ passes m goes = unless_full m m.full goes
 items_print_nothing : (m : Machine) (items : List Item) → (items_asked m items).driver.output ≡ m.driver.output
 items_print_nothing m [] = refl
 items_print_nothing m (Run stmt ∷ rest) = either (nat_le m.steps m.driver.count) where
-    either : (b : Bool) → (if b then m else record m { driver = passed m.driver rest; asked = stmt_asked (out-Stmt stmt) }).driver.output ≡ m.driver.output
-    either false = refl
-    either true = refl
+  either : (b : Bool) → (if b then m else record m { driver = passed m.driver rest; asked = stmt_asked (out-Stmt stmt) }).driver.output ≡ m.driver.output
+  either false = refl
+  either true = refl
 items_print_nothing m (Again turns body ∷ rest) = refl
 
 pub asking_prints_nothing : (m : Machine) → (after_ask m).driver.output ≡ m.driver.output
 asking_prints_nothing m = either m.full where
-    either : (full : Bool) → (if full then m else items_asked m m.driver.todo).driver.output ≡ m.driver.output
-    either false = items_print_nothing m m.driver.todo
-    either true = refl
+  either : (full : Bool) → (if full then m else items_asked m m.driver.todo).driver.output ≡ m.driver.output
+  either false = items_print_nothing m m.driver.todo
+  either true = refl
 
 -- the block that is asked for is there, and is given as many arguments as it takes
 abbrev IsAllowed : Job → ℕ → List ℤ → Type 0
@@ -157,13 +157,13 @@ items_known m (Again turns body ∷ rest) = again_known (nat_le m.steps m.driver
 -- only asks of these kinds come
 pub known : (m : Machine) → is_known (ask_of m) ≡ true
 known m = either m.full where
-    either : (full : Bool) → is_known (if full then Ask.Limit else items_ask m m.driver.todo) ≡ true
-    either false = items_known m m.driver.todo
-    either true = refl
+  either : (full : Bool) → is_known (if full then Ask.Limit else items_ask m m.driver.todo) ≡ true
+  either false = items_known m m.driver.todo
+  either true = refl
 
 -- where the machine says that it is finished it isn't full
 pub finished_open : (m : Machine) → ask_of m ≡ Ask.Finished → m.full ≡ false
 finished_open m is = either m.full is where
-    either : (full : Bool) → (if full then Ask.Limit else items_ask m m.driver.todo) ≡ Ask.Finished → full ≡ false
-    either false is = refl
-    either true is = absurd cc
+  either : (full : Bool) → (if full then Ask.Limit else items_ask m m.driver.todo) ≡ Ask.Finished → full ≡ false
+  either false is = refl
+  either true is = absurd cc

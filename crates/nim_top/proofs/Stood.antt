@@ -81,33 +81,34 @@ output_goes job m next values var text stands is printed same =
     let quiet : tasks_next job state ≡ [] = items_quiet job state (machine_at job state) state.driver.todo var asks in
     let kept : (step job state).values ≡ state.values = (step_moves job state).0 ∙ ap (after_tasks (shapes_of job.vars) state.values) quiet in
     elim (leb_tells sum_before output_limit) [
-      inl fits ↦
-        let stepped : next ≡ machine_at job (step job state) =
-        same ∙ ap₂ (λ (k : Machine) (t : List ℕ). appended (after_ask k) t) at.machine whole_text
-            ∙ append_follows job state var asks (omega (arith, fits.1, length_text, length_before)) in
-        let counted : next.driver.count ≡ m.driver.count + 1 =
-        ap (λ (k : Machine). k.driver.count) (same ∙ cond-true (nat_le sum_before output_limit) _ _ fits.0) ∙ passed.1.counted in
-        let more : driver_at job next.driver.count ≡ step job state = one_more job m.driver.count next.driver.count counted in
-        record {
-          answered = ap (λ (k : Machine). k.asked) stepped;
-          counts = stands.counts;
-          at = λ _. record {
-            machine = stepped ∙ ap (machine_at job) (sym more);
-            held = at.held ∙ sym kept ∙ ap (λ (s : State). s.values) (sym more);
-          };
-          full = λ full. absurd (both_ways next.full (ap (λ (k : Machine). k.full) stepped) full);
-        }
-    | inr past ↦
-        let shut : next ≡ record (after_ask m) { asked = None; full = true } = same ∙ cond-false (nat_le sum_before output_limit) _ _ past.0 in
-        let grown = output_prints job state var asks in
-        let longer = ap length (ap (λ (s : State). s.driver.output) (one_more job m.driver.count (m.driver.count + 1) refl) ∙ grown) in
-        record {
-          answered = ap (λ (k : Machine). k.asked) shut;
-          counts = stands.counts;
-          at = λ open_end. absurd (both_ways next.full open_end (ap (λ (k : Machine). k.full) shut));
-          full = λ _. full_ends job (m.driver.count + 1) (omega (arith, passed.1.room, steps))
-              (omega (arith, past.1, longer, length-append state.driver.output (output_of job.vars state.values var), length_text, length_before));
-        } ]
+      | inl fits ↦
+          let stepped : next ≡ machine_at job (step job state) =
+          same ∙ ap₂ (λ (k : Machine) (t : List ℕ). appended (after_ask k) t) at.machine whole_text
+          ∙ append_follows job state var asks (omega (arith, fits.1, length_text, length_before)) in
+          let counted : next.driver.count ≡ m.driver.count + 1 =
+          ap (λ (k : Machine). k.driver.count) (same ∙ cond-true (nat_le sum_before output_limit) _ _ fits.0) ∙ passed.1.counted in
+          let more : driver_at job next.driver.count ≡ step job state = one_more job m.driver.count next.driver.count counted in
+          record {
+            answered = ap (λ (k : Machine). k.asked) stepped;
+            counts = stands.counts;
+            at = λ _. record {
+              machine = stepped ∙ ap (machine_at job) (sym more);
+              held = at.held ∙ sym kept ∙ ap (λ (s : State). s.values) (sym more);
+            };
+            full = λ full. absurd (both_ways next.full (ap (λ (k : Machine). k.full) stepped) full);
+          }
+      | inr past ↦
+          let shut : next ≡ record (after_ask m) { asked = None; full = true } = same ∙ cond-false (nat_le sum_before output_limit) _ _ past.0 in
+          let grown = output_prints job state var asks in
+          let longer = ap length (ap (λ (s : State). s.driver.output) (one_more job m.driver.count (m.driver.count + 1) refl) ∙ grown) in
+          record {
+            answered = ap (λ (k : Machine). k.asked) shut;
+            counts = stands.counts;
+            at = λ open_end. absurd (both_ways next.full open_end (ap (λ (k : Machine). k.full) shut));
+            full = λ _. full_ends job (m.driver.count + 1) (omega (arith, passed.1.room, steps))
+                (omega (arith, past.1, longer, length-append state.driver.output (output_of job.vars state.values var), length_text, length_before));
+          }
+    ]
 
 -- nothing is left to do: the job is done, with what is printed
 pub ends_finished : (job : Job) (m : Machine) (values : List Grid) → is_whole job ≡ true → Stands job m values → IsWithin m → ask_of m ≡ Ask.Finished
@@ -122,9 +123,9 @@ ends_finished job m values whole stands within is =
 -- the limit is reached
 pub ends_at_limit : (job : Job) (m : Machine) (values : List Grid) → Stands job m values → ask_of m ≡ Ask.Limit → serial_of job ≡ record { status = 4; bytes = [] }
 ends_at_limit job m values stands is = either m.full refl where
-    either : (full : Bool) → m.full ≡ full → serial_of job ≡ record { status = 4; bytes = [] }
-    either true full = stands.full full
-    either false open_end = limit_reached job m.driver.count (here job m values Ask.Limit (stands.at open_end) is)
+  either : (full : Bool) → m.full ≡ full → serial_of job ≡ record { status = 4; bytes = [] }
+  either true full = stands.full full
+  either false open_end = limit_reached job m.driver.count (here job m values Ask.Limit (stands.at open_end) is)
 
 -- the block that is asked for is there, and is given as many arguments as it takes
 pub run_allowed : (job : Job) (m : Machine) (values : List Grid) (block : ℕ) (args : List ℤ) → is_whole job ≡ true → Stands job m values → ask_of m ≡ Ask.Run block args

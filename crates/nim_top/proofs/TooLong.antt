@@ -23,9 +23,9 @@ refused bytes long = ap ending_from (no_job bytes long)
 tells_more : (told : Option (List (List ℕ × List ℕ))) (name : List ℕ) (P Q : List ℕ → Type 0) → ((bytes : List ℕ) → P bytes → Q bytes) → TellsSome told name P → TellsSome told name Q
 tells_more None name P Q more tells = tt
 tells_more (Some files) name P Q more tells = found (content name files) P Q more tells where
-    found : (entry : Option (List ℕ)) (P Q : List ℕ → Type 0) → ((bytes : List ℕ) → P bytes → Q bytes) → IsSomeAnd entry P → IsSomeAnd entry Q
-    found None P Q more tells = tells
-    found (Some bytes) P Q more tells = more bytes tells
+  found : (entry : Option (List ℕ)) (P Q : List ℕ → Type 0) → ((bytes : List ℕ) → P bytes → Q bytes) → IsSomeAnd entry P → IsSomeAnd entry Q
+  found None P Q more tells = tells
+  found (Some bytes) P Q more tells = more bytes tells
 
 -- the file of this name is that of the words
 abbrev pub IsLong : Option (List (List ℕ × List ℕ)) → List ℕ → Type 0

@@ -17,9 +17,9 @@ use Rattle.nim_job.specs.Whole.{has_counts, is_object, is_task}
 -- where no result is left nothing is written
 pub written_none : (values : List Grid) (objects : List Object) (results : List Grid) → results ≡ [] → written values objects results ≡ values
 written_none values objects results none = subst (λ rs. written values objects rs ≡ values) (sym none) (nothing objects) where
-    nothing : (objects : List Object) → written values objects [] ≡ values
-    nothing [] = refl
-    nothing (object ∷ objects) = refl
+  nothing : (objects : List Object) → written values objects [] ≡ values
+  nothing [] = refl
+  nothing (object ∷ objects) = refl
 
 after_tasks-append : (shapes : List Shape) (values : List Grid) (first second : List Task)
     → after_tasks shapes values (first ++ second) ≡ after_tasks shapes (after_tasks shapes values first) second
@@ -47,8 +47,9 @@ places_below n (object ∷ objects) all =
 
 shape_wide : (shapes : List Shape) (object : Object) → All (λ (s : Shape). 1 ≤ s.width) shapes → 1 ≤ (shape_at shapes object).width
 shape_wide shapes object wide = elim (cases_lt object.0 (length shapes)) [
-    inl within ↦ wide object.0 (record { width = 1; rows = 0 }) within
-  | inr past ↦ subst (λ (s : Shape). 1 ≤ s.width) (sym (get_or_past shapes object.0 (record { width = 1; rows = 0 }) past)) (omega arith) ]
+  | inl within ↦ wide object.0 (record { width = 1; rows = 0 }) within
+  | inr past ↦ subst (λ (s : Shape). 1 ≤ s.width) (sym (get_or_past shapes object.0 (record { width = 1; rows = 0 }) past)) (omega arith)
+]
 
 -- each shape that is written has a width
 pub shapes_wide : (shapes : List Shape) (objects : List Object) → All (λ (s : Shape). 1 ≤ s.width) shapes → All (λ (s : Shape). 1 ≤ s.width) (map (shape_at shapes) objects)

@@ -5,10 +5,10 @@ ghost use Rattle.nim_io.specs.Sink.{AppendsFront};
 ghost use Rattle.nim_top.specs.Answer.{HasStatus, IsAnswer, IsCutShort, IsDone, OfDriver, TellsText};
 ghost use Rattle.nim_top.specs.Words.{is_accepted, texts_of};
 
+use crate::Status;
 use crate::first_path::read_driver;
 use crate::run::run;
 use crate::words::driver_name;
-use crate::Status;
 use nim_io::{Files, LoadFault, Sink, read_all, write_all};
 use std::alloc::Global;
 
@@ -58,12 +58,7 @@ fn tell<K: Sink>(status: Status, err: &mut K)
 }
 
 // All but the text of the status.
-fn replay<L: Files, K: Sink>(
-    alloc: Global,
-    words: &[String],
-    files: &mut L,
-    out: &mut K,
-) -> Status
+fn replay<L: Files, K: Sink>(alloc: Global, words: &[String], files: &mut L, out: &mut K) -> Status
     ensures words { (result.0 ≡ 1) ↔ (is_accepted (texts_of words.now) ≡ false) }
     ensures refused { result.0 ≡ 2 → OfDriver (L.told files.old) (texts_of words.now) (HasStatus 2) }
     ensures limit { result.0 ≡ 4 → OfDriver (L.told files.old) (texts_of words.now) (HasStatus 4) }

@@ -42,7 +42,14 @@ fn run_task(
 {
     let reads = indices(alloc, task.reads.as_slice())?;
     let written = shapes_at(alloc, shapes, task.writes.as_slice())?;
-    let results = apply(alloc, task.func, task.params.as_slice(), values, &reads, &written)?;
+    let results = apply(
+        alloc,
+        task.func,
+        task.params.as_slice(),
+        values,
+        &reads,
+        &written,
+    )?;
     write(values, task.writes.as_slice(), results);
     Ok(())
 }
@@ -51,7 +58,12 @@ fn run_task(
 fn indices(alloc: Global, objects: &[Object]) -> Result<Vec<usize>, NoMemory>
     ensures { IfOk result (λ indices. indices.items ≡ map (λ object. object.0) objects.now) }
 {
-    Ok(objects.iter().map(|object| usize::from(object.0)).collect(alloc)?)
+    Ok(
+        objects
+            .iter()
+            .map(|object| usize::from(object.0))
+            .collect(alloc)?,
+    )
 }
 
 // The shapes of the objects.

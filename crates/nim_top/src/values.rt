@@ -59,7 +59,12 @@ pub fn output_text(alloc: Global, job: &Job, values: &[Value], var: u8) -> Resul
     let var = usize::from(var);
     let first = first_object(vars, var);
     let parts = vars[var].parts;
-    texts(alloc, vars[var].name.as_str(), &values[first..first + parts as usize], parts)
+    texts(
+        alloc,
+        vars[var].name.as_str(),
+        &values[first..first + parts as usize],
+        parts,
+    )
 }
 
 // The object that is part 0 of a variable.

@@ -4,10 +4,9 @@
 use nim_io::{HostFiles, HostSink, write_all};
 use nim_top::{Status, top_replay};
 use std::alloc::Global;
-use std::env;
-use std::io;
 use std::process::ExitCode;
 use std::rt::Env;
+use std::{env, io};
 
 fn main(rt: HostRuntime) -> ExitCode {
     let mut err = HostSink::err(rt.stderr());
