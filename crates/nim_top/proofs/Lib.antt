@@ -7,3 +7,7 @@ pub mod Limits
 pub mod TooLong
 pub mod Written
 pub mod Stood
+pub mod Lengths
+pub mod Fits
+pub mod Small
+pub mod Short

@@ -23,7 +23,7 @@ after_end : (job : Job) (s : State) → s.driver.todo ≡ [] → (step job s).dr
 after_end job s e = ap (λ t. (item_step job s t).driver.todo) e ∙ e
 
 -- after so many instances the others are left
-left_after : (job : Job) (n left var : ℕ) → job.body ≡ body_of (n + left) var → (driver_at job n).driver.todo ≡ map Run (body_of left var)
+pub left_after : (job : Job) (n left var : ℕ) → job.body ≡ body_of (n + left) var → (driver_at job n).driver.todo ≡ map Run (body_of left var)
 unfolding driver_at
 left_after job zero left var e = ap (map Run) e ∙ grind arith
 left_after job (suc n) left var e =

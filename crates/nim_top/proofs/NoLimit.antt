@@ -69,7 +69,7 @@ instances_taken letter (piece ∷ pieces) e =
 body_length : (dos var : ℕ) → length (body_of dos var) ≡ dos + 1
 body_length dos var = length-append (replicate dos (Do 0 [])) (Output var ∷ []) ∙ ap (λ n. n + 1) (length-replicate dos (Do 0 []))
 
-checked_is : (letter : ℕ) (made job : Job) → checked letter made ≡ Some job → made ≡ job
+pub checked_is : (letter : ℕ) (made job : Job) → checked letter made ≡ Some job → made ≡ job
 unfolding checked
 checked_is letter made job e =
     let kept = if_there (is_whole made && is_distinct (letter ∷ map letter_of made.vars)) (Some made) job e in
