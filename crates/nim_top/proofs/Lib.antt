@@ -11,3 +11,4 @@ pub mod Lengths
 pub mod Fits
 pub mod Small
 pub mod Short
+pub mod Ends

@@ -1,8 +1,10 @@
-ghost use Rattle.std.specs.Prelude.{◌≡◌, ◌≢◌, ◌↔◌, [], true, false};
+ghost use Rattle.std.specs.Prelude.{◌≡◌, ◌≢◌, ◌↔◌, ℕ, List, [], true, false, IfSome};
 ghost use Rattle.std.specs.Io.KnownBytes.{Appends};
 ghost use Rattle.nim_io.specs.Counts.{Rose};
 ghost use Rattle.nim_io.specs.Sink.{AppendsFront};
+ghost use Rattle.nim_job.specs.Versions.{KeepsVersions, ReadsVersions};
 ghost use Rattle.nim_top.specs.Answer.{HasStatus, IsAnswer, IsCutShort, IsDone, OfDriver, TellsText};
+ghost use Rattle.nim_top.specs.FirstPath.{job_of};
 ghost use Rattle.nim_top.specs.Words.{is_accepted, texts_of};
 
 use crate::Status;
@@ -27,9 +29,9 @@ pub fn top_replay<L: Files, K: Sink>(
 ) -> Status
     ensures words { (result.0 ≡ 1) ↔ (is_accepted (texts_of words.now) ≡ false) }
 
-    // The driver's bytes decide whether it is refused, and which status and bytes it has.
+    // The driver's bytes decide whether it is refused, and what is printed. No driver that is read meets a limit.
     ensures refused { result.0 ≡ 2 → OfDriver (L.told files.old) (texts_of words.now) (HasStatus 2) }
-    ensures limit { result.0 ≡ 4 → OfDriver (L.told files.old) (texts_of words.now) (HasStatus 4) }
+    ensures ends { result.0 ≢ 4 }
     ensures done { result.0 ≡ 0 → OfDriver (L.told files.old) (texts_of words.now)
         (IsDone (K.written out.old) (K.written out.new)) }
     ensures cut_short { result.0 ≡ 7 → OfDriver (L.told files.old) (texts_of words.now)
@@ -44,6 +46,9 @@ pub fn top_replay<L: Files, K: Sink>(
         → OfDriver (L.told files.old) (texts_of words.now) (IsAnswer result.0 (K.written out.old) (K.written out.new)) }
 
     ensures text { TellsText (K.written err.old) (K.written err.new) (K.faults err.old) (K.faults err.new) result.0 }
+
+    // What a task of the job reads is the content of the version that program order names.
+    ensures versions { (bytes : List ℕ) → IfSome (job_of bytes) (λ job. ReadsVersions job × KeepsVersions job) }
 {
     let status = replay(alloc, words, files, out);
     tell(status, err);
@@ -61,7 +66,7 @@ fn tell<K: Sink>(status: Status, err: &mut K)
 fn replay<L: Files, K: Sink>(alloc: Global, words: &[String], files: &mut L, out: &mut K) -> Status
     ensures words { (result.0 ≡ 1) ↔ (is_accepted (texts_of words.now) ≡ false) }
     ensures refused { result.0 ≡ 2 → OfDriver (L.told files.old) (texts_of words.now) (HasStatus 2) }
-    ensures limit { result.0 ≡ 4 → OfDriver (L.told files.old) (texts_of words.now) (HasStatus 4) }
+    ensures ends { result.0 ≢ 4 }
     ensures done { result.0 ≡ 0 → OfDriver (L.told files.old) (texts_of words.now)
         (IsDone (K.written out.old) (K.written out.new)) }
     ensures cut_short { result.0 ≡ 7 → OfDriver (L.told files.old) (texts_of words.now)
@@ -87,7 +92,7 @@ fn replay<L: Files, K: Sink>(alloc: Global, words: &[String], files: &mut L, out
 // Runs a driver's text, and writes what its job prints.
 fn answer<K: Sink>(alloc: Global, bytes: &[u8], out: &mut K) -> Status
     ensures refused { result.0 ≡ 2 → HasStatus 2 bytes.now }
-    ensures limit { result.0 ≡ 4 → HasStatus 4 bytes.now }
+    ensures ends { result.0 ≢ 4 }
     ensures done { result.0 ≡ 0 → IsDone (K.written out.old) (K.written out.new) bytes.now }
     ensures cut_short { result.0 ≡ 7 → IsCutShort (K.written out.old) (K.written out.new) bytes.now }
     ensures silent { result.0 ≢ 0 → result.0 ≢ 7 → Appends (K.written out.old) (K.written out.new) [] }
@@ -111,8 +116,9 @@ fn answer<K: Sink>(alloc: Global, bytes: &[u8], out: &mut K) -> Status
 // Writes what a job prints.
 fn print<K: Sink>(output: &[u8], out: &mut K) -> Status
     ensures done { result.0 ≡ 0 → Appends (K.written out.old) (K.written out.new) output.now }
-    ensures cut_short { result.0 ≢ 0 → (result.0 ≡ 7) × AppendsFront (K.written out.old) (K.written out.new) output.now
-        × Rose (K.faults out.old) (K.faults out.new) }
+    ensures cut_short { result.0 ≡ 7 → AppendsFront (K.written out.old) (K.written out.new) output.now }
+    ensures write { result.0 ≡ 7 → Rose (K.faults out.old) (K.faults out.new) }
+    ensures others { result.0 ≢ 0 → result.0 ≡ 7 }
 {
     match write_all(out, output) {
         Ok(()) => Status::DONE,
