@@ -6,6 +6,8 @@ mod replay;
 mod run;
 mod status;
 mod tasks;
+#[cfg(test)]
+mod tests;
 mod values;
 mod words;
 
