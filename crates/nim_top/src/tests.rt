@@ -3,9 +3,11 @@ use nim_io::{FileFail, MemFiles, MemSink};
 use std::alloc::{AllocError, Global};
 use std::test::Fail;
 
-const TWO: &str = "nimbus 1\nvar a parts 2 width 1 rows 1 fill 3\nblock b()\naddc a[i] -> a[i] with 4 each i\nend\ndo b()\noutput a\n";
+const TWO: &str =
+    "nimbus 1\nvar a parts 2 width 1 rows 1 fill 3\nblock b()\naddc a[i] -> a[i] with 4 each i\nend\ndo b()\noutput a\n";
 
-const GREATEST: &str = "nimbus 1\nvar a parts 1 width 1 rows 1 fill 9223372036854775807\nblock b()\naddc a[0] -> a[0] with 1\nend\ndo b()\noutput a\n";
+const GREATEST: &str =
+    "nimbus 1\nvar a parts 1 width 1 rows 1 fill 9223372036854775807\nblock b()\naddc a[0] -> a[0] with 1\nend\ndo b()\noutput a\n";
 
 fn sink(alloc: Global) -> MemSink {
     MemSink::new(alloc, 64, Vec::new(alloc))
@@ -20,7 +22,10 @@ fn replayed(
     err: &mut MemSink,
 ) -> Result<Status, AllocError> {
     let mut entries = Vec::new(alloc);
-    entries.push((String::from_str(alloc, "x.nb")?, Vec::from_slice(alloc, driver.as_bytes())?))?;
+    entries.push((
+        String::from_str(alloc, "x.nb")?,
+        Vec::from_slice(alloc, driver.as_bytes())?,
+    ))?;
     let mut fails = Vec::new(alloc);
     if let Some(fail) = fail {
         fails.push(fail)?;
