@@ -1,10 +1,11 @@
 -- A driver of too many bytes is refused.
-use Rattle.std.proofs.Common.{◌≡◌, ℕ, ◌<◌, Option, None, Some, List, [], length, refl, sym, ap, subst, IsSomeAnd, if◌then◌else◌}
+use Rattle.std.proofs.Common.{◌≡◌, ℕ, ◌<◌, Option, None, Some, List, [], ◌∷◌, length, refl, sym, ap, subst, IsSomeAnd, true, false, if◌then◌else◌, nat_le}
 use Rattle.std.specs.Io.KnownBytes.{Appends}
 use Rattle.std.proofs.KnownBytes.{Appends-nil}
 use Rattle.std.proofs.lemmas.Bool.{lt-leb}
 use Rattle.nim_io.specs.Files.{content, TellsSome}
 use Rattle.nim_job.specs.Serial.{Ending}
+use Rattle.nim_job.specs.declared.job.Job.{Job}
 use Rattle.nim_top.specs.Answer.{answer_of, ending_from, HasStatus, IsAnswer, OfDriver}
 use Rattle.nim_top.specs.FirstPath.{driver_job, job_of}
 use Rattle.nim_top.specs.Lines.{lines_of}
