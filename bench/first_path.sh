@@ -1,6 +1,6 @@
 #!/usr/bin/env bash
 # 64 parts of 1,024 cells and 1,000 instances of a block (64,000 tasks), beside the same loop in plain Rust.
-# Prints seconds, tasks a second and peak memory of each, three times. Needs rustc and python3.
+# Prints seconds, tasks a second and peak memory of each, three times. Needs rustc, python3 and GNU time.
 set -eu
 cd "$(dirname "$0")/.."
 work=$(mktemp -d)

@@ -1,14 +1,15 @@
-"""Runs a command once: its seconds, its tasks a second and its peak memory in MiB."""
-import os
+"""Runs a command twice: once for its seconds and tasks a second, once under GNU time for its peak memory in MiB."""
 import subprocess
 import sys
+import tempfile
 import time
 
 name, tasks, command = sys.argv[1], int(sys.argv[2]), sys.argv[3:]
 start = time.perf_counter()
-child = subprocess.Popen(command, stdout=subprocess.DEVNULL)
-_, status, usage = os.wait4(child.pid, 0)
+subprocess.run(command, stdout=subprocess.DEVNULL, check=True)
 seconds = time.perf_counter() - start
-if status != 0:
-    sys.exit(f"{name}: ended with {status}")
-print(f"{name}: {seconds:.3f} s, {tasks / seconds:,.0f} tasks a second, {usage.ru_maxrss / 1024:.1f} MiB")
+# A child that Python starts would be charged with Python's own pages.
+with tempfile.NamedTemporaryFile("r") as peak:
+    subprocess.run(["/usr/bin/time", "-f", "%M", "-o", peak.name, *command], stdout=subprocess.DEVNULL, check=True)
+    mebibytes = int(peak.read()) / 1024
+print(f"{name}: {seconds:.3f} s, {tasks / seconds:,.0f} tasks a second, {mebibytes:.1f} MiB")
