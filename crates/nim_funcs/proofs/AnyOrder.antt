@@ -1,5 +1,5 @@
 -- Sums that wrap, and greatest numbers, are the same in any order.
-use Rattle.std.proofs.Common.{◌≡◌, ℕ, ◌+◌, ◌%◌, ◌≤◌, ℤ, pos, List, [], ◌∷◌, length, map, fold, sum_by, max, refl, sym, ◌∙◌, ap, ap₂, arith, le_refl, le_trans, le_antisymm, zero-add, All}
+use Rattle.std.proofs.Common.{◌≡◌, ℕ, ◌+◌, ◌%◌, ◌≤◌, ℤ, List, [], ◌∷◌, length, map, fold, sum_by, max, refl, sym, ◌∙◌, ap, ap₂, arith, le_refl, le_trans, le_antisymm, zero-add, All}
 use Rattle.std.proofs.Math.Path.{fun_ext}
 use mir.Val.{of_z, to_z}
 use Rattle.std.specs.Int.{w64}

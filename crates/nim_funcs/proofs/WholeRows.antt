@@ -1,7 +1,7 @@
 -- Two filters by a test and its opposite share out all the elements.
-use Rattle.std.proofs.Common.{◌≡◌, ℕ, ◌+◌, ◌^◌, ◌<◌, Bool, true, false, not, ◌&&◌, cond, ℤ, pos, negsuc, int_lt, int_le, List, [], ◌∷◌, length, map, filter, refl, sym, ◌∙◌, ap, arith, mod-eq_of_lt, ◌%◌}
+use Rattle.std.proofs.Common.{◌≡◌, ℕ, ◌+◌, ◌^◌, ◌<◌, Bool, true, false, not, ◌&&◌, cond, ℤ, pos, negsuc, int_lt, int_le, List, [], ◌∷◌, length, map, filter, refl, ◌∙◌, ap, arith, mod-eq_of_lt, ◌%◌}
 use Rattle.std.specs.Int.{w64}
-use mir.Val.{SFits, to_z}
+use mir.Val.{to_z}
 use Rattle.std.proofs.lemmas.Int.{to_z-of_z}
 use Rattle.std.proofs.lemmas.Bool.{le-leb}
 use Rattle.std.proofs.lemmas.Float.{T_from_true}
