@@ -10,7 +10,7 @@ back : (n : ℕ) → of_z w64 (to_z w64 (n % 18446744073709551616)) ≡ n % 1844
 back n = of_z-to_z w64 (n % 18446744073709551616) (omega arith)
 
 -- one more summand
-onto : (n : ℕ) (cell : ℤ) → to_z w64 ((n % 18446744073709551616 + of_z w64 cell) % 18446744073709551616) ≡ plus (to_z w64 (n % 18446744073709551616)) cell
+pub onto : (n : ℕ) (cell : ℤ) → to_z w64 ((n % 18446744073709551616 + of_z w64 cell) % 18446744073709551616) ≡ plus (to_z w64 (n % 18446744073709551616)) cell
 onto n cell = ap (λ k. to_z w64 ((k + of_z w64 cell) % 18446744073709551616)) (sym (back n))
 
 -- a product and four summands, divided

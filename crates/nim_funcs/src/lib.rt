@@ -3,6 +3,7 @@
 
 mod cellwise;
 mod keep;
+mod laws;
 mod pairwise;
 mod rows;
 mod split;
@@ -13,4 +14,5 @@ mod table;
 mod tests;
 mod total;
 
+pub use laws::{add_is_sum, keep_counts_all_rows, order_is_free, split_keeps_all_rows};
 pub use table::apply;

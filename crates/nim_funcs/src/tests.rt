@@ -2,6 +2,7 @@ ghost use Rattle.std.specs.Prelude.{◌≡◌, ◌≤◌, ◌<◌, [], ◌∷◌
 ghost use Rattle.nim_base.specs.Apply.{IsKnown, HasCounts};
 
 mod cells;
+mod laws;
 mod pairs;
 mod places;
 mod whole_rows;
