@@ -1,5 +1,5 @@
 -- What tasks compute: the table of the functions. What each of them gives stands in Functions.antt.
-use Rattle.std.specs.Prelude.{◌≡◌, ℕ, ◌≤◌, ℤ, List, [], ◌∷◌, length}
+use Rattle.std.specs.Prelude.{◌≡◌, ℕ, ◌≤◌, ◌==◌, Bool, ◌&&◌, nat_le, ℤ, List, [], ◌∷◌, length}
 use Rattle.nim_base.specs.declared.number.Shape.{Shape}
 use Rattle.nim_base.specs.declared.task.Func.{Func}
 use Rattle.nim_base.specs.declared.task.Func.TheVariants.{Set, Copy, Addc, Mulc, Add, Sub, Max, Sum, Total, Count, Stencil, Keep, Group, Merge, Split}
@@ -51,11 +51,10 @@ pub record HasCounts {A B C : Type 0} (func : Func) (numbers : List A) (sources 
   pub most : length sources ≤ most_reads func
   pub writes : length results ≡ writes_of func
 
--- the functions that `apply` knows so far
-abbrev pub IsKnown : Func → Type 0
-IsKnown Group = ⊥
-IsKnown Merge = ⊥
-IsKnown _ = Unit {0}
+-- the same as a test, of how many there are
+abbrev pub has_counts : Func → ℕ → ℕ → ℕ → Bool
+has_counts func params reads writes =
+    (params == params_of func) && nat_le (fewest_reads func) reads && nat_le reads (most_reads func) && (writes == writes_of func)
 
 -- What a function gives for its parameters and the values that it reads, before each result is fitted. The
 -- shape is the first that it writes.

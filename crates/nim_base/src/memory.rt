@@ -32,8 +32,26 @@ impl Copied for u8 {
     }
 }
 
+impl Copied for u32 {
+    fn copy(&self) -> Result<u32, NoMemory> {
+        Ok(*self)
+    }
+}
+
+impl Copied for u64 {
+    fn copy(&self) -> Result<u64, NoMemory> {
+        Ok(*self)
+    }
+}
+
 impl Copied for i64 {
     fn copy(&self) -> Result<i64, NoMemory> {
         Ok(*self)
+    }
+}
+
+impl<A: Copied, B: Copied> Copied for (A, B) {
+    fn copy(&self) -> Result<(A, B), NoMemory> {
+        Ok((self.0.copy()?, self.1.copy()?))
     }
 }

@@ -36,3 +36,15 @@ impl Copied for Object {
         Ok(*self)
     }
 }
+
+impl Copied for Slot {
+    fn copy(&self) -> Result<Slot, NoMemory> {
+        Ok(*self)
+    }
+}
+
+impl Copied for Shape {
+    fn copy(&self) -> Result<Shape, NoMemory> {
+        Ok(*self)
+    }
+}

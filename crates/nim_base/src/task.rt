@@ -1,7 +1,10 @@
+ghost use Rattle.std.specs.Prelude.{◌≡◌};
+ghost use Rattle.nim_base.specs.Apply.{fewest_reads, has_counts, most_reads, params_of, writes_of};
+
 use crate::{Copied, NoMemory, Object, Seq};
 
-/// What a task computes. The meaning of each function is its equation in `specs/Apply.antt` of the
-/// crate `nim_funcs`.
+/// What a task computes. The table of the functions is `specs/Apply.antt`, and the meaning of each its
+/// equation in `specs/Functions.antt`.
 #[derive(Clone, Copy, Debug, PartialEq, Eq)]
 pub enum Func {
     Set,
@@ -44,6 +47,65 @@ pub struct Task {
     pub params: Seq<i64>,
     pub reads: Seq<Object>,
     pub writes: Seq<Object>,
+}
+
+impl Func {
+    /// How many parameters it has.
+    pub fn params(self) -> usize
+        ensures { result ≡ params_of self }
+    {
+        match self {
+            Func::Set | Func::Addc | Func::Mulc => 1,
+            Func::Stencil | Func::Group | Func::Split => 2,
+            Func::Keep => 3,
+            _ => 0,
+        }
+    }
+
+    /// The fewest values that it reads.
+    pub fn fewest_reads(self) -> usize
+        ensures { result ≡ fewest_reads self }
+    {
+        match self {
+            Func::Set => 0,
+            Func::Add | Func::Sub | Func::Max => 2,
+            Func::Stencil => 3,
+            _ => 1,
+        }
+    }
+
+    /// The most values that it reads.
+    pub fn most_reads(self) -> usize
+        ensures { result ≡ most_reads self }
+    {
+        match self {
+            Func::Set => 0,
+            Func::Add | Func::Sub | Func::Max => 2,
+            Func::Stencil => 3,
+            Func::Sum | Func::Total | Func::Count | Func::Merge => 8,
+            _ => 1,
+        }
+    }
+
+    /// How many results it has.
+    pub fn writes(self) -> usize
+        ensures { result ≡ writes_of self }
+    {
+        match self {
+            Func::Split => 2,
+            _ => 1,
+        }
+    }
+
+    /// Whether a task with so many parameters, reads and writes has the counts of this function.
+    pub fn has_counts(self, params: usize, reads: usize, writes: usize) -> bool
+        ensures { result ≡ has_counts self params reads writes }
+    {
+        params == self.params()
+            && self.fewest_reads() <= reads
+            && reads <= self.most_reads()
+            && writes == self.writes()
+    }
 }
 
 impl Copied for Param {

@@ -1,5 +1,5 @@
 use crate::{
-    Copied, Func, Name, Object, Param, Seq, Shape, Task, TaskForm, Value, fit, value_text,
+    Copied, Func, Name, Object, Param, Seq, Shape, Slot, Task, TaskForm, Value, fit, value_text,
 };
 use std::test::Fail;
 
@@ -68,5 +68,47 @@ fn copies_tasks(rt: HostRuntime) -> Result<(), Fail> {
     assert_eq!(rt; task.reads.as_slice(), [Object(4)].as_slice());
     assert_eq!(rt; task.writes.len(), 0);
     assert_eq!(rt; Name::from_str(alloc, "x1")?.copy()?.as_str(), "x1");
+    Ok(())
+}
+
+#[test]
+fn copies_pairs(rt: HostRuntime) -> Result<(), Fail> {
+    let alloc = rt.alloc();
+    let pair = (Object(4), u64::MAX);
+    let list = Seq::from_vec(Vec::from_slice(alloc, &[pair])?);
+    assert_eq!(rt; list.copy()?.as_slice(), [pair].as_slice());
+    assert_eq!(rt; Slot(516).copy()?, Slot(516));
+    assert_eq!(rt; 7u32.copy()?, 7);
+    let shape = Shape { width: 2, rows: 0 };
+    assert_eq!(rt; shape.copy()?, shape);
+    Ok(())
+}
+
+#[test]
+fn knows_the_counts_of_each_function(rt: HostRuntime) -> Result<(), Fail> {
+    let counts = [
+        (Func::Set, 1, 0, 0, 1),
+        (Func::Copy, 0, 1, 1, 1),
+        (Func::Addc, 1, 1, 1, 1),
+        (Func::Mulc, 1, 1, 1, 1),
+        (Func::Add, 0, 2, 2, 1),
+        (Func::Sub, 0, 2, 2, 1),
+        (Func::Max, 0, 2, 2, 1),
+        (Func::Sum, 0, 1, 8, 1),
+        (Func::Total, 0, 1, 8, 1),
+        (Func::Count, 0, 1, 8, 1),
+        (Func::Stencil, 2, 3, 3, 1),
+        (Func::Keep, 3, 1, 1, 1),
+        (Func::Group, 2, 1, 1, 1),
+        (Func::Merge, 0, 1, 8, 1),
+        (Func::Split, 2, 1, 1, 2),
+    ];
+    for (func, params, fewest, most, writes) in counts {
+        assert!(rt; func.has_counts(params, fewest, writes));
+        assert!(rt; func.has_counts(params, most, writes));
+        assert!(rt; !func.has_counts(params + 1, most, writes));
+        assert!(rt; !func.has_counts(params, most + 1, writes));
+        assert!(rt; !func.has_counts(params, fewest, writes - 1));
+    }
     Ok(())
 }

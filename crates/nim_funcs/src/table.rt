@@ -1,6 +1,7 @@
 ghost use Rattle.std.specs.Prelude.{◌≡◌, ◌≤◌, ◌<◌, [], ◌∷◌, length, All, IfOk};
 ghost use Rattle.nim_base.specs.Value.{fitted};
-ghost use Rattle.nim_base.specs.Apply.{IsKnown, HasCounts, apply_of};
+ghost use Rattle.nim_base.specs.Apply.{HasCounts, apply_of};
+ghost use Rattle.nim_funcs.specs.Known.{IsKnown};
 ghost use Rattle.nim_base.specs.Functions.{reads_of};
 
 use crate::cellwise::{addc, mulc};

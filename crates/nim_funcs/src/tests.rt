@@ -1,5 +1,6 @@
 ghost use Rattle.std.specs.Prelude.{◌≡◌, ◌≤◌, ◌<◌, [], ◌∷◌, length, All};
-ghost use Rattle.nim_base.specs.Apply.{IsKnown, HasCounts};
+ghost use Rattle.nim_base.specs.Apply.{HasCounts};
+ghost use Rattle.nim_funcs.specs.Known.{IsKnown};
 
 mod cells;
 mod laws;

@@ -1,4 +1,4 @@
-use Rattle.std.proofs.Common.{◌≡◌, ◌*◌, ◌∙◌, ap, length, rules, List, ℤ}
+use Rattle.std.proofs.Common.{◌≡◌, ◌*◌, ◌∙◌, ap, length, List, ℤ}
 use Rattle.std.proofs.lemmas.Int.{to_z-of_z}
 use Rattle.nim_base.specs.Value.{Grid, rows_of, counted}
 use Rattle.nim_base.proofs.CountingUp.{length-counted}
