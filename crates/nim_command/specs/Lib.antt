@@ -1,0 +1,5 @@
+pub mod Created
+pub mod Holds
+pub mod Ranks
+pub mod Slots
+pub mod Waits

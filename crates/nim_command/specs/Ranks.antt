@@ -1,0 +1,34 @@
+-- The order of commands in which every wait goes to a smaller one.
+use Rattle.std.specs.Prelude.{ℕ, Bool, true, false, nat_le, if◌then◌else◌}
+use Rattle.nim_command.specs.declared.command.Command.{Command}
+use Rattle.nim_command.specs.declared.command.Kind.{Kind}
+use Rattle.nim_command.specs.declared.command.Kind.TheVariants.{Create, Load, Send, Receive, Fetch}
+use Rattle.nim_command.specs.declared.rank.Rank.{Rank}
+
+-- the copies of a patch are numbered from here
+abbrev pub is_patch_number : ℕ → Bool
+is_patch_number number = nat_le 131072 number
+
+-- 0 Create and Load, 1 Fetch, 2 a copy of a patch, 3 all else
+abbrev pub stage_of : ℕ → Kind → ℕ
+stage_of number (Create slot iota first) = 0
+stage_of number (Load slot version value) = 0
+stage_of number (Fetch slot ticket) = 1
+stage_of number (Send slot peer entry) = if is_patch_number number then 2 else 3
+stage_of number (Receive slot version) = if is_patch_number number then 2 else 3
+stage_of number _ = 3
+
+-- whether a command comes after the Sends of its number
+abbrev pub is_later : Kind → Bool
+is_later (Send slot peer entry) = false
+is_later _ = true
+
+-- The position is the base of the command's instance; of a Create, Load or Fetch it is the number of tasks before
+-- it in program order.
+abbrev pub rank_of : ℕ → Command → Rank
+rank_of position command = record {
+  position = position;
+  stage = stage_of command.id command.kind;
+  number = command.id;
+  later = is_later command.kind;
+}

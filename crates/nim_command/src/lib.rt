@@ -1,0 +1,13 @@
+//! What a worker is asked to do: commands on its slots.
+#![tactic(auto)]
+
+mod command;
+mod copies;
+mod rank;
+mod slots;
+#[cfg(test)]
+mod tests;
+
+pub use command::{Command, Kind};
+pub use rank::Rank;
+pub use slots::{reads, writes};

@@ -1,0 +1,10 @@
+//! What controller and workers tell each other: orders and reports.
+#![tactic(auto)]
+
+mod order;
+mod report;
+#[cfg(test)]
+mod tests;
+
+pub use order::ToWorker;
+pub use report::FromWorker;
