@@ -3,7 +3,7 @@ ghost use Rattle.std.specs.Io.KnownBytes.{Appends};
 ghost use Rattle.nim_io.specs.Counts.{Rose};
 ghost use Rattle.nim_io.specs.Sink.{AppendsFront};
 ghost use Rattle.nim_job.specs.Versions.{KeepsVersions, ReadsVersions};
-ghost use Rattle.nim_top.specs.Answer.{HasStatus, IsAnswer, IsCutShort, IsDone, OfDriver, TellsText};
+ghost use Rattle.nim_top.specs.Answer.{HasStatus, IsAnswer, IsCutShort, IsDone, OfDriver, TellsText, is_status};
 ghost use Rattle.nim_top.specs.FirstPath.{job_of};
 ghost use Rattle.nim_top.specs.Words.{is_accepted, texts_of};
 
@@ -27,6 +27,7 @@ pub fn top_replay<L: Files, K: Sink>(
     out: &mut K,
     err: &mut K,
 ) -> Status
+    ensures kinds { is_status result.0 ≡ true }
     ensures words { (result.0 ≡ 1) ↔ (is_accepted (texts_of words.now) ≡ false) }
 
     // The driver's bytes decide whether it is refused, and what is printed. No driver that is read meets a limit.
@@ -64,6 +65,7 @@ fn tell<K: Sink>(status: Status, err: &mut K)
 
 // All but the text of the status.
 fn replay<L: Files, K: Sink>(alloc: Global, words: &[String], files: &mut L, out: &mut K) -> Status
+    ensures kinds { is_status result.0 ≡ true }
     ensures words { (result.0 ≡ 1) ↔ (is_accepted (texts_of words.now) ≡ false) }
     ensures refused { result.0 ≡ 2 → OfDriver (L.told files.old) (texts_of words.now) (HasStatus 2) }
     ensures ends { result.0 ≢ 4 }
@@ -91,6 +93,7 @@ fn replay<L: Files, K: Sink>(alloc: Global, words: &[String], files: &mut L, out
 
 // Runs a driver's text, and writes what its job prints.
 fn answer<K: Sink>(alloc: Global, bytes: &[u8], out: &mut K) -> Status
+    ensures kinds { is_status result.0 ≡ true }
     ensures refused { result.0 ≡ 2 → HasStatus 2 bytes.now }
     ensures ends { result.0 ≢ 4 }
     ensures done { result.0 ≡ 0 → IsDone (K.written out.old) (K.written out.new) bytes.now }
