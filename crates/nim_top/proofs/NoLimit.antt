@@ -65,10 +65,6 @@ instances_taken letter (piece ∷ pieces) e =
     let sum = sum_by-cons taken piece pieces in
     omega (arith, here, later, sum)
 
--- one statement for each instance, and the output
-body_length : (dos var : ℕ) → length (body_of dos var) ≡ dos + 1
-body_length dos var = length-append (replicate dos (Do 0 [])) (Output var ∷ []) ∙ ap (λ n. n + 1) (length-replicate dos (Do 0 []))
-
 pub checked_is : (letter : ℕ) (made job : Job) → checked letter made ≡ Some job → made ≡ job
 unfolding checked
 checked_is letter made job e =
@@ -165,14 +161,6 @@ read_instances text job e =
     let short = if_there (nat_le (length text) 1048576) (driver_job (lines_of text)) job e in
     let i : Instances (lines_of text) job = driver_instances (lines_of text) job short.1 in
     (i, text_of_few text job (leb-true (length text) 1048576 short.0) i)
-
--- fewer statements than are counted
-pub few_statements : (text : List ℕ) (job : Job) → job_of text ≡ Some job → length job.body < 1000000
-few_statements text job e =
-    let read = read_instances text job e in
-    let few = read.1 in
-    let all : length job.body ≡ read.0.dos + 1 = ap length read.0.made.body ∙ body_length read.0.dos read.0.made.var in
-    omega (arith, few, all)
 
 -- the run comes to its end
 pub nothing_left : (text : List ℕ) (job : Job) → job_of text ≡ Some job → (driver_at job job.steps).driver.todo ≡ []
