@@ -22,6 +22,7 @@ use std::alloc::Global;
 use var::variables;
 use whole::{are_vars, cells};
 
+/// The job once the variables and the block's letter are known.
 #[tactic(auto, unfolding(crate::specs::FirstPath::block_job))]
 fn block_job(
     alloc: Global,
@@ -58,6 +59,7 @@ fn block_job(
     )
 }
 
+/// The job once the variables are known.
 #[tactic(auto, unfolding(crate::specs::FirstPath::vars_job))]
 fn vars_job(
     alloc: Global,
@@ -81,6 +83,7 @@ fn vars_job(
     block_job(alloc, lines, at, vars, letter)
 }
 
+/// The job of a driver's lines.
 #[tactic(auto, unfolding(crate::specs::FirstPath::driver_job))]
 fn driver_job(alloc: Global, lines: &[Line]) -> Result<Option<Job>, NoMemory>
     ensures value { IfOk result (λ job. job ≡ driver_job lines.now) }
@@ -96,9 +99,9 @@ fn driver_job(alloc: Global, lines: &[Line]) -> Result<Option<Job>, NoMemory>
     vars_job(alloc, lines, &at, vars)
 }
 
-#[tactic(auto, unfolding(crate::specs::FirstPath::job_of))]
 /// The job of a driver's text, `None` where the text isn't of the form that is read so far:
 /// `job_of` of `specs/FirstPath.antt`.
+#[tactic(auto, unfolding(crate::specs::FirstPath::job_of))]
 pub fn read_driver(alloc: Global, bytes: &[u8]) -> Result<Option<Job>, NoMemory>
     ensures job { IfOk result (λ job. job ≡ job_of bytes.now) }
     ensures whole { IfOk result (λ job. IfSome job (λ j. IsTrue (is_whole j))) }

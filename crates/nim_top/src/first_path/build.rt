@@ -84,8 +84,8 @@ pub fn build(
     })
 }
 
-#[tactic(auto, unfolding(crate::specs::FirstPath::checked))]
 /// The job again, where it is whole and no name stands twice.
+#[tactic(auto, unfolding(crate::specs::FirstPath::checked))]
 pub fn checked(alloc: Global, letter: u8, job: Job) -> Result<Option<Job>, NoMemory>
     ensures value { IfOk result (λ answer. answer ≡ checked letter job) }
     ensures whole { IfOk result (λ answer. IfSome answer (λ j. IsTrue (is_whole j))) }
