@@ -1,17 +1,16 @@
 -- A driver that is read has fewer statements than are counted: each instance takes a line of at least two bytes.
-use Rattle.std.proofs.Common.{◌≡◌, ℕ, ◌+◌, ◌-◌, ◌*◌, ◌<◌, ◌≤◌, ◌==◌, suc, Bool, true, false, not, ◌&&◌, ◌||◌, nat_le, nat_lt, Option, None, Some, List, [], ◌∷◌, length, take, drop, map, replicate, cond, if◌then◌else◌, slice_range, refl, ap, ◌∙◌, sym, subst, arith, length-append, length-take, length-drop}
+use Rattle.std.proofs.Common.{◌≡◌, ℕ, ◌+◌, ◌-◌, ◌*◌, ◌<◌, ◌≤◌, ◌==◌, suc, Bool, true, false, not, ◌&&◌, ◌||◌, nat_le, nat_lt, Option, None, Some, List, [], ◌∷◌, length, take, drop, map, cond, if◌then◌else◌, slice_range, refl, ap, ◌∙◌, sym, subst, arith, length-take, length-drop}
 use Rattle.std.specs.List.{slice_split, onto_first, sum_by, list_all}
 use Rattle.std.specs.Option.{option_and_then}
 use Rattle.std.proofs.lemmas.Bool.{eqb-true, leb-true}
-use Rattle.std.proofs.lemmas.List.{drop-map, length-map, length-replicate, take-map}
+use Rattle.std.proofs.lemmas.List.{drop-map, length-map, take-map}
 use Rattle.std.proofs.lemmas.List.Sums.{sum_by-cons, sum_by-take-le, sum_by-take-drop}
 use Rattle.nim_job.specs.declared.job.Job.{Job}
 use Rattle.nim_job.specs.declared.job.Var.{Var}
 use Rattle.nim_job.specs.declared.block.Stage.{Stage}
 use Rattle.nim_top.specs.Lines.{Line, has_form, lines_of, words_of}
-use Rattle.nim_job.specs.declared.stmt.Stmt.{Do, Output}
 use Rattle.nim_top.specs.declared.first_path.layout.Layout.{Layout}
-use Rattle.nim_top.specs.FirstPath.{all_of, are_small, block_job, block_letter, body_of, built, checked, do_form, driver_job, is_distinct, is_laid_out, job_from, job_of, layout_of, letter_of, line_at, output_var, stage_of, var_of, vars_job}
+use Rattle.nim_top.specs.FirstPath.{all_of, are_few_cells, block_job, block_letter, body_of, built, checked, do_form, driver_job, is_distinct, is_laid_out, job_from, job_of, layout_of, letter_of, line_at, output_var, stage_of, var_of, vars_job}
 use Rattle.nim_job.specs.Driver.{output_limit}
 use Rattle.nim_job.specs.Serial.{driver_at, is_limit, is_nil}
 use Rattle.nim_job.specs.Whole.{is_whole}
@@ -65,11 +64,15 @@ instances_taken letter (piece ∷ pieces) e =
     let sum = sum_by-cons taken piece pieces in
     omega (arith, here, later, sum)
 
-pub checked_is : (letter : ℕ) (made job : Job) → checked letter made ≡ Some job → made ≡ job
+-- a job that is checked is whole and has few cells
+pub checked_is : (letter : ℕ) (made job : Job) → checked letter made ≡ Some job → (made ≡ job) × (is_whole job ≡ true) × (are_few_cells job.vars ≡ true)
 unfolding checked
 checked_is letter made job e =
-    let kept = if_there (is_whole made && is_distinct (letter ∷ map letter_of made.vars)) (Some made) job e in
-    let same : Some made ≡ Some job = kept.1 in cc
+    let kept = if_there (is_whole made && are_few_cells made.vars && is_distinct (letter ∷ map letter_of made.vars)) (Some made) job e in
+    let same : Some made ≡ Some job = kept.1 in
+    let is : made ≡ job = cc in
+    let parts = and_there (is_whole made) (are_few_cells made.vars) (and_there (is_whole made && are_few_cells made.vars) (is_distinct (letter ∷ map letter_of made.vars)) kept.0).0 in
+    (is, subst (λ (j : Job). is_whole j ≡ true) is parts.0, subst (λ (j : Job). are_few_cells j.vars ≡ true) is parts.1)
 
 -- the body and the steps of a job that is read
 pub record Body (job : Job) (dos : ℕ) : Type 0 where
@@ -82,7 +85,7 @@ from_body : (vars : List Var) (letter dos : ℕ) (stages : Option (List Stage)) 
 from_body vars letter dos None var job e = absurd (cc)
 from_body vars letter dos (Some stages) None job e = absurd (cc)
 from_body vars letter dos (Some stages) (Some var) job e =
-    let made = checked_is letter (built vars letter dos stages var) job e in
+    let made = (checked_is letter (built vars letter dos stages var) job e).0 in
     record {
       var = var;
       body = sym (ap (λ (j : Job). j.body) made);
@@ -124,7 +127,7 @@ vars_instances : (lines : List Line) (at : Layout) (vars : List Var) (job : Job)
     → vars_job lines at vars ≡ Some job → Instances lines job
 unfolding vars_job
 vars_instances lines at vars job ok e =
-    let small = if_there (are_small vars) (option_and_then (block_job lines at vars) (block_letter (line_at lines (1 + at.vars)))) job e in
+    let small = if_there (nat_le (length vars) 32) (option_and_then (block_job lines at vars) (block_letter (line_at lines (1 + at.vars)))) job e in
     let block = then_there (block_job lines at vars) (block_letter (line_at lines (1 + at.vars))) job small.1 in
     block_instances lines at vars block.0 job ok block.2
 

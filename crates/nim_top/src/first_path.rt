@@ -9,7 +9,6 @@ mod line;
 #[cfg(test)]
 mod tests;
 mod var;
-mod whole;
 mod word;
 
 use block::{are_instances, block_letter, output_var, stages};
@@ -20,7 +19,6 @@ use nim_base::NoMemory;
 use nim_job::{Job, Var};
 use std::alloc::Global;
 use var::variables;
-use whole::{are_vars, cells};
 
 /// The job once the variables and the block's letter are known.
 #[tactic(auto, unfolding(crate::specs::FirstPath::block_job))]
@@ -71,10 +69,7 @@ fn vars_job(
     ensures value { IfOk result (λ job. job ≡ vars_job lines.now at.now vars.items) }
     ensures whole { IfOk result (λ job. IfSome job (λ j. IsTrue (is_whole j))) }
 {
-    if !are_vars(vars.as_slice()) {
-        return Ok(None);
-    }
-    if cells(vars.as_slice()) > 65536 {
+    if vars.len() > 32 {
         return Ok(None);
     }
     let Some(letter) = block_letter(&lines[1 + at.vars]) else {
