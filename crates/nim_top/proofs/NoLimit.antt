@@ -10,7 +10,7 @@ use Rattle.nim_job.specs.declared.job.Var.{Var}
 use Rattle.nim_job.specs.declared.block.Stage.{Stage}
 use Rattle.nim_top.specs.Lines.{Line, has_form, lines_of, words_of}
 use Rattle.nim_top.specs.declared.first_path.layout.Layout.{Layout}
-use Rattle.nim_top.specs.FirstPath.{all_of, are_few_cells, block_job, block_letter, body_of, built, checked, do_form, driver_job, is_distinct, is_laid_out, job_from, job_of, layout_of, letter_of, line_at, output_var, stage_of, var_of, vars_job}
+use Rattle.nim_top.specs.FirstPath.{all_of, are_few_cells, block_job, block_letter, body_of, built, checked, do_form, driver_job, driver_limit, is_distinct, is_laid_out, job_from, job_of, layout_of, letter_of, line_at, output_var, stage_of, var_of, vars_job}
 use Rattle.nim_job.specs.Driver.{output_limit}
 use Rattle.nim_job.specs.Serial.{driver_at, is_limit, is_nil}
 use Rattle.nim_job.specs.Whole.{is_whole}
@@ -139,7 +139,7 @@ driver_instances lines job e =
     let vars = then_there (vars_job lines at) (all_of var_of (slice_range lines 1 (1 + at.vars))) job ok.1 in
     vars_instances lines at vars.0 job ok.0 vars.2
 
-text_of_few : (text : List ℕ) (job : Job) → length text ≤ 1048576 → (i : Instances (lines_of text) job) → i.dos ≤ 524288
+text_of_few : (text : List ℕ) (job : Job) → length text ≤ driver_limit → (i : Instances (lines_of text) job) → i.dos ≤ 524288
 text_of_few text job short i =
     let pieces : List (List ℕ) = slice_split (λ b. b == 10) text in
     let n : ℕ = (i.before + i.dos) - i.before in
@@ -161,9 +161,9 @@ text_of_few text job short i =
 pub read_instances : (text : List ℕ) (job : Job) → job_of text ≡ Some job → (i : Instances (lines_of text) job) × (i.dos ≤ 524288)
 unfolding job_of
 read_instances text job e =
-    let short = if_there (nat_le (length text) 1048576) (driver_job (lines_of text)) job e in
+    let short = if_there (nat_le (length text) driver_limit) (driver_job (lines_of text)) job e in
     let i : Instances (lines_of text) job = driver_instances (lines_of text) job short.1 in
-    (i, text_of_few text job (leb-true (length text) 1048576 short.0) i)
+    (i, text_of_few text job (leb-true (length text) driver_limit short.0) i)
 
 -- the run comes to its end
 pub nothing_left : (text : List ℕ) (job : Job) → job_of text ≡ Some job → (driver_at job job.steps).driver.todo ≡ []

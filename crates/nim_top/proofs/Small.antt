@@ -12,7 +12,7 @@ use Rattle.nim_job.specs.Objects.{objects_of}
 use Rattle.nim_job.specs.Whole.{cells_in, is_var, is_whole}
 use Rattle.nim_job.proofs.Whole.{vars_sizes, whole_vars}
 use Rattle.nim_top.specs.declared.first_path.layout.Layout.{Layout}
-use Rattle.nim_top.specs.FirstPath.{all_of, are_few_cells, block_job, block_letter, built, do_form, driver_job, is_laid_out, job_from, job_of, layout_of, line_at, output_var, stage_of, var_form, var_from, var_of, vars_job}
+use Rattle.nim_top.specs.FirstPath.{all_of, are_few_cells, block_job, block_letter, built, do_form, driver_job, driver_limit, is_laid_out, job_from, job_of, layout_of, line_at, output_var, stage_of, var_form, var_from, var_of, vars_job}
 use Rattle.nim_top.specs.Lines.{Line, has_form, int_of, lines_of, name_of, number_of, word_at}
 use Rattle.nim_top.proofs.NoLimit.{checked_is, if_there, then_there}
 
@@ -107,4 +107,4 @@ driver_small lines job e =
 
 pub read_small : (text : List ℕ) (job : Job) → job_of text ≡ Some job → Small job
 unfolding job_of
-read_small text job e = driver_small (lines_of text) job (if_there (nat_le (length text) 1048576) (driver_job (lines_of text)) job e).1
+read_small text job e = driver_small (lines_of text) job (if_there (nat_le (length text) driver_limit) (driver_job (lines_of text)) job e).1

@@ -190,6 +190,10 @@ driver_job lines =
     let at : Layout = layout_of lines in
     if is_laid_out lines at then option_and_then (vars_job lines at) (all_of var_of (slice_range lines 1 (1 + at.vars))) else None
 
--- the job of a driver, where its text has the form and at most 1,048,576 bytes
+-- the most bytes that a driver may have
+abbrev pub driver_limit : ℕ
+driver_limit = 1048576
+
+-- the job of a driver, where its text has the form and isn't too long
 unfoldable pub job_of : List ℕ → Option Job
-job_of bytes = if nat_le (length bytes) 1048576 then driver_job (lines_of bytes) else None
+job_of bytes = if nat_le (length bytes) driver_limit then driver_job (lines_of bytes) else None

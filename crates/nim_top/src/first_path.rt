@@ -20,6 +20,9 @@ use nim_job::{Job, Var};
 use std::alloc::Global;
 use var::variables;
 
+/// The most bytes that a driver may have.
+pub const DRIVER_LIMIT: usize = 1_048_576;
+
 /// The job once the variables and the block's letter are known.
 #[tactic(auto, unfolding(crate::specs::FirstPath::block_job))]
 fn block_job(
@@ -101,7 +104,7 @@ pub fn read_driver(alloc: Global, bytes: &[u8]) -> Result<Option<Job>, NoMemory>
     ensures job { IfOk result (λ job. job ≡ job_of bytes.now) }
     ensures whole { IfOk result (λ job. IfSome job (λ j. IsTrue (is_whole j))) }
 {
-    if bytes.len() > 1_048_576 {
+    if bytes.len() > DRIVER_LIMIT {
         return Ok(None);
     }
     let lines = lines(alloc, bytes)?;

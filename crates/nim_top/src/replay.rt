@@ -8,14 +8,11 @@ ghost use Rattle.nim_top.specs.FirstPath.{job_of};
 ghost use Rattle.nim_top.specs.Words.{is_accepted, texts_of};
 
 use crate::Status;
-use crate::first_path::read_driver;
+use crate::first_path::{DRIVER_LIMIT, read_driver};
 use crate::run::run;
 use crate::words::driver_name;
 use nim_io::{Files, LoadFault, Sink, read_all, write_all};
 use std::alloc::Global;
-
-/// The most bytes that a driver may have.
-const DRIVER_LIMIT: usize = 1_048_576;
 
 /// The command `replay FILE`: reads the driver, runs its tasks, writes what they print to `out`, and the
 /// text of the status to `err`. The status and the bytes of a driver are `answer_of` of
