@@ -1,5 +1,5 @@
 -- What a run answers: which driver is refused, and which status and bytes the rest has.
-use Rattle.std.specs.Prelude.{◌≡◌, ◌≢◌, ℕ, ◌<◌, ◌⊎◌, Bool, ◌||◌, nat_le, Option, None, Some, List, [], ◌∷◌, ◌==◌, length, map, codes, if◌then◌else◌, IfSome, IsSomeAnd, ◌++◌}
+use Rattle.std.specs.Prelude.{◌≡◌, ℕ, ◌⊎◌, Bool, ◌||◌, nat_le, Option, None, Some, List, [], ◌∷◌, ◌==◌, codes, if◌then◌else◌, ◌++◌}
 use Rattle.std.specs.Io.KnownBytes.{Appends}
 use Rattle.nim_io.specs.Counts.{Rose}
 use Rattle.nim_io.specs.Files.{TellsSome}
