@@ -334,16 +334,16 @@ fn counts_tasks(rt: HostRuntime) -> Result<(), Fail> {
 #[test]
 fn counts_bytes(rt: HostRuntime) -> Result<(), Fail> {
     let alloc = rt.alloc();
-    // 102 bytes, and 7 for each of 149,782 instances
-    let dos = times(alloc, "do b()\n", 149_782)?;
+    // 95 bytes, and 7 for each of 149,783 instances
+    let dos = times(alloc, "do b()\n", 149_783)?;
     let most = format!(in alloc;
-        "nimbus 1\n{VARS}block b()\naddc a[0] -> a[i] with 004 each i\nend\n{dos}output a\n"
+        "nimbus 1\n{VARS}block b()\naddc a[0] -> a[0] with 004\nend\n{dos}output a\n"
     )?;
     assert_eq!(rt; most.len(), 1_048_576);
-    let out = "a 0 1 1\n599131\na 1 1 1\n599135\n";
+    let out = "a 0 1 1\n599135\na 1 1 1\n3\n";
     assert!(rt; ends(alloc, most.as_str(), (0, out, ""))?);
     let more = format!(in alloc;
-        "nimbus 1\n{VARS}block b()\naddc a[0] -> a[i] with 0004 each i\nend\n{dos}output a\n"
+        "nimbus 1\n{VARS}block b()\naddc a[0] -> a[0] with 0004\nend\n{dos}output a\n"
     )?;
     assert!(rt; ends(alloc, more.as_str(), REFUSED)?, "a byte more");
     Ok(())
