@@ -32,7 +32,8 @@ written_other values (o ∷ objects) (grid ∷ grids) object none =
     written_other (slice_set values o.0 grid) objects grids object parts.1
     ∙ get_or-set_other values o.0 object.0 grid empty_grid (λ same. eqb-false o.0 object.0 parts.0 (sym same))
 
-after_tasks-append : (shapes : List Shape) (values : List Grid) (xs ys : List Task) → after_tasks shapes values (xs ++ ys) ≡ after_tasks shapes (after_tasks shapes values xs) ys
+-- the tasks of two lists, one list behind the other
+pub after_tasks-append : (shapes : List Shape) (values : List Grid) (xs ys : List Task) → after_tasks shapes values (xs ++ ys) ≡ after_tasks shapes (after_tasks shapes values xs) ys
 after_tasks-append shapes values [] ys = refl
 after_tasks-append shapes values (task ∷ xs) ys = after_tasks-append shapes (after_task shapes values task) xs ys
 

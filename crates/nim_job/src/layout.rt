@@ -36,13 +36,7 @@ impl<'a> Layout<'a> {
     pub(crate) fn turns(&self, stage: &Stage) -> u32
         ensures { result ≡ turns_of self.now.vars.now stage.now }
     {
-        if !stage.each {
-            return 1;
-        }
-        match stage.writes.as_slice().get(0) {
-            Some(reference) => parts(self.vars, reference.var),
-            None => 0,
-        }
+        turns(self.vars, stage)
     }
 
     /// The objects that references mean at task `turn` of their stage, in order.
@@ -71,6 +65,19 @@ impl<'a> Layout<'a> {
     {
         let part = part(reference.place, turn, parts(self.vars, reference.var));
         Object(self.firsts[usize::from(reference.var)] + part as u16)
+    }
+}
+
+/// How many tasks a stage has: one for each part of the first variable that it writes, or one.
+pub(crate) fn turns(vars: &[Var], stage: &Stage) -> u32
+    ensures { result ≡ turns_of vars.now stage.now }
+{
+    if !stage.each {
+        return 1;
+    }
+    match stage.writes.as_slice().first() {
+        Some(reference) => parts(vars, reference.var),
+        None => 0,
     }
 }
 

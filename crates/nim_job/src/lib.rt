@@ -14,6 +14,7 @@ mod layout;
 mod objects;
 mod stmt;
 mod tasks;
+mod wholeness;
 
 pub use ask::{Ask, Asked};
 pub use block::{Block, Place, Ref, Stage};
@@ -25,3 +26,4 @@ pub use laws::{machine_follows, versions_are_read};
 pub use objects::shapes;
 pub use stmt::{Arith, Atom, Cmp, Cond, Stmt};
 pub use tasks::block_tasks;
+pub use wholeness::is_whole;

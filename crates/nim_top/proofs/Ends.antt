@@ -1,5 +1,5 @@
 -- A driver that is read has a job that ends well, whose tasks read the versions that program order names.
-use Rattle.std.proofs.Common.{◌≡◌, ℕ, Option, None, Some, List, [], refl, sym, ap, subst, ◌∙◌, arith}
+use Rattle.std.proofs.Common.{◌≡◌, ℕ, Option, None, Some, List, [], sym, ap, subst, ◌∙◌, arith}
 use Rattle.std.specs.Prelude.{IfSome}
 use Rattle.std.proofs.lemmas.Bool.{cond-false}
 use Rattle.nim_job.specs.declared.job.Job.{Job}

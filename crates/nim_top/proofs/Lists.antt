@@ -1,8 +1,7 @@
 -- Lists item by item, as loops go over them.
-use Rattle.std.proofs.Common.{◌≡◌, ℕ, ◌+◌, ◌<◌, zero, suc, Bool, true, false, Option, None, Some, List, [], ◌∷◌, ◌++◌, length, take, drop, get_or, refl, ap, ◌∙◌, arith}
-use Rattle.std.specs.List.{position_from}
+use Rattle.std.proofs.Common.{◌≡◌, ℕ, ◌+◌, ◌<◌, zero, suc, Option, None, Some, List, [], ◌∷◌, ◌++◌, length, take, get_or, refl, ap, ◌∙◌, arith}
 use Rattle.std.specs.Option.{option_and_then, option_map}
-use Rattle.std.proofs.lemmas.List.{at_drop_more, take_more}
+use Rattle.std.proofs.lemmas.List.{take_more}
 use Rattle.nim_top.specs.FirstPath.{all_of}
 
 abbrev joined : {B : Type 0} → Option (List B) → Option B → Option (List B)
@@ -43,13 +42,3 @@ all_of_none f (x ∷ xs) zero d h e = ap (λ a. option_and_then (λ y. option_ma
 all_of_none f (x ∷ xs) (suc i) d h e =
     let later : all_of f xs ≡ None = all_of_none f xs i d (grind (arith, h)) e in
     ap (λ b. option_and_then (λ y. option_map (λ ys. y ∷ ys) b) (f x)) later ∙ none_after (f x)
-
--- the first place isn't here
-pub position_step : {A : Type 0} (t : A → Bool) (xs : List A) (i : ℕ) (d : A) → i < length xs → t (get_or xs i d) ≡ false
-    → position_from t i (drop i xs) ≡ position_from t (i + 1) (drop (i + 1) xs)
-position_step t xs i d h e = at_drop_more (position_from t i) xs i d h ∙ rw e refl
-
--- the first place is here
-pub position_hit : {A : Type 0} (t : A → Bool) (xs : List A) (i : ℕ) (d : A) → i < length xs → t (get_or xs i d) ≡ true
-    → position_from t i (drop i xs) ≡ Some i
-position_hit t xs i d h e = at_drop_more (position_from t i) xs i d h ∙ rw e refl

@@ -1,17 +1,16 @@
 -- A driver that is read has fewer statements than are counted: each instance takes a line of at least two bytes.
-use Rattle.std.proofs.Common.{◌≡◌, ℕ, ◌+◌, ◌-◌, ◌*◌, ◌<◌, ◌≤◌, ◌==◌, suc, Bool, true, false, not, ◌&&◌, ◌||◌, nat_le, nat_lt, Option, None, Some, List, [], ◌∷◌, length, take, drop, map, replicate, cond, if◌then◌else◌, slice_range, refl, ap, ◌∙◌, sym, subst, arith, length-append, length-take, length-drop}
+use Rattle.std.proofs.Common.{◌≡◌, ℕ, ◌+◌, ◌-◌, ◌*◌, ◌<◌, ◌≤◌, ◌==◌, suc, Bool, true, false, not, ◌&&◌, ◌||◌, nat_le, nat_lt, Option, None, Some, List, [], ◌∷◌, length, take, drop, map, cond, if◌then◌else◌, slice_range, refl, ap, ◌∙◌, sym, subst, arith, length-take, length-drop}
 use Rattle.std.specs.List.{slice_split, onto_first, sum_by, list_all}
 use Rattle.std.specs.Option.{option_and_then}
 use Rattle.std.proofs.lemmas.Bool.{eqb-true, leb-true}
-use Rattle.std.proofs.lemmas.List.{drop-map, length-map, length-replicate, take-map}
+use Rattle.std.proofs.lemmas.List.{drop-map, length-map, take-map}
 use Rattle.std.proofs.lemmas.List.Sums.{sum_by-cons, sum_by-take-le, sum_by-take-drop}
 use Rattle.nim_job.specs.declared.job.Job.{Job}
 use Rattle.nim_job.specs.declared.job.Var.{Var}
 use Rattle.nim_job.specs.declared.block.Stage.{Stage}
 use Rattle.nim_top.specs.Lines.{Line, has_form, lines_of, words_of}
-use Rattle.nim_job.specs.declared.stmt.Stmt.{Do, Output}
 use Rattle.nim_top.specs.declared.first_path.layout.Layout.{Layout}
-use Rattle.nim_top.specs.FirstPath.{all_of, are_small, block_job, block_letter, body_of, built, checked, do_form, driver_job, is_distinct, is_laid_out, job_from, job_of, layout_of, letter_of, line_at, output_var, stage_of, var_of, vars_job}
+use Rattle.nim_top.specs.FirstPath.{all_of, are_few_cells, block_job, block_letter, body_of, built, checked, do_form, driver_job, driver_limit, is_distinct, is_laid_out, job_from, job_of, layout_of, letter_of, line_at, output_var, stage_of, var_of, vars_job}
 use Rattle.nim_job.specs.Driver.{output_limit}
 use Rattle.nim_job.specs.Serial.{driver_at, is_limit, is_nil}
 use Rattle.nim_job.specs.Whole.{is_whole}
@@ -65,15 +64,15 @@ instances_taken letter (piece ∷ pieces) e =
     let sum = sum_by-cons taken piece pieces in
     omega (arith, here, later, sum)
 
--- one statement for each instance, and the output
-body_length : (dos var : ℕ) → length (body_of dos var) ≡ dos + 1
-body_length dos var = length-append (replicate dos (Do 0 [])) (Output var ∷ []) ∙ ap (λ n. n + 1) (length-replicate dos (Do 0 []))
-
-pub checked_is : (letter : ℕ) (made job : Job) → checked letter made ≡ Some job → made ≡ job
+-- a job that is checked is whole and has few cells
+pub checked_is : (letter : ℕ) (made job : Job) → checked letter made ≡ Some job → (made ≡ job) × (is_whole job ≡ true) × (are_few_cells job.vars ≡ true)
 unfolding checked
 checked_is letter made job e =
-    let kept = if_there (is_whole made && is_distinct (letter ∷ map letter_of made.vars)) (Some made) job e in
-    let same : Some made ≡ Some job = kept.1 in cc
+    let kept = if_there (is_whole made && are_few_cells made.vars && is_distinct (letter ∷ map letter_of made.vars)) (Some made) job e in
+    let same : Some made ≡ Some job = kept.1 in
+    let is : made ≡ job = cc in
+    let parts = and_there (is_whole made) (are_few_cells made.vars) (and_there (is_whole made && are_few_cells made.vars) (is_distinct (letter ∷ map letter_of made.vars)) kept.0).0 in
+    (is, subst (λ (j : Job). is_whole j ≡ true) is parts.0, subst (λ (j : Job). are_few_cells j.vars ≡ true) is parts.1)
 
 -- the body and the steps of a job that is read
 pub record Body (job : Job) (dos : ℕ) : Type 0 where
@@ -86,7 +85,7 @@ from_body : (vars : List Var) (letter dos : ℕ) (stages : Option (List Stage)) 
 from_body vars letter dos None var job e = absurd (cc)
 from_body vars letter dos (Some stages) None job e = absurd (cc)
 from_body vars letter dos (Some stages) (Some var) job e =
-    let made = checked_is letter (built vars letter dos stages var) job e in
+    let made = (checked_is letter (built vars letter dos stages var) job e).0 in
     record {
       var = var;
       body = sym (ap (λ (j : Job). j.body) made);
@@ -128,7 +127,7 @@ vars_instances : (lines : List Line) (at : Layout) (vars : List Var) (job : Job)
     → vars_job lines at vars ≡ Some job → Instances lines job
 unfolding vars_job
 vars_instances lines at vars job ok e =
-    let small = if_there (are_small vars) (option_and_then (block_job lines at vars) (block_letter (line_at lines (1 + at.vars)))) job e in
+    let small = if_there (nat_le (length vars) 32) (option_and_then (block_job lines at vars) (block_letter (line_at lines (1 + at.vars)))) job e in
     let block = then_there (block_job lines at vars) (block_letter (line_at lines (1 + at.vars))) job small.1 in
     block_instances lines at vars block.0 job ok block.2
 
@@ -140,7 +139,7 @@ driver_instances lines job e =
     let vars = then_there (vars_job lines at) (all_of var_of (slice_range lines 1 (1 + at.vars))) job ok.1 in
     vars_instances lines at vars.0 job ok.0 vars.2
 
-text_of_few : (text : List ℕ) (job : Job) → length text ≤ 1048576 → (i : Instances (lines_of text) job) → i.dos ≤ 524288
+text_of_few : (text : List ℕ) (job : Job) → length text ≤ driver_limit → (i : Instances (lines_of text) job) → i.dos ≤ 524288
 text_of_few text job short i =
     let pieces : List (List ℕ) = slice_split (λ b. b == 10) text in
     let n : ℕ = (i.before + i.dos) - i.before in
@@ -162,17 +161,9 @@ text_of_few text job short i =
 pub read_instances : (text : List ℕ) (job : Job) → job_of text ≡ Some job → (i : Instances (lines_of text) job) × (i.dos ≤ 524288)
 unfolding job_of
 read_instances text job e =
-    let short = if_there (nat_le (length text) 1048576) (driver_job (lines_of text)) job e in
+    let short = if_there (nat_le (length text) driver_limit) (driver_job (lines_of text)) job e in
     let i : Instances (lines_of text) job = driver_instances (lines_of text) job short.1 in
-    (i, text_of_few text job (leb-true (length text) 1048576 short.0) i)
-
--- fewer statements than are counted
-pub few_statements : (text : List ℕ) (job : Job) → job_of text ≡ Some job → length job.body < 1000000
-few_statements text job e =
-    let read = read_instances text job e in
-    let few = read.1 in
-    let all : length job.body ≡ read.0.dos + 1 = ap length read.0.made.body ∙ body_length read.0.dos read.0.made.var in
-    omega (arith, few, all)
+    (i, text_of_few text job (leb-true (length text) driver_limit short.0) i)
 
 -- the run comes to its end
 pub nothing_left : (text : List ℕ) (job : Job) → job_of text ≡ Some job → (driver_at job job.steps).driver.todo ≡ []

@@ -1,11 +1,6 @@
 -- Numbers of few digits are small.
-use Rattle.std.proofs.Common.{ℕ, ◌+◌, ◌*◌, ◌^◌, ◌<◌, ◌≤◌, Option, None, Some, IfSome, arith}
+use Rattle.std.proofs.Common.{ℕ, ◌^◌, ◌<◌, ◌≤◌, Option, None, Some, IfSome, arith}
 use Rattle.std.proofs.Math.Nat.{pow-le-pow_right}
-use Rattle.std.proofs.lemmas.Grind.{pow_more}
-
--- one digit more
-pub digit_more : (n d i : ℕ) → n < 10 ^ i → d ≤ 9 → n * 10 + d < 10 ^ (i + 1)
-digit_more n d i h k = let e = pow_more 10 i in omega (arith, e)
 
 -- a number of at most 18 digits is below 10 to the 18th
 pub digits_fit : (n i : ℕ) → n < 10 ^ i → i < 19 → n < 1000000000000000000

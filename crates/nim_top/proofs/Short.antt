@@ -19,12 +19,12 @@ use Rattle.nim_job.specs.Serial.{driver_at, is_limit}
 use Rattle.nim_job.specs.Step.{State, item_step, output_of, step, texts_of}
 use Rattle.nim_job.specs.Whole.{cells_in, is_var}
 use Rattle.nim_job.proofs.Whole.{var_sizes}
-use Rattle.nim_top.specs.FirstPath.{are_small, body_of, job_of}
+use Rattle.nim_top.specs.FirstPath.{body_of, job_of}
 use Rattle.nim_top.proofs.Lengths.{text_short}
 use Rattle.nim_top.proofs.Limits.{left_after, none_after}
 use Rattle.nim_top.proofs.NoLimit.{Body, and_there, limit_is, read_instances}
 use Rattle.nim_top.proofs.Fits.{Fit, drop_fits, take_fits, values_fit}
-use Rattle.nim_top.proofs.Small.{IsLetter, Small, name_short, read_small, small_sizes}
+use Rattle.nim_top.proofs.Small.{AreSmall, IsLetter, Small, name_short, read_small}
 
 -- the most bytes of the text of a value of a shape
 abbrev most : Shape → ℕ
@@ -73,18 +73,17 @@ shapes_most (v ∷ vars) all =
     omega (arith, here, later, same, sum, objects, cells)
 
 -- what an output prints is less than the limit
-prints_few : (vars : List Var) (values : List Grid) (var : ℕ) → All IsLetter vars → are_small vars ≡ true → Fit (shapes_of vars) values → length (output_of vars values var) ≤ 16777216
+prints_few : (vars : List Var) (values : List Grid) (var : ℕ) → All IsLetter vars → AreSmall vars → Fit (shapes_of vars) values → length (output_of vars values var) ≤ 16777216
 prints_few vars values var letters small fits =
     let first : ℕ = first_object vars var in
     let parts : ℕ = parts_of vars var in
     let shapes : List Shape = drop first (shapes_of vars) in
-    let sizes = small_sizes vars small in
     let text = texts_short (option_map_or (λ (v : Var). v.name) (slice_get vars var) []) 0 (take parts shapes) (parts_at vars values var) (name_short vars var letters)
     (take_fits parts shapes (drop first values) (drop_fits first (shapes_of vars) values fits)) in
     let some = sum_by-take-le most shapes parts in
     let behind = sum_by-take-drop most (shapes_of vars) first in
-    let all = shapes_most vars sizes.1 in
-    omega (arith, sizes, text, some, behind, all)
+    let all = shapes_most vars small.each in
+    omega (arith, small.objects, small.cells, text, some, behind, all)
 
 -- an instance prints nothing
 quiet_do : (job : Job) (s : State) (rest : List Item) → s.driver.todo ≡ Run (Do 0 []) ∷ rest → (step job s).driver.output ≡ s.driver.output
@@ -133,5 +132,5 @@ never_limit text job e =
     let steps : suc dos + (1000000 - suc dos) ≡ job.steps = omega (arith, few, made.steps) in
     let printed : (driver_at job job.steps).driver.output ≡ output_of job.vars (driver_at job dos).values made.var =
     subst (λ k. (driver_at job k).driver.output ≡ output_of job.vars (driver_at job dos).values made.var) steps (printed_at job (1000000 - suc dos) dos made.var made.body) in
-    let short = prints_few job.vars (driver_at job dos).values made.var known.letters known.small (values_fit job dos (small_sizes job.vars known.small).1) in
+    let short = prints_few job.vars (driver_at job dos).values made.var known.letters known.small (values_fit job dos known.small.each) in
     limit_is text job e ∙ le-ltb output_limit (length (driver_at job job.steps).driver.output) (omega (arith, short, ap length printed))

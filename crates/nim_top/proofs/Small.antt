@@ -9,12 +9,12 @@ use Rattle.nim_job.specs.declared.job.Init.TheVariants.{Fill}
 use Rattle.nim_job.specs.declared.job.Job.{Job}
 use Rattle.nim_job.specs.declared.job.Var.{Var}
 use Rattle.nim_job.specs.Objects.{objects_of}
-use Rattle.nim_job.specs.Whole.{are_vars, cells_in, is_var}
-use Rattle.nim_job.proofs.Whole.{vars_sizes}
+use Rattle.nim_job.specs.Whole.{cells_in, is_var, is_whole}
+use Rattle.nim_job.proofs.Whole.{vars_sizes, whole_vars}
 use Rattle.nim_top.specs.declared.first_path.layout.Layout.{Layout}
-use Rattle.nim_top.specs.FirstPath.{all_of, are_small, block_job, block_letter, built, do_form, driver_job, is_laid_out, job_from, job_of, layout_of, line_at, output_var, stage_of, var_form, var_from, var_of, vars_job}
+use Rattle.nim_top.specs.FirstPath.{all_of, are_few_cells, block_job, block_letter, built, do_form, driver_job, driver_limit, is_laid_out, job_from, job_of, layout_of, line_at, output_var, stage_of, var_form, var_from, var_of, vars_job}
 use Rattle.nim_top.specs.Lines.{Line, has_form, int_of, lines_of, name_of, number_of, word_at}
-use Rattle.nim_top.proofs.NoLimit.{and_there, checked_is, if_there, then_there}
+use Rattle.nim_top.proofs.NoLimit.{checked_is, if_there, then_there}
 
 -- the names of variables that are read
 abbrev pub IsLetter : Var → Type 0
@@ -26,17 +26,22 @@ name_short [] var all = omega arith
 name_short (v ∷ vars) zero all = All-head IsLetter v vars all
 name_short (v ∷ vars) (suc var) all = name_short vars var (All-tail IsLetter v vars all)
 
--- the sizes of variables that are read
-pub small_sizes : (vars : List Var) → are_small vars ≡ true → (objects_of vars ≤ 512) × (list_all is_var vars ≡ true) × (sum_by cells_in vars ≤ 65536)
-small_sizes vars small =
-    let both = and_there (are_vars vars) (nat_le (sum_by cells_in vars) 65536) small in
-    let sizes = vars_sizes vars both.0 in
-    (sizes.0, sizes.1, leb-true (sum_by cells_in vars) 65536 both.1)
+-- variables are whole and have few cells
+pub record AreSmall (vars : List Var) : Type 0 where
+  pub objects : objects_of vars ≤ 512
+  pub each : list_all is_var vars ≡ true
+  pub cells : sum_by cells_in vars ≤ 65536
 
 -- what is known of the variables of a job that is read
 pub record Small (job : Job) : Type 0 where
   pub letters : All IsLetter job.vars
-  pub small : are_small job.vars ≡ true
+  pub small : AreSmall job.vars
+
+-- the variables of a whole job of few cells
+sizes : (job : Job) → is_whole job ≡ true → are_few_cells job.vars ≡ true → AreSmall job.vars
+sizes job whole few =
+    let vars = vars_sizes job.vars (whole_vars job whole) in
+    record { objects = vars.0; each = vars.1; cells = leb-true (sum_by cells_in job.vars) 65536 few }
 
 map_there : {X Y : Type 0} (f : X → Y) (o : Option X) (y : Y) → option_map f o ≡ Some y → (x : X) × (o ≡ Some x) × (f x ≡ y)
 map_there f None y e = absurd (cc)
@@ -66,13 +71,15 @@ var_letter line v e =
     let number : Option ℤ = int_of (word_at line 9) in
     letter_from x parts width rows number v (if_there (has_form line var_form) (var_from x parts width rows number) v e).1
 
--- the variables of a job that is read are those of its lines
-from_vars : (vars : List Var) (letter dos : ℕ) (stages : Option (List Stage)) (var : Option ℕ) (job : Job) → job_from vars letter dos stages var ≡ Some job → vars ≡ job.vars
+-- the variables of a job that is read are those of its lines, and small
+from_vars : (vars : List Var) (letter dos : ℕ) (stages : Option (List Stage)) (var : Option ℕ) (job : Job) → job_from vars letter dos stages var ≡ Some job → (vars ≡ job.vars) × AreSmall job.vars
 from_vars vars letter dos None var job e = absurd (cc)
 from_vars vars letter dos (Some stages) None job e = absurd (cc)
-from_vars vars letter dos (Some stages) (Some var) job e = ap (λ (j : Job). j.vars) (checked_is letter (built vars letter dos stages var) job e)
+from_vars vars letter dos (Some stages) (Some var) job e =
+    let made = checked_is letter (built vars letter dos stages var) job e in
+    (ap (λ (j : Job). j.vars) made.0, sizes job made.1 made.2)
 
-block_vars : (lines : List Line) (at : Layout) (vars : List Var) (letter : ℕ) (job : Job) → block_job lines at vars letter ≡ Some job → vars ≡ job.vars
+block_vars : (lines : List Line) (at : Layout) (vars : List Var) (letter : ℕ) (job : Job) → block_job lines at vars letter ≡ Some job → (vars ≡ job.vars) × AreSmall job.vars
 unfolding block_job
 block_vars lines at vars letter job e =
     let stages : Option (List Stage) = all_of (stage_of vars) (slice_range lines (2 + at.vars) (2 + at.vars + at.stages)) in
@@ -84,10 +91,10 @@ block_vars lines at vars letter job e =
 vars_small : (lines : List Line) (at : Layout) (vars : List Var) (job : Job) → All IsLetter vars → vars_job lines at vars ≡ Some job → Small job
 unfolding vars_job
 vars_small lines at vars job letters e =
-    let small = if_there (are_small vars) (option_and_then (block_job lines at vars) (block_letter (line_at lines (1 + at.vars)))) job e in
-    let block = then_there (block_job lines at vars) (block_letter (line_at lines (1 + at.vars))) job small.1 in
-    let same : vars ≡ job.vars = block_vars lines at vars block.0 job block.2 in
-    record { letters = subst (λ (vs : List Var). All IsLetter vs) same letters; small = subst (λ (vs : List Var). are_small vs ≡ true) same small.0 }
+    let few = if_there (nat_le (length vars) 32) (option_and_then (block_job lines at vars) (block_letter (line_at lines (1 + at.vars)))) job e in
+    let block = then_there (block_job lines at vars) (block_letter (line_at lines (1 + at.vars))) job few.1 in
+    let known = block_vars lines at vars block.0 job block.2 in
+    record { letters = subst (λ (vs : List Var). All IsLetter vs) known.0 letters; small = known.1 }
 
 driver_small : (lines : List Line) (job : Job) → driver_job lines ≡ Some job → Small job
 unfolding driver_job
@@ -100,4 +107,4 @@ driver_small lines job e =
 
 pub read_small : (text : List ℕ) (job : Job) → job_of text ≡ Some job → Small job
 unfolding job_of
-read_small text job e = driver_small (lines_of text) job (if_there (nat_le (length text) 1048576) (driver_job (lines_of text)) job e).1
+read_small text job e = driver_small (lines_of text) job (if_there (nat_le (length text) driver_limit) (driver_job (lines_of text)) job e).1

@@ -1,6 +1,6 @@
 -- Each turn of a run keeps that the machine and the values stand at a state of the job.
-use Rattle.std.proofs.Common.{◌≡◌, ℕ, ◌+◌, ◌<◌, ◌≤◌, suc, Bool, true, false, ℤ, Option, None, Some, List, [], ◌∷◌, ◌++◌, length, refl, sym, ap, ap₂, subst, ◌∙◌, inl, inr, arith, add-one}
-use Rattle.std.specs.Prelude.{nat_le, ◌*◌, ◌&&◌, if◌then◌else◌}
+use Rattle.std.proofs.Common.{◌≡◌, ℕ, ◌+◌, ◌<◌, true, false, ℤ, None, Some, List, [], ◌∷◌, length, refl, sym, ap, ap₂, ◌∙◌, inl, inr, arith, add-one}
+use Rattle.std.specs.Prelude.{nat_le, ◌*◌, ◌&&◌}
 use Rattle.std.specs.List.{list_all}
 use Rattle.std.proofs.lemmas.Bool.{and_parts, both_ways, cond-true, cond-false}
 use Rattle.std.proofs.lemmas.Bool.Decides.{leb_tells}
@@ -20,7 +20,7 @@ use Rattle.nim_job.specs.Serial.{driver_at, serial_of}
 use Rattle.nim_job.specs.Step.{State, after_tasks, output_of, step, tasks_next}
 use Rattle.nim_job.specs.Tasks.{block_tasks_of, takes_of}
 use Rattle.nim_job.specs.Whole.{is_between, is_init, is_var, is_whole}
-use Rattle.nim_job.proofs.Follows.{answer_follows, append_follows, finished_ends, full_ends, left_whole, limit_reached, output_prints, run_tasks, starts}
+use Rattle.nim_job.proofs.Follows.{answer_follows, append_follows, finished_ends, full_ends, left_whole, output_prints, run_tasks, starts}
 use Rattle.nim_job.proofs.Whole.{vars_sizes, whole_vars}
 use Rattle.nim_job.proofs.Versions.{step_moves}
 use Rattle.nim_top.specs.Runs.{Stands, StandsAt}
@@ -119,13 +119,6 @@ ends_finished job m values whole stands within is =
     let output : m.driver.output ≡ (state_of job m).driver.output = ap (λ (k : Machine). k.driver.output) at.machine in
     finished_ends job m.driver.count whole (omega (arith, within.counted, steps)) (omega (arith, within.printed, ap length output)) (here job m values Ask.Finished at is)
     ∙ ap (λ (bytes : List ℕ). record { status = 0; bytes = bytes }) (sym (asking_prints_nothing m ∙ output))
-
--- the limit is reached
-pub ends_at_limit : (job : Job) (m : Machine) (values : List Grid) → Stands job m values → ask_of m ≡ Ask.Limit → serial_of job ≡ record { status = 4; bytes = [] }
-ends_at_limit job m values stands is = either m.full refl where
-  either : (full : Bool) → m.full ≡ full → serial_of job ≡ record { status = 4; bytes = [] }
-  either true full = stands.full full
-  either false open_end = limit_reached job m.driver.count (here job m values Ask.Limit (stands.at open_end) is)
 
 -- the block that is asked for is there, and is given as many arguments as it takes
 pub run_allowed : (job : Job) (m : Machine) (values : List Grid) (block : ℕ) (args : List ℤ) → is_whole job ≡ true → Stands job m values → ask_of m ≡ Ask.Run block args

@@ -1,17 +1,18 @@
 -- What the objects hold, task by task.
-use Rattle.std.proofs.Common.{◌≡◌, ℕ, ◌+◌, ◌<◌, ◌≤◌, zero, suc, Bool, true, List, [], ◌∷◌, ◌++◌, length, map, take, get_or, refl, sym, ap, ◌∙◌, subst, inl, inr, arith, All}
+use Rattle.std.proofs.Common.{◌≡◌, ℕ, ◌+◌, ◌<◌, ◌≤◌, true, List, [], ◌∷◌, ◌++◌, length, map, take, get_or, refl, sym, ap, ◌∙◌, subst, inl, inr, arith, All}
 use Rattle.std.specs.List.{list_all}
 use Rattle.std.specs.Prelude.{◌&&◌}
 use Rattle.std.proofs.lemmas.Bool.{cases_lt, ltb-true, and_parts}
-use Rattle.std.proofs.lemmas.List.{take_more, get_or_past, get_or_read}
+use Rattle.std.proofs.lemmas.List.{take_more, get_or_past}
 use Rattle.std.proofs.lemmas.List.Elements.{All-cons, All-nil}
 use Rattle.nim_base.specs.declared.number.Object.{Object}
 use Rattle.nim_base.specs.declared.number.Shape.{Shape}
 use Rattle.nim_base.specs.declared.task.Task.{Task}
 use Rattle.nim_base.specs.Functions.{reads_of}
-use Rattle.nim_base.specs.Value.{Grid, empty_grid}
+use Rattle.nim_base.specs.Value.{Grid}
 use Rattle.nim_job.specs.Objects.{shape_at, value_at}
 use Rattle.nim_job.specs.Step.{written, after_task, after_tasks}
+use Rattle.nim_job.proofs.Versions.{after_tasks-append}
 use Rattle.nim_job.specs.Whole.{has_counts, is_object, is_task}
 
 -- where no result is left nothing is written
@@ -20,11 +21,6 @@ written_none values objects results none = subst (λ rs. written values objects 
   nothing : (objects : List Object) → written values objects [] ≡ values
   nothing [] = refl
   nothing (object ∷ objects) = refl
-
-after_tasks-append : (shapes : List Shape) (values : List Grid) (first second : List Task)
-    → after_tasks shapes values (first ++ second) ≡ after_tasks shapes (after_tasks shapes values first) second
-after_tasks-append shapes values [] second = refl
-after_tasks-append shapes values (task ∷ first) second = after_tasks-append shapes (after_task shapes values task) first second
 
 -- one task more
 pub after_tasks_more : (shapes : List Shape) (values : List Grid) (tasks : List Task) (i : ℕ) (task : Task) → i < length tasks → task ≡ get_or tasks i task

@@ -1,5 +1,5 @@
 -- What a run answers: which driver is refused, and which status and bytes the rest has.
-use Rattle.std.specs.Prelude.{◌≡◌, ◌≢◌, ℕ, ◌<◌, ◌⊎◌, Option, None, Some, List, [], ◌∷◌, ◌==◌, length, map, codes, if◌then◌else◌, IfSome, IsSomeAnd, ◌++◌}
+use Rattle.std.specs.Prelude.{◌≡◌, ℕ, ◌⊎◌, Bool, ◌||◌, nat_le, Option, None, Some, List, [], ◌∷◌, ◌==◌, codes, if◌then◌else◌, ◌++◌}
 use Rattle.std.specs.Io.KnownBytes.{Appends}
 use Rattle.nim_io.specs.Counts.{Rose}
 use Rattle.nim_io.specs.Files.{TellsSome}
@@ -22,7 +22,7 @@ answer_of bytes = ending_from (job_of bytes)
 abbrev pub OfDriver : Option (List (List ℕ × List ℕ)) → List (List ℕ) → (List ℕ → Type 0) → Type 0
 OfDriver told words P = TellsSome told (driver_name words) P
 
--- the driver is refused, or its job passes its limits
+-- this is the status of the driver: 2 where it is refused, 4 where its job passes its limits, else 0
 abbrev pub HasStatus : ℕ → List ℕ → Type 0
 HasStatus status bytes = (answer_of bytes).status ≡ status
 
@@ -37,6 +37,10 @@ IsCutShort old new bytes = HasStatus 0 bytes × AppendsFront old new (answer_of 
 -- this is the driver's status, and its bytes were written
 abbrev pub IsAnswer : ℕ → Option (List ℕ) → Option (List ℕ) → List ℕ → Type 0
 IsAnswer status old new bytes = (status ≡ (answer_of bytes).status) × Appends old new (answer_of bytes).bytes
+
+-- the statuses that there are: nothing else ends a run
+abbrev pub is_status : ℕ → Bool
+is_status status = nat_le status 4 || status == 6 || status == 7
 
 -- the text of a status on standard error, a line; 0 has none
 abbrev pub line_of : List ℕ → List ℕ

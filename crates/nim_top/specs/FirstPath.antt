@@ -13,7 +13,7 @@ use Rattle.nim_job.specs.declared.job.Init.TheVariants.{Fill}
 use Rattle.nim_job.specs.declared.job.Job.{Job}
 use Rattle.nim_job.specs.declared.job.Var.{Var}
 use Rattle.nim_job.specs.declared.stmt.Stmt.{Stmt, Do, Output}
-use Rattle.nim_job.specs.Whole.{are_vars, cells_in, is_whole}
+use Rattle.nim_job.specs.Whole.{cells_in, is_whole}
 use Rattle.nim_top.specs.declared.first_path.layout.Layout.{Layout}
 use Rattle.nim_top.specs.Lines.{Line, lines_of, word_at, has_form, is_letter, name_of, number_of, int_of}
 
@@ -133,9 +133,13 @@ built vars letter dos stages var = record {
   body = body_of dos var;
 }
 
--- the job, where it is whole and no name stands twice
+-- the variables have at most 65,536 cells in all
+abbrev pub are_few_cells : List Var → Bool
+are_few_cells vars = nat_le (sum_by cells_in vars) 65536
+
+-- the job, where it is whole, has few cells, and no name stands twice
 unfoldable pub checked : ℕ → Job → Option Job
-checked letter job = if is_whole job && is_distinct (letter ∷ map letter_of job.vars) then Some job else None
+checked letter job = if is_whole job && are_few_cells job.vars && is_distinct (letter ∷ map letter_of job.vars) then Some job else None
 
 -- the job of a driver's parts, where its stages and its output are there
 abbrev pub job_from : List Var → ℕ → ℕ → Option (List Stage) → Option ℕ → Option Job
@@ -176,13 +180,9 @@ block_job lines at vars letter =
     then job_from vars letter at.dos (all_of (stage_of vars) (slice_range lines (2 + at.vars) (2 + at.vars + at.stages))) (output_var vars (line_at lines (3 + at.vars + at.stages + at.dos)))
     else None
 
--- whether the variables are whole, and have at most 65,536 cells in all
-abbrev pub are_small : List Var → Bool
-are_small vars = are_vars vars && nat_le (sum_by cells_in vars) 65536
-
--- the job once the variables are known
+-- the job once the variables are known; of more than 32 there is none
 unfoldable pub vars_job : List Line → Layout → List Var → Option Job
-vars_job lines at vars = if are_small vars then option_and_then (block_job lines at vars) (block_letter (line_at lines (1 + at.vars))) else None
+vars_job lines at vars = if nat_le (length vars) 32 then option_and_then (block_job lines at vars) (block_letter (line_at lines (1 + at.vars))) else None
 
 -- the job of lines that are laid out as a driver
 unfoldable pub driver_job : List Line → Option Job
@@ -190,6 +190,10 @@ driver_job lines =
     let at : Layout = layout_of lines in
     if is_laid_out lines at then option_and_then (vars_job lines at) (all_of var_of (slice_range lines 1 (1 + at.vars))) else None
 
--- the job of a driver, where its text has the form and at most 1,048,576 bytes
+-- the most bytes that a driver may have
+abbrev pub driver_limit : ℕ
+driver_limit = 1048576
+
+-- the job of a driver, where its text has the form and isn't too long
 unfoldable pub job_of : List ℕ → Option Job
-job_of bytes = if nat_le (length bytes) 1048576 then driver_job (lines_of bytes) else None
+job_of bytes = if nat_le (length bytes) driver_limit then driver_job (lines_of bytes) else None

@@ -9,7 +9,6 @@ mod line;
 #[cfg(test)]
 mod tests;
 mod var;
-mod whole;
 mod word;
 
 use block::{are_instances, block_letter, output_var, stages};
@@ -20,8 +19,11 @@ use nim_base::NoMemory;
 use nim_job::{Job, Var};
 use std::alloc::Global;
 use var::variables;
-use whole::{are_vars, cells};
 
+/// The most bytes that a driver may have.
+pub const DRIVER_LIMIT: usize = 1_048_576;
+
+/// The job once the variables and the block's letter are known.
 #[tactic(auto, unfolding(crate::specs::FirstPath::block_job))]
 fn block_job(
     alloc: Global,
@@ -58,6 +60,7 @@ fn block_job(
     )
 }
 
+/// The job once the variables are known.
 #[tactic(auto, unfolding(crate::specs::FirstPath::vars_job))]
 fn vars_job(
     alloc: Global,
@@ -69,10 +72,7 @@ fn vars_job(
     ensures value { IfOk result (λ job. job ≡ vars_job lines.now at.now vars.items) }
     ensures whole { IfOk result (λ job. IfSome job (λ j. IsTrue (is_whole j))) }
 {
-    if !are_vars(vars.as_slice()) {
-        return Ok(None);
-    }
-    if cells(vars.as_slice()) > 65536 {
+    if vars.len() > 32 {
         return Ok(None);
     }
     let Some(letter) = block_letter(&lines[1 + at.vars]) else {
@@ -81,6 +81,7 @@ fn vars_job(
     block_job(alloc, lines, at, vars, letter)
 }
 
+/// The job of a driver's lines.
 #[tactic(auto, unfolding(crate::specs::FirstPath::driver_job))]
 fn driver_job(alloc: Global, lines: &[Line]) -> Result<Option<Job>, NoMemory>
     ensures value { IfOk result (λ job. job ≡ driver_job lines.now) }
@@ -96,14 +97,14 @@ fn driver_job(alloc: Global, lines: &[Line]) -> Result<Option<Job>, NoMemory>
     vars_job(alloc, lines, &at, vars)
 }
 
-#[tactic(auto, unfolding(crate::specs::FirstPath::job_of))]
 /// The job of a driver's text, `None` where the text isn't of the form that is read so far:
 /// `job_of` of `specs/FirstPath.antt`.
+#[tactic(auto, unfolding(crate::specs::FirstPath::job_of))]
 pub fn read_driver(alloc: Global, bytes: &[u8]) -> Result<Option<Job>, NoMemory>
     ensures job { IfOk result (λ job. job ≡ job_of bytes.now) }
     ensures whole { IfOk result (λ job. IfSome job (λ j. IsTrue (is_whole j))) }
 {
-    if bytes.len() > 1_048_576 {
+    if bytes.len() > DRIVER_LIMIT {
         return Ok(None);
     }
     let lines = lines(alloc, bytes)?;

@@ -3,19 +3,16 @@ ghost use Rattle.std.specs.Io.KnownBytes.{Appends};
 ghost use Rattle.nim_io.specs.Counts.{Rose};
 ghost use Rattle.nim_io.specs.Sink.{AppendsFront};
 ghost use Rattle.nim_job.specs.Versions.{KeepsVersions, ReadsVersions};
-ghost use Rattle.nim_top.specs.Answer.{HasStatus, IsAnswer, IsCutShort, IsDone, OfDriver, TellsText};
+ghost use Rattle.nim_top.specs.Answer.{HasStatus, IsAnswer, IsCutShort, IsDone, OfDriver, TellsText, is_status};
 ghost use Rattle.nim_top.specs.FirstPath.{job_of};
 ghost use Rattle.nim_top.specs.Words.{is_accepted, texts_of};
 
 use crate::Status;
-use crate::first_path::read_driver;
+use crate::first_path::{DRIVER_LIMIT, read_driver};
 use crate::run::run;
 use crate::words::driver_name;
 use nim_io::{Files, LoadFault, Sink, read_all, write_all};
 use std::alloc::Global;
-
-/// The most bytes that a driver may have.
-const DRIVER_LIMIT: usize = 1_048_576;
 
 /// The command `replay FILE`: reads the driver, runs its tasks, writes what they print to `out`, and the
 /// text of the status to `err`. The status and the bytes of a driver are `answer_of` of
@@ -27,6 +24,7 @@ pub fn top_replay<L: Files, K: Sink>(
     out: &mut K,
     err: &mut K,
 ) -> Status
+    ensures kinds { is_status result.0 ≡ true }
     ensures words { (result.0 ≡ 1) ↔ (is_accepted (texts_of words.now) ≡ false) }
 
     // The driver's bytes decide whether it is refused, and what is printed. No driver that is read meets a limit.
@@ -64,6 +62,7 @@ fn tell<K: Sink>(status: Status, err: &mut K)
 
 // All but the text of the status.
 fn replay<L: Files, K: Sink>(alloc: Global, words: &[String], files: &mut L, out: &mut K) -> Status
+    ensures kinds { is_status result.0 ≡ true }
     ensures words { (result.0 ≡ 1) ↔ (is_accepted (texts_of words.now) ≡ false) }
     ensures refused { result.0 ≡ 2 → OfDriver (L.told files.old) (texts_of words.now) (HasStatus 2) }
     ensures ends { result.0 ≢ 4 }
@@ -91,6 +90,7 @@ fn replay<L: Files, K: Sink>(alloc: Global, words: &[String], files: &mut L, out
 
 // Runs a driver's text, and writes what its job prints.
 fn answer<K: Sink>(alloc: Global, bytes: &[u8], out: &mut K) -> Status
+    ensures kinds { is_status result.0 ≡ true }
     ensures refused { result.0 ≡ 2 → HasStatus 2 bytes.now }
     ensures ends { result.0 ≢ 4 }
     ensures done { result.0 ≡ 0 → IsDone (K.written out.old) (K.written out.new) bytes.now }

@@ -1,5 +1,8 @@
+use crate::first_path::read_driver;
 use crate::{Status, top_replay};
+use nim_base::{Func, Object, Param, Value};
 use nim_io::{FileFail, MemFiles, MemSink};
+use nim_job::{block_forms, is_whole, machine_follows, versions_are_read};
 use std::alloc::{AllocError, Global};
 use std::test::Fail;
 
@@ -9,12 +12,16 @@ const TWO: &str =
 const GREATEST: &str =
     "nimbus 1\nvar a parts 1 width 1 rows 1 fill 9223372036854775807\nblock b()\naddc a[0] -> a[0] with 1\nend\ndo b()\noutput a\n";
 
-fn sink(alloc: Global) -> MemSink {
+const PAIR: &str =
+    "nimbus 1\nvar a parts 2 width 1 rows 1 fill 3\nvar z parts 2 width 1 rows 1 fill 0\nblock b()\naddc a[i] -> z[i] with 4 each i\nend\ndo b()\noutput z\n";
+
+/// A sink in memory that doesn't fail.
+pub(crate) fn sink(alloc: Global) -> MemSink {
     MemSink::new(alloc, 64, Vec::new(alloc))
 }
 
-// Replays a driver in memory.
-fn replayed(
+/// Replays a driver in memory.
+pub(crate) fn replayed(
     alloc: Global,
     driver: &str,
     fail: Option<FileFail>,
@@ -57,16 +64,6 @@ fn sums_wrap(rt: HostRuntime) -> Result<(), Fail> {
 }
 
 #[test]
-fn other_texts_are_refused(rt: HostRuntime) -> Result<(), Fail> {
-    let (mut out, mut err) = (sink(rt.alloc()), sink(rt.alloc()));
-    let status = replayed(rt.alloc(), "nimbus 1\n", None, &mut out, &mut err)?;
-    assert_eq!(rt; status.0, 2);
-    assert!(rt; out.bytes().is_empty());
-    assert!(rt; err.bytes() == b"nimbus: driver line 0 rule 99\n".as_slice());
-    Ok(())
-}
-
-#[test]
 fn a_sink_that_fails_keeps_the_front(rt: HostRuntime) -> Result<(), Fail> {
     let mut fails = Vec::new(rt.alloc());
     fails.push(1)?;
@@ -99,5 +96,54 @@ fn other_words_are_refused(rt: HostRuntime) -> Result<(), Fail> {
     let status = top_replay(rt.alloc(), words.as_slice(), &mut files, &mut out, &mut err);
     assert_eq!(rt; status.0, 1);
     assert!(rt; err.bytes() == b"nimbus: words refused\n".as_slice());
+    Ok(())
+}
+
+#[test]
+fn a_block_has_a_form_for_each_part(rt: HostRuntime) -> Result<(), Fail> {
+    let alloc = rt.alloc();
+    let Some(job) = read_driver(alloc, PAIR.as_bytes())? else {
+        return Err(Fail::from("it isn't read"));
+    };
+    assert_eq!(rt; job.blocks.len(), 1);
+    let forms = block_forms(alloc, &job, 0)?;
+    assert_eq!(rt; forms.len(), 2);
+    for part in 0..2u16 {
+        let form = &forms[usize::from(part)];
+        assert_eq!(rt; form.func, Func::Addc, "{part}");
+        assert_eq!(rt;
+            form.params.as_slice(),
+            [Param::Const(4)].as_slice(),
+            "{part}"
+        );
+        assert_eq!(rt; form.reads.as_slice(), [Object(part)].as_slice(), "{part}");
+        assert_eq!(rt;
+            form.writes.as_slice(),
+            [Object(2 + part)].as_slice(),
+            "{part}"
+        );
+    }
+    Ok(())
+}
+
+#[test]
+fn laws_hold_of_a_job_that_is_read(rt: HostRuntime) -> Result<(), Fail> {
+    let Some(mut job) = read_driver(rt.alloc(), TWO.as_bytes())? else {
+        return Err(Fail::from("it isn't read"));
+    };
+    versions_are_read(&job);
+    machine_follows(&job);
+    assert!(rt; is_whole(&job));
+    job.steps = 0;
+    assert!(rt; !is_whole(&job));
+    Ok(())
+}
+
+#[test]
+fn rows_are_pushed_in_order(rt: HostRuntime) -> Result<(), Fail> {
+    let mut value = Value::new(rt.alloc(), 2);
+    value.push_row(&[1, 2])?;
+    value.push_row(&[3, 4])?;
+    assert_eq!(rt; value.cells(), [1, 2, 3, 4].as_slice());
     Ok(())
 }

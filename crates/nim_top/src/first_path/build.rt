@@ -1,12 +1,11 @@
-ghost use Rattle.std.specs.Prelude.{◌≡◌, ◌==◌, ◌<◌, ◌∷◌, map, IfOk, IfSome, IsTrue};
-ghost use Rattle.std.specs.List.{list_any};
-ghost use Rattle.nim_job.specs.Whole.{is_whole};
-ghost use Rattle.nim_top.specs.FirstPath.{body_of, built, checked, is_distinct, letter_of};
+ghost use Rattle.std.specs.Prelude.{◌≡◌, ◌==◌, ◌<◌, ◌≤◌, ◌∷◌, map, IfOk, IfSome, IsTrue, true};
+ghost use Rattle.std.specs.List.{list_all, list_any};
+ghost use Rattle.nim_job.specs.Whole.{cells_in, is_var, is_whole};
+ghost use Rattle.nim_top.specs.FirstPath.{are_few_cells, body_of, built, checked, is_distinct, letter_of};
 
 use super::var::{letter_of, name_of_letter};
-use super::whole::is_whole;
 use nim_base::{NoMemory, Seq};
-use nim_job::{Block, Job, Stage, Stmt, Var};
+use nim_job::{Block, Job, Stage, Stmt, Var, is_whole};
 use sqlite_items::Items;
 use std::alloc::Global;
 
@@ -84,13 +83,39 @@ pub fn build(
     })
 }
 
+fn cells_in(var: &Var) -> u64
+    requires { is_var var.now ≡ true }
+    ensures value { result ≡ cells_in var.now }
+    ensures below { result ≤ 4194304 }
+{
+    let area = var.shape.width as u64 * var.shape.rows as u64;
+    var.parts as u64 * area
+}
+
+fn are_few_cells(vars: &[Var]) -> bool
+    requires { list_all is_var vars.now ≡ true }
+    ensures { result ≡ are_few_cells vars.now }
+{
+    let mut cells: u64 = 0;
+    for var in vars {
+        cells += cells_in(var);
+        if cells > 65536 {
+            return false;
+        }
+    }
+    true
+}
+
+/// The job again, where it is whole, has few cells, and no name stands twice.
 #[tactic(auto, unfolding(crate::specs::FirstPath::checked))]
-/// The job again, where it is whole and no name stands twice.
 pub fn checked(alloc: Global, letter: u8, job: Job) -> Result<Option<Job>, NoMemory>
     ensures value { IfOk result (λ answer. answer ≡ checked letter job) }
     ensures whole { IfOk result (λ answer. IfSome answer (λ j. IsTrue (is_whole j))) }
 {
     if !is_whole(&job) {
+        return Ok(None);
+    }
+    if !are_few_cells(job.vars.as_slice()) {
         return Ok(None);
     }
     let letters = letters(alloc, letter, job.vars.as_slice())?;

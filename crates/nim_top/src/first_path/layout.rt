@@ -29,8 +29,8 @@ fn after<'s, 'a>(lines: &'s [Line<'a>], at: usize) -> &'s [Line<'a>]
     if at < lines.len() { &lines[at..] } else { &[] }
 }
 
-#[tactic(auto, unfolding(crate::specs::FirstPath::layout_of))]
 /// The layout that the first words of the lines give.
+#[tactic(auto, unfolding(crate::specs::FirstPath::layout_of))]
 pub fn lay_out(lines: &[Line]) -> Layout
     ensures value { result ≡ layout_of lines.now }
     ensures within { result.vars + result.stages + result.dos ≤ length lines.now }
@@ -41,8 +41,8 @@ pub fn lay_out(lines: &[Line]) -> Layout
     Layout { vars, stages, dos }
 }
 
-#[tactic(auto, unfolding(crate::specs::FirstPath::is_laid_out))]
 /// Whether there is a variable and a stage, and the other lines are in their places.
+#[tactic(auto, unfolding(crate::specs::FirstPath::is_laid_out))]
 pub fn is_laid_out(lines: &[Line], at: &Layout) -> bool
     requires { at.now.vars + at.now.stages + at.now.dos ≤ length lines.now }
     ensures value { result ≡ is_laid_out lines.now at.now }

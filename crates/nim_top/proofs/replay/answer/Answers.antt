@@ -1,4 +1,4 @@
-use Rattle.std.proofs.Common.{ap, sym, subst, ◌∙◌, List, ℕ}
+use Rattle.std.proofs.Common.{sym, subst, ◌∙◌, List, ℕ}
 use Rattle.nim_io.specs.Sink.{AppendsFront}
 use Rattle.nim_top.proofs.Ends.{cut_short, no_limit}
 use Rattle.nim_top.proofs.replay.answer.Goals as goal

@@ -1,15 +1,13 @@
-use Rattle.std.proofs.Common.{◌≡◌, ◌≤◌, List, ℕ, Some, length, ap, ap₂, sym, subst, ◌∙◌, All, true}
-use Rattle.std.specs.List.{list_all}
+use Rattle.std.proofs.Common.{◌≡◌, ◌≤◌, List, Some, length, ap, ap₂, sym, subst, ◌∙◌, All}
 use Rattle.nim_base.specs.declared.number.Shape.{Shape}
 use Rattle.nim_base.specs.declared.task.Task.{Task}
 use Rattle.nim_base.specs.Value.{Grid}
 use Rattle.nim_job.specs.declared.ask.Asked.{Asked}
 use Rattle.nim_job.specs.Machine.{Machine, after_ask, answered, appended, asked_by}
-use Rattle.nim_job.specs.Serial.{Ending}
 use Rattle.nim_job.specs.Step.{after_tasks, output_of}
 use Rattle.nim_job.specs.Tasks.{block_tasks_of}
 use Rattle.nim_job.proofs.Whole.{length_shapes, vars_sizes, whole_vars, widths}
-use Rattle.nim_top.proofs.Stood.{ends_at_limit, ends_finished, output_allowed, output_goes, run_allowed, run_goes}
+use Rattle.nim_top.proofs.Stood.{ends_finished, output_allowed, output_goes, run_allowed, run_goes}
 use Rattle.nim_top.proofs.run.turn.Goals as goal
 
 pub block_tasks-requires-clause-block : goal.block_tasks-requires-clause-block

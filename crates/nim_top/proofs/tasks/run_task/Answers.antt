@@ -1,4 +1,4 @@
-use Rattle.std.proofs.Common.{◌≡◌, length, ap, ◌∙◌, refl}
+use Rattle.std.proofs.Common.{length, refl}
 use Rattle.nim_top.proofs.Written.{places_below, reads_of_places, shapes_wide, task_reads}
 use Rattle.nim_top.proofs.tasks.run_task.Goals as goal
 

@@ -1,13 +1,15 @@
-ghost use Rattle.std.specs.Prelude.{◌≡◌, ◌<◌, ◌≤◌, ◌^◌, ◌==◌, length, nat_le, slice_get, IsTrue, true, false};
+ghost use Rattle.std.specs.Prelude.{◌≡◌, ◌<◌, ◌≤◌, ◌^◌, ◌==◌, length, nat_le, slice_get, true, false};
 ghost use Rattle.std.specs.List.{list_all, sum_by};
 ghost use Rattle.std.specs.Option.{option_map_or};
-ghost use Rattle.nim_job.specs.Objects.{objects_of, parts_of};
+ghost use Rattle.nim_job.specs.Objects.{objects_of};
 ghost use Rattle.nim_job.specs.Tasks.{turns_of};
 ghost use Rattle.nim_job.specs.Whole.{are_vars, cells_in, has_counts, is_block, is_init, is_param, is_place, is_ref, is_stage, is_stmt, is_var, is_whole};
 
+use crate::layout::turns;
+use crate::{Block, Init, Job, Place, Ref, Stage, Stmt, Var};
 use nim_base::{Func, Param};
-use nim_job::{Block, Init, Job, Place, Ref, Stage, Stmt, Var};
 
+/// Whether what a variable holds at first is there.
 fn is_init(init: &Init) -> bool
     ensures { result ≡ is_init init.now }
 {
@@ -17,6 +19,7 @@ fn is_init(init: &Init) -> bool
     }
 }
 
+/// Whether a variable is whole.
 fn is_var(var: &Var) -> bool
     ensures { result ≡ is_var var.now }
 {
@@ -31,6 +34,7 @@ fn is_var(var: &Var) -> bool
         && is_init(&var.init)
 }
 
+/// Whether each variable is whole.
 fn are_each_var(vars: &[Var]) -> bool
     ensures { result ≡ list_all is_var vars.now }
 {
@@ -42,6 +46,7 @@ fn are_each_var(vars: &[Var]) -> bool
     true
 }
 
+/// The objects of variables in all.
 fn objects(vars: &[Var]) -> u64
     requires { length vars.now ≤ 32 }
     ensures { result ≡ objects_of vars.now }
@@ -53,6 +58,7 @@ fn objects(vars: &[Var]) -> u64
     objects
 }
 
+/// The cells of a variable.
 fn cells_in(var: &Var) -> u64
     requires { is_var var.now ≡ true }
     ensures value { result ≡ cells_in var.now }
@@ -63,7 +69,7 @@ fn cells_in(var: &Var) -> u64
 }
 
 /// The cells of variables in all.
-pub fn cells(vars: &[Var]) -> u64
+fn cells(vars: &[Var]) -> u64
     requires few { length vars.now ≤ 32 }
     requires each { list_all is_var vars.now ≡ true }
     ensures { result ≡ sum_by cells_in vars.now }
@@ -76,10 +82,8 @@ pub fn cells(vars: &[Var]) -> u64
 }
 
 /// Whether variables are whole.
-pub fn are_vars(vars: &[Var]) -> bool
-    ensures value { result ≡ are_vars vars.now }
-    ensures few { IsTrue result → length vars.now ≤ 32 }
-    ensures each { IsTrue result → list_all is_var vars.now ≡ true }
+fn are_vars(vars: &[Var]) -> bool
+    ensures { result ≡ are_vars vars.now }
 {
     if vars.len() > 32 {
         return false;
@@ -90,6 +94,7 @@ pub fn are_vars(vars: &[Var]) -> bool
     objects(vars) <= 512 && cells(vars) <= 1_048_576
 }
 
+/// Whether a place may stand in a stage, with `each` or not.
 fn is_place(each: bool, place: Place) -> bool
     ensures { result ≡ is_place each place }
 {
@@ -100,6 +105,7 @@ fn is_place(each: bool, place: Place) -> bool
     }
 }
 
+/// Whether each reference names a variable that is there.
 fn are_refs(vars: &[Var], each: bool, refs: &[Ref]) -> bool
     ensures { result ≡ list_all (is_ref vars.now each) refs.now }
 {
@@ -111,6 +117,7 @@ fn are_refs(vars: &[Var], each: bool, refs: &[Ref]) -> bool
     true
 }
 
+/// Whether a parameter is there, of so many arguments.
 fn is_param(args: u8, param: Param) -> bool
     ensures { result ≡ is_param args param }
 {
@@ -120,6 +127,7 @@ fn is_param(args: u8, param: Param) -> bool
     }
 }
 
+/// Whether each parameter is there.
 fn are_params(args: u8, params: &[Param]) -> bool
     ensures { result ≡ list_all (is_param args) params.now }
 {
@@ -131,6 +139,7 @@ fn are_params(args: u8, params: &[Param]) -> bool
     true
 }
 
+/// Whether the counts of parameters, reads and writes are those of the function.
 fn has_counts(func: Func, params: usize, reads: usize, writes: usize) -> bool
     ensures { result ≡ has_counts func params reads writes }
 {
@@ -140,6 +149,7 @@ fn has_counts(func: Func, params: usize, reads: usize, writes: usize) -> bool
     }
 }
 
+/// Whether a stage is whole.
 fn is_stage(vars: &[Var], args: u8, stage: &Stage) -> bool
     ensures { result ≡ is_stage vars.now args stage.now }
 {
@@ -153,6 +163,7 @@ fn is_stage(vars: &[Var], args: u8, stage: &Stage) -> bool
         && are_refs(vars, stage.each, stage.writes.as_slice())
 }
 
+/// Whether each stage is whole.
 fn are_stages(vars: &[Var], args: u8, stages: &[Stage]) -> bool
     ensures { result ≡ list_all (is_stage vars.now args) stages.now }
 {
@@ -164,27 +175,7 @@ fn are_stages(vars: &[Var], args: u8, stages: &[Stage]) -> bool
     true
 }
 
-fn parts(vars: &[Var], var: u8) -> u32
-    ensures { result ≡ parts_of vars.now var }
-{
-    match vars.get(var as usize) {
-        Some(var) => var.parts,
-        None => 0,
-    }
-}
-
-fn turns(vars: &[Var], stage: &Stage) -> u32
-    ensures { result ≡ turns_of vars.now stage.now }
-{
-    if !stage.each {
-        return 1;
-    }
-    match stage.writes.as_slice().first() {
-        Some(written) => parts(vars, written.var),
-        None => 0,
-    }
-}
-
+/// Whether stages have at most 1,024 tasks.
 fn are_few_tasks(vars: &[Var], stages: &[Stage]) -> bool
     ensures { result ≡ nat_le (sum_by (turns_of vars.now) stages.now) 1024 }
 {
@@ -198,6 +189,7 @@ fn are_few_tasks(vars: &[Var], stages: &[Stage]) -> bool
     true
 }
 
+/// Whether each block is whole.
 fn are_blocks(vars: &[Var], blocks: &[Block]) -> bool
     ensures { result ≡ list_all (is_block vars.now) blocks.now }
 {
@@ -212,6 +204,7 @@ fn are_blocks(vars: &[Var], blocks: &[Block]) -> bool
     true
 }
 
+/// Whether a block is there and takes so many arguments.
 fn is_call(blocks: &[Block], block: u8, args: usize) -> bool
     ensures { result ≡ option_map_or (λ b. args == b.args) (slice_get blocks.now block) false }
 {
@@ -221,6 +214,7 @@ fn is_call(blocks: &[Block], block: u8, args: usize) -> bool
     }
 }
 
+/// Whether a statement is whole.
 fn is_stmt(job: &Job, stmt: &Stmt) -> bool
     ensures { result ≡ is_stmt job.now stmt.now }
 {
@@ -231,6 +225,7 @@ fn is_stmt(job: &Job, stmt: &Stmt) -> bool
     }
 }
 
+/// Whether each statement is whole.
 fn are_stmts(job: &Job, body: &[Stmt]) -> bool
     ensures { result ≡ list_all (is_stmt job.now) body.now }
 {
@@ -242,7 +237,8 @@ fn are_stmts(job: &Job, body: &[Stmt]) -> bool
     true
 }
 
-/// Whether a job is whole: `is_whole` of `specs/Whole.antt` of the crate `nim_job`.
+/// Whether a job is whole, as the calls that read it need it: its limits, and that what it names is there. Its
+/// meaning is `is_whole` of `specs/Whole.antt`. Takes no memory.
 pub fn is_whole(job: &Job) -> bool
     ensures { result ≡ is_whole job.now }
 {

@@ -1,7 +1,7 @@
 use Rattle.std.proofs.Common.{◌≡◌, ◌≤◌, take}
 use Rattle.std.specs.List.{sum_by}
 use Rattle.nim_job.specs.Tasks.{turns_of}
-use Rattle.nim_top.proofs.first_path.whole.are_few_tasks.Given as goal
+use Rattle.nim_job.proofs.wholeness.are_few_tasks.Given as goal
 
 abbrev pub invariant-loop-stage : goal.invariant-loop-stage
 invariant-loop-stage l = record {
