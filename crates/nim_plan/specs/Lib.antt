@@ -1,3 +1,4 @@
 pub mod Covered
 pub mod Good
 pub mod Legal
+pub mod Origins

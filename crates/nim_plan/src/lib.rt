@@ -5,6 +5,7 @@ mod contents;
 mod covering;
 mod listing;
 mod ranks;
+mod slots;
 #[cfg(test)]
 mod tests;
 
