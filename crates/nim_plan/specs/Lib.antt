@@ -2,3 +2,4 @@ pub mod Covered
 pub mod Good
 pub mod Legal
 pub mod Origins
+pub mod Reached
