@@ -65,3 +65,31 @@ both_same false x y same = refl
 pub both_none : (b x : Bool) → (b ≡ true → x ≡ false) → (b && x) ≡ false
 both_none true x none = none refl
 both_none false x none = refl
+
+and_true : (b : Bool) → (b && true) ≡ b
+and_true true = refl
+and_true false = refl
+
+and_false : (b : Bool) → (b && false) ≡ false
+and_false true = refl
+and_false false = refl
+
+-- a second test that is the same for all items
+pub any_and : {X : Type 0} (p : X → Bool) (b : Bool) (xs : List X) → list_any (λ x. p x && b) xs ≡ (list_any p xs && b)
+any_and {X} p true xs = any_same (λ (x : X). p x && true) p (λ x. and_true (p x)) xs ∙ sym (and_true (list_any p xs))
+any_and {X} p false xs = any_nothing (λ (x : X). p x && false) (λ x. and_false (p x)) xs ∙ sym (and_false (list_any p xs))
+
+kept_twice : {X : Type 0} (p : X → Bool) (x : X) (rest : List X) (q : Bool) → filter p (if q then x ∷ rest else rest) ≡ (if q && p x then x ∷ filter p rest else filter p rest)
+kept_twice p x rest true = refl
+kept_twice p x rest false = refl
+
+-- items that pass two tests, one after the other
+pub filter_twice : {X : Type 0} (p q r : X → Bool) → ((x : X) → r x ≡ (q x && p x)) → (xs : List X) → filter p (filter q xs) ≡ filter r xs
+filter_twice p q r both [] = refl
+filter_twice {X} p q r both (x ∷ xs) =
+    kept_twice p x (filter q xs) (q x)
+    ∙ ap₂ (λ (b : Bool) (rest : List X). if b then x ∷ rest else rest) (sym (both x)) (filter_twice p q r both xs)
+
+pub filter_all : {X : Type 0} (p : X → Bool) → ((x : X) → p x ≡ true) → (xs : List X) → filter p xs ≡ xs
+filter_all p all [] = refl
+filter_all {X} p all (x ∷ xs) = ap₂ (λ (b : Bool) (rest : List X). if b then x ∷ rest else rest) (all x) (filter_all p all xs)

@@ -63,7 +63,7 @@ in_row : (commands : List Command) (place earlier : ℕ)
     → option_map_or (λ (reached : Bool). reached) (slice_get (row_of commands place) earlier) false ≡ is_reached place commands place earlier
 in_row commands place earlier =
     elim (cases_lt earlier place) [
-      inl less ↦
+      | inl less ↦
           ap (λ (found : Option Bool). option_map_or (λ (reached : Bool). reached) found false)
           (slice_get-map (is_reached place commands place) (range_with_len 0 place) earlier ∙ ap (option_map (is_reached place commands place)) (range_get place earlier less))
       | inr past ↦

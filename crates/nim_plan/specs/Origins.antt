@@ -1,5 +1,4 @@
 -- Where the content of a slot comes from, looking back over one command.
-use Rattle.std.specs.Prelude.{ℕ}
 use Rattle.nim_base.specs.declared.number.Slot.{Slot}
 use Rattle.nim_command.specs.Holds.{Content, content_at}
 use Rattle.nim_plan.specs.declared.contents.Origin.{Origin}

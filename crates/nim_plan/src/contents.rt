@@ -42,9 +42,21 @@ fn look_back(kind: &Kind, slot: Slot) -> Origin
 {
     match kind {
         Kind::Create { slot: written, .. } if slot.0 == written.0 => Origin::Put(0),
-        Kind::Load { slot: written, version, .. } | Kind::Receive { slot: written, version } if slot.0 == written.0 => Origin::Put(*version),
+        Kind::Load {
+            slot: written,
+            version,
+            ..
+        }
+        | Kind::Receive {
+            slot: written,
+            version,
+        } if slot.0 == written.0 => Origin::Put(*version),
         Kind::Copy { from, to } if slot.0 == to.0 => Origin::Before(*from),
-        Kind::Run { position, writes, .. } if is_among(writes.as_slice(), slot) => Origin::Put(version_after(*position)),
+        Kind::Run {
+            position,
+            writes,
+            ..
+        } if is_among(writes.as_slice(), slot) => Origin::Put(version_after(*position)),
         _ => Origin::Before(slot),
     }
 }
