@@ -6,6 +6,9 @@ use crate::slots::is_among;
 use nim_base::{Object, Position, Slot, Version};
 use nim_command::{Command, Kind};
 
+/// From this many on, slots are scratch slots of the same objects.
+const SLOTS: u16 = 512;
+
 /// Where the content of a slot comes from.
 pub(crate) enum Origin {
     /// The command before put this version of the slot's object.
@@ -32,9 +35,6 @@ pub fn holds(commands: &[Command], before: usize, slot: Slot) -> Option<(Object,
     }
     None
 }
-
-/// From this many on, slots are scratch slots of the same objects.
-const SLOTS: u16 = 512;
 
 /// What a command of this kind leaves in a slot.
 fn look_back(kind: &Kind, slot: Slot) -> Origin
