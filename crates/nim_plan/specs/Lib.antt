@@ -1,3 +1,7 @@
 pub mod Covered
+pub mod Free
 pub mod Good
 pub mod Legal
+pub mod Listing
+pub mod Origins
+pub mod Reached

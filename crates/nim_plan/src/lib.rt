@@ -4,9 +4,12 @@
 mod contents;
 mod covering;
 mod listing;
+mod member;
 mod ranks;
+mod slots;
 #[cfg(test)]
 mod tests;
+mod waits;
 
 pub use contents::holds;
 pub use covering::covered;
