@@ -2,6 +2,7 @@
 #![tactic(auto)]
 
 mod cellwise;
+mod group;
 mod keep;
 mod laws;
 mod pairwise;

@@ -1,10 +1,10 @@
 ghost use Rattle.std.specs.Prelude.{◌≡◌, ◌≤◌, ◌<◌, [], ◌∷◌, length, All, IfOk};
 ghost use Rattle.nim_base.specs.Value.{fitted};
 ghost use Rattle.nim_base.specs.Apply.{HasCounts, apply_of};
-ghost use Rattle.nim_funcs.specs.Known.{IsKnown};
 ghost use Rattle.nim_base.specs.Functions.{reads_of};
 
 use crate::cellwise::{addc, mulc};
+use crate::group::{group_by, merge};
 use crate::keep::keep_by;
 use crate::pairwise::{add, max, sub};
 use crate::split::split_by;
@@ -60,7 +60,6 @@ pub fn apply(
     reads: &[usize],
     shapes: &[Shape],
 ) -> Result<Vec<Value>, NoMemory>
-    requires known { IsKnown func }
     requires counts { HasCounts func params.now reads.now shapes.now }
     requires reads { All (λ index. index < length values.now) reads.now }
     requires wide { All (λ shape. 1 ≤ shape.width) shapes.now }
@@ -109,6 +108,11 @@ pub fn apply(
             shapes[0],
             shapes[1],
         ),
-        Func::Group | Func::Merge => Ok(Vec::new(alloc)),
+        Func::Group => one(
+            alloc,
+            group_by(alloc, &values[reads[0]], params)?,
+            shapes[0],
+        ),
+        Func::Merge => one(alloc, merge(alloc, values, reads)?, shapes[0]),
     }
 }
