@@ -24,7 +24,7 @@ with_number_by true greater number least more later = refl
 with_number_by false true number least more later = refl
 with_number_by false false number least more later = refl
 
-with_number_is : (number least : ℤ) (more : List ℤ) → with_number number (least ∷ more) ≡ match_ordering (int_cmp number least) (number ∷ least ∷ more) (least ∷ more) (least ∷ with_number number more)
+pub with_number_is : (number least : ℤ) (more : List ℤ) → with_number number (least ∷ more) ≡ match_ordering (int_cmp number least) (number ∷ least ∷ more) (least ∷ more) (least ∷ with_number number more)
 with_number_is number least more = with_number_by (int_lt number least) (int_lt least number) number least more (with_number number more)
 
 -- the keys of sums, with one more summand
@@ -33,7 +33,7 @@ keys_by Less key value entry entries later numbers is = refl
 keys_by Equal key value entry entries later numbers is = refl
 keys_by Greater key value entry entries later numbers is = ap (λ (ns : List ℤ). entry.0 ∷ ns) is
 
-keys-insert : (entries : List (ℤ × ℤ)) (key value : ℤ) → keys_of (insert_entry int_cmp entries key value) ≡ with_number key (keys_of entries)
+pub keys-insert : (entries : List (ℤ × ℤ)) (key value : ℤ) → keys_of (insert_entry int_cmp entries key value) ≡ with_number key (keys_of entries)
 keys-insert [] key value = refl
 keys-insert (entry ∷ entries) key value =
     keys_by (int_cmp key entry.0) key value entry entries (insert_entry int_cmp entries key value) (with_number key (keys_of entries)) (keys-insert entries key value)
@@ -96,7 +96,7 @@ below-with_number least number (first ∷ numbers) is below =
     subst (AllByRecursion (λ n. int_cmp least n ≡ Less)) (sym (with_number_is number first numbers))
     (below_by (int_cmp number first) least number first numbers (with_number number numbers) is below (below-with_number least number numbers is below.1))
 
-below-trans : (number least : ℤ) (numbers : List ℤ) → int_cmp number least ≡ Less → AllByRecursion (λ n. int_cmp least n ≡ Less) numbers → AllByRecursion (λ n. int_cmp number n ≡ Less) numbers
+pub below-trans : (number least : ℤ) (numbers : List ℤ) → int_cmp number least ≡ Less → AllByRecursion (λ n. int_cmp least n ≡ Less) numbers → AllByRecursion (λ n. int_cmp number n ≡ Less) numbers
 below-trans number least [] is below = tt
 below-trans number least (first ∷ numbers) is below =
     (int_cmp_total.trans number least first is below.0, below-trans number least numbers is below.1)
