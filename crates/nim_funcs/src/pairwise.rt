@@ -40,7 +40,7 @@ impl Pairing for Greater {
     ghost pair = { int_max };
 
     fn of_cells(first: i64, second: i64) -> i64 {
-        first.max(second)
+        if second < first { first } else { second }
     }
 }
 
