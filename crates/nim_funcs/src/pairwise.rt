@@ -80,11 +80,7 @@ fn cells_of_pairs<P: Pairing>(
 }
 
 /// One value from two of the same shape.
-fn paired_alike<P: Pairing>(
-    alloc: Global,
-    first: &Value,
-    second: &Value,
-) -> Result<Value, NoMemory>
+fn paired_alike<P: Pairing>(alloc: Global, first: &Value, second: &Value) -> Result<Value, NoMemory>
     requires rows { length first.now.rows ≡ length second.now.rows }
     requires width { first.now.width ≡ second.now.width }
     ensures { IfOk result (λ made. made ≡ pairwise P.pair first.now second.now) }
@@ -95,11 +91,7 @@ fn paired_alike<P: Pairing>(
 
 /// One value from two of any shapes; rows and width are the greater of the two.
 #[tactic(auto, using(crate::proofs::CellRows::grid_more))]
-fn paired_apart<P: Pairing>(
-    alloc: Global,
-    first: &Value,
-    second: &Value,
-) -> Result<Value, NoMemory>
+fn paired_apart<P: Pairing>(alloc: Global, first: &Value, second: &Value) -> Result<Value, NoMemory>
     ensures { IfOk result (λ made. made ≡ pairwise P.pair first.now second.now) }
 {
     let rows = first.rows().max(second.rows());
