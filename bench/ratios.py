@@ -1,4 +1,4 @@
-"""Runs two programs in turn, five times each, and compares the best time of each of the functions that both name.
+"""Runs two programs in turn, nine times each, and compares the best time of each of the functions that both name.
 
 Each prints lines `NAME MICROSECONDS SUM`; the sums must be the same. A turn counts 4,096 cells, ten thousand turns a line.
 """
@@ -14,7 +14,7 @@ def lines_of(program):
 
 
 proved, plain = [], []
-for _ in range(5):
+for _ in range(9):
     proved.append(lines_of(sys.argv[1]))
     plain.append(lines_of(sys.argv[2]))
 print("| function | proved | plain Rust | ratio |")

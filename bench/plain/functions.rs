@@ -69,6 +69,11 @@ fn each(read: &Value, change: impl Fn(i64) -> i64) -> Value {
 }
 
 fn pairs(first: &Value, second: &Value, pair: impl Fn(i64, i64) -> i64) -> Value {
+    if (first.width, first.rows) == (second.width, second.rows) {
+        let places = first.cells.iter().zip(&second.cells);
+        let cells = places.map(|(one, other)| pair(*one, *other)).collect();
+        return Value::new(first.width, first.rows, cells);
+    }
     let (width, rows) = (first.width.max(second.width), first.rows.max(second.rows));
     let mut cells = Vec::with_capacity(width * rows);
     for row in 0..rows {

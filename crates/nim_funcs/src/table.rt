@@ -11,7 +11,7 @@ use crate::split::split_by;
 use crate::stencil::stencil_by;
 use crate::sum::sum;
 use crate::total::{count, total};
-use nim_base::{Func, NoMemory, Shape, Value, fit};
+use nim_base::{Copied, Func, NoMemory, Shape, Value, fit};
 use std::alloc::Global;
 
 /// One value alone.
@@ -29,6 +29,18 @@ fn one(alloc: Global, value: Value, shape: Shape) -> Result<Vec<Value>, NoMemory
     ensures { IfOk result (λ written. written.items ≡ fitted value shape ∷ []) }
 {
     alone(alloc, value.into_shape(shape)?)
+}
+
+/// A value copied into a shape, in one piece where the shape is as wide and cuts no row.
+fn copied(alloc: Global, value: &Value, shape: Shape) -> Result<Value, NoMemory>
+    requires { 1 ≤ shape.width }
+    ensures { IfOk result (λ copy. copy ≡ fitted value.now shape) }
+{
+    if value.width() == shape.width && value.rows() <= shape.rows {
+        value.copy()?.into_shape(shape)
+    } else {
+        fit(alloc, value, shape)
+    }
 }
 
 /// The two results of a task, each fitted to its shape.
@@ -72,7 +84,7 @@ pub fn apply(
             Value::filled(alloc, shapes[0], params[0])?,
             shapes[0],
         ),
-        Func::Copy => alone(alloc, fit(alloc, &values[reads[0]], shapes[0])?),
+        Func::Copy => alone(alloc, copied(alloc, &values[reads[0]], shapes[0])?),
         Func::Addc => one(alloc, addc(alloc, &values[reads[0]], params[0])?, shapes[0]),
         Func::Mulc => one(alloc, mulc(alloc, &values[reads[0]], params[0])?, shapes[0]),
         Func::Add => one(
