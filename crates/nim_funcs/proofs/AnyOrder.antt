@@ -15,7 +15,7 @@ use Rattle.nim_funcs.specs.Laws.{SumInAnyOrder, TotalInAnyOrder}
 use Rattle.nim_funcs.proofs.Wraps.{onto}
 
 -- the bits of cells, summed without wrapping
-abbrev bits : List ℤ → ℕ
+abbrev pub bits : List ℤ → ℕ
 bits cells = sum_by (of_z w64) cells
 
 sum_from : (n : ℕ) (cells : List ℤ) → fold plus (to_z w64 (n % 18446744073709551616)) cells ≡ to_z w64 ((n + bits cells) % 18446744073709551616)
@@ -25,7 +25,7 @@ sum_from n (cell ∷ cells) =
     ∙ sum_from (n + of_z w64 cell) cells
     ∙ ap (λ k. to_z w64 (k % 18446744073709551616)) (omega (arith, sum_by-cons (of_z w64) cell cells))
 
-sum_is : (cells : List ℤ) → sum_of_cells cells ≡ to_z w64 (bits cells % 18446744073709551616)
+pub sum_is : (cells : List ℤ) → sum_of_cells cells ≡ to_z w64 (bits cells % 18446744073709551616)
 sum_is cells = sum_from 0 cells ∙ ap (λ k. to_z w64 (k % 18446744073709551616)) (zero-add (bits cells))
 
 -- cells whose bits sum to the same

@@ -1,11 +1,12 @@
 -- What a loop over reads has seen so far.
-use Rattle.std.proofs.Common.{◌≡◌, ℕ, ◌+◌, ◌<◌, ℤ, pos, List, [], ◌∷◌, ◌++◌, length, take, map, get_or, fold, ◌∙◌, ap, sum_by, zero-add, max}
+use Rattle.std.proofs.Common.{◌≡◌, ℕ, ◌+◌, ◌<◌, pos, List, [], ◌∷◌, ◌++◌, length, take, get_or, fold, sym, ◌∙◌, ap, All, sum_by, zero-add}
 use Rattle.std.specs.List.{flat_map}
-use Rattle.std.proofs.lemmas.List.{append-nil, map-append, map_more}
+use Rattle.std.proofs.lemmas.List.{append-nil, get_or_read, map_more}
+use Rattle.std.proofs.lemmas.List.Elements.{All-get_or}
 use Rattle.std.proofs.lemmas.List.Concat.{flat_map-append}
-use Rattle.std.proofs.lemmas.List.Sums.{fold-append, fold_push, sum_by-append}
+use Rattle.std.proofs.lemmas.List.Sums.{fold-append, sum_by-append}
 use Rattle.nim_base.specs.Value.{Grid, cells_of, empty_grid}
-use Rattle.nim_base.specs.Functions.{reads_of, plus, sum_of_cells, greatest}
+use Rattle.nim_base.specs.Functions.{reads_of, plus, sum_of_cells}
 
 -- the first reads, and one more
 pub reads_more : (values : List Grid) (reads : List ℕ) (i : ℕ) → i < length reads → reads_of values (take (i + 1) reads) ≡ reads_of values (take i reads) ++ get_or values (get_or reads i 0) empty_grid ∷ []
@@ -30,20 +31,8 @@ count_more values reads i lt =
     ∙ sum_by-append height before (grid ∷ [])
     ∙ ap (λ n. sum_by height before + n) (zero-add (height grid))
 
--- one more summand
-pub cells_more : (cell : Grid → ℤ) (values : List Grid) (reads : List ℕ) (i : ℕ) → i < length reads → sum_of_cells (map cell (reads_of values (take (i + 1) reads))) ≡ plus (sum_of_cells (map cell (reads_of values (take i reads)))) (cell (get_or values (get_or reads i 0) empty_grid))
-cells_more cell values reads i lt =
-    let before = reads_of values (take i reads) in
-    let grid = get_or values (get_or reads i 0) empty_grid in
-    ap (λ grids. sum_of_cells (map cell grids)) (reads_more values reads i lt)
-    ∙ ap sum_of_cells (map-append cell before (grid ∷ []))
-    ∙ fold_push plus (pos 0) (map cell before) (cell grid)
-
--- one more size
-pub greatest_more : (size : Grid → ℕ) (values : List Grid) (reads : List ℕ) (i : ℕ) → i < length reads → greatest (map size (reads_of values (take (i + 1) reads))) ≡ max (greatest (map size (reads_of values (take i reads)))) (size (get_or values (get_or reads i 0) empty_grid))
-greatest_more size values reads i lt =
-    let before = reads_of values (take i reads) in
-    let grid = get_or values (get_or reads i 0) empty_grid in
-    ap (λ grids. greatest (map size grids)) (reads_more values reads i lt)
-    ∙ ap greatest (map-append size before (grid ∷ []))
-    ∙ fold_push max 0 (map size before) (size grid)
+-- the value at the next read
+pub read_added : (values : List Grid) (reads : List ℕ) (i : ℕ) (value : Grid) → All (λ index. index < length values) reads → i < length reads → value ≡ get_or values (get_or reads i 0) value → reads_of values (take i reads) ++ value ∷ [] ≡ reads_of values (take (i + 1) reads)
+read_added values reads i value inside lt is =
+    let there = All-get_or (λ index. index < length values) reads i 0 lt inside in
+    ap (λ (v : Grid). reads_of values (take i reads) ++ v ∷ []) (get_or_read values (get_or reads i 0) value there is empty_grid) ∙ sym (reads_more values reads i lt)

@@ -1,9 +1,11 @@
--- What holds of the functions, whatever the values: no row is lost by split or keep, add is a sum of two, and a sum
--- is the same in any order.
-use Rattle.std.specs.Prelude.{◌≡◌, ◌<◌, ◌^◌, Bool, true, false, not, ◌&&◌, IsTrue, ℤ, int_lt, int_le, List, [], ◌∷◌, length, map, All}
-use Rattle.std.specs.List.Sorted.{IsPermutation}
+-- What holds of the functions, whatever the values: no row is lost by split or keep, add is a sum of two, a sum is the
+-- same in any order, group loses no number and no summand, and merge joins groups.
+use Rattle.std.specs.Prelude.{◌≡◌, ◌<◌, ◌^◌, Bool, true, false, not, ◌&&◌, ◌↔◌, IsTrue, ℤ, pos, int_lt, int_le, List, [], ◌∷◌, length, map, All}
+use Rattle.std.specs.List.{Contains, flat_map}
+use Rattle.std.specs.List.Sorted.{IsPermutation, IsStrictlySortedBy}
+use Rattle.std.specs.Ordering.{int_cmp}
 use Rattle.nim_base.specs.Value.{Grid}
-use Rattle.nim_base.specs.Functions.{add_of, at_column, below_of, count_of, keep_of, kept, rest_of, sum_of, total_of}
+use Rattle.nim_base.specs.Functions.{add_of, at_column, below_of, count_of, group_of, grouped, keep_of, kept, merge_of, rest_of, sum_of, sum_of_cells, total_of}
 
 -- the elements of two lists in turn: where the turn is true the next of the first list, else the next of the second
 abbrev pub in_turn : {X : Type 0} → List Bool → List X → List X → List X
@@ -40,3 +42,25 @@ TotalInAnyOrder reads others = IsPermutation reads others → total_of others �
 -- Sum gives the same for the same reads in any order.
 abbrev pub SumInAnyOrder : List Grid → List Grid → Type 0
 SumInAnyOrder reads others = IsPermutation reads others → sum_of others ≡ sum_of reads
+
+-- the first cells of grouped rows, and the second
+abbrev pub numbers_of : Grid → List ℤ
+numbers_of groups = map (at_column (pos 0)) groups.rows
+
+abbrev pub sums_of : Grid → List ℤ
+sums_of groups = map (at_column (pos 1)) groups.rows
+
+-- The numbers of a group ascend and are just those of its column, and its sums add up to the sum over all rows.
+pub record GathersRows (column summed : ℤ) (grid : Grid) : Type 0 where
+  pub ascend : IsStrictlySortedBy int_cmp (numbers_of (group_of column summed grid))
+  pub numbers : (number : ℤ) → Contains (numbers_of (group_of column summed grid)) number ↔ Contains (map (at_column column) grid.rows) number
+  pub sums : sum_of_cells (sums_of (group_of column summed grid)) ≡ sum_of_cells (map (at_column summed) grid.rows)
+
+-- Merge leaves one grouped value as it is.
+abbrev pub MergeKeepsGroups : ℤ → ℤ → Grid → Type 0
+MergeKeepsGroups column summed grid = merge_of (group_of column summed grid ∷ []) ≡ group_of column summed grid
+
+-- Merge of the groups of some values is the group of all their rows.
+abbrev pub MergeJoinsGroups : ℤ → ℤ → List Grid → Type 0
+MergeJoinsGroups column summed grids =
+    merge_of (map (group_of column summed) grids) ≡ grouped column summed (flat_map (λ grid. grid.rows) grids)

@@ -1,2 +1,3 @@
-pub mod Known
+pub mod Groups
 pub mod Laws
+pub mod Sums

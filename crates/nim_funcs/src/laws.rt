@@ -1,4 +1,4 @@
-ghost use Rattle.nim_funcs.specs.Laws.{AddIsSum, KeepCounts, SplitsRows, SumInAnyOrder, TotalInAnyOrder};
+ghost use Rattle.nim_funcs.specs.Laws.{AddIsSum, GathersRows, KeepCounts, MergeJoinsGroups, MergeKeepsGroups, SplitsRows, SumInAnyOrder, TotalInAnyOrder};
 
 use nim_base::Value;
 
@@ -21,4 +21,15 @@ pub fn add_is_sum(first: &Value, second: &Value)
 pub fn order_is_free(reads: &[Value], others: &[Value])
     ensures total { TotalInAnyOrder reads.now others.now }
     ensures sum { SumInAnyOrder reads.now others.now }
+{}
+
+/// The numbers of a group ascend and are those of its column, and its sums add up to the sum over all rows.
+pub fn group_gathers_all_rows(value: &Value, column: i64, summed: i64)
+    ensures gathers { GathersRows column summed value.now }
+{}
+
+/// Merge leaves one grouped value as it is, and of several it gives the group of all their rows.
+pub fn merge_joins_groups(value: &Value, values: &[Value], column: i64, summed: i64)
+    ensures one { MergeKeepsGroups column summed value.now }
+    ensures all { MergeJoinsGroups column summed values.now }
 {}

@@ -2,6 +2,7 @@
 #![tactic(auto)]
 
 mod cellwise;
+mod group;
 mod keep;
 mod laws;
 mod pairwise;
@@ -14,5 +15,8 @@ mod table;
 mod tests;
 mod total;
 
-pub use laws::{add_is_sum, keep_counts_all_rows, order_is_free, split_keeps_all_rows};
+pub use laws::{
+    add_is_sum, group_gathers_all_rows, keep_counts_all_rows, merge_joins_groups, order_is_free,
+    split_keeps_all_rows,
+};
 pub use table::apply;

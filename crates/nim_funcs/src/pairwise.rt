@@ -1,4 +1,5 @@
-ghost use Rattle.std.specs.Prelude.{◌≡◌, ◌++◌, ℤ, IfOk, OnOk};
+ghost use Rattle.std.specs.Prelude.{◌≡◌, ◌++◌, ℤ, length, map, IfOk, OnOk};
+ghost use Rattle.std.specs.List.{zip};
 ghost use Rattle.std.specs.Int.{int_wrapping_add, int_wrapping_sub, int_max, w64};
 ghost use Rattle.nim_base.specs.Functions.{cell_at, pairwise, row_by, add_of, sub_of, max_of};
 
@@ -40,7 +41,7 @@ impl Pairing for Greater {
     ghost pair = { int_max };
 
     fn of_cells(first: i64, second: i64) -> i64 {
-        first.max(second)
+        if second < first { first } else { second }
     }
 }
 
@@ -61,9 +62,36 @@ fn push_pairs<P: Pairing>(
     Ok(())
 }
 
-/// One value from two, by the cells of the same place; rows and width are the greater of the two.
+/// What is made of the cells of the same place of two equal shapes.
+fn cells_of_pairs<P: Pairing>(
+    alloc: Global,
+    first: &[i64],
+    second: &[i64],
+) -> Result<Vec<i64>, NoMemory>
+    ensures { IfOk result (λ cells. cells.items
+        ≡ map (λ places. P.pair places.0 places.1) (zip first.now second.now)) }
+{
+    let cells = first
+        .iter()
+        .zip(second)
+        .map(|(one, other)| P::of_cells(*one, *other))
+        .collect(alloc)?;
+    Ok(cells)
+}
+
+/// One value from two of the same shape.
+fn paired_alike<P: Pairing>(alloc: Global, first: &Value, second: &Value) -> Result<Value, NoMemory>
+    requires rows { length first.now.rows ≡ length second.now.rows }
+    requires width { first.now.width ≡ second.now.width }
+    ensures { IfOk result (λ made. made ≡ pairwise P.pair first.now second.now) }
+{
+    let cells = cells_of_pairs::<P>(alloc, first.cells(), second.cells())?;
+    Ok(Value::from_cells(first.width(), first.rows(), cells))
+}
+
+/// One value from two of any shapes; rows and width are the greater of the two.
 #[tactic(auto, using(crate::proofs::CellRows::grid_more))]
-fn paired<P: Pairing>(alloc: Global, first: &Value, second: &Value) -> Result<Value, NoMemory>
+fn paired_apart<P: Pairing>(alloc: Global, first: &Value, second: &Value) -> Result<Value, NoMemory>
     ensures { IfOk result (λ made. made ≡ pairwise P.pair first.now second.now) }
 {
     let rows = first.rows().max(second.rows());
@@ -73,6 +101,17 @@ fn paired<P: Pairing>(alloc: Global, first: &Value, second: &Value) -> Result<Va
         push_pairs::<P>(&mut cells, row_of(first, row), row_of(second, row), width)?;
     }
     Ok(Value::from_cells(width, rows, cells))
+}
+
+/// One value from two, by the cells of the same place. Equal shapes take one walk over the cells.
+fn paired<P: Pairing>(alloc: Global, first: &Value, second: &Value) -> Result<Value, NoMemory>
+    ensures { IfOk result (λ made. made ≡ pairwise P.pair first.now second.now) }
+{
+    if first.rows() == second.rows() && first.width() == second.width() {
+        paired_alike::<P>(alloc, first, second)
+    } else {
+        paired_apart::<P>(alloc, first, second)
+    }
 }
 
 /// The sums of the cells of the same place.

@@ -1,83 +1,42 @@
-ghost use Rattle.std.specs.Prelude.{◌≡◌, ◌++◌, ◌≤◌, ◌<◌, ℕ, length, map, All, IfOk, OnOk};
-ghost use Rattle.nim_base.specs.Value.{cell_of};
-ghost use Rattle.nim_base.specs.Functions.{height_of, width_of as greatest_width, reads_of, row_by, sum_of, sum_of_cells};
+ghost use Rattle.std.specs.Prelude.{◌≡◌, ◌≤◌, ◌<◌, [], ◌∷◌, ◌++◌, List, length, All, IfOk};
+ghost use Rattle.nim_base.specs.Value.{Grid};
+ghost use Rattle.nim_base.specs.Functions.{reads_of, sum_of};
+ghost use Rattle.nim_funcs.specs.Sums.{IsSumOf};
 
-use crate::rows::{cell_or_zero, row_of, width_of};
+use crate::cellwise::addc;
+use crate::pairwise::add;
 use nim_base::{NoMemory, Value};
 use std::alloc::Global;
 
-/// The greatest number of rows of all reads.
-#[tactic(auto, using(crate::proofs::SoFar::greatest_more))]
-fn most_rows(values: &[Value], reads: &[usize]) -> u32
-    requires { All (λ index. index < length values.now) reads.now }
-    ensures { result ≡ height_of (reads_of values.now reads.now) }
+/// The sum of one value.
+fn sum_of_one(alloc: Global, value: &Value) -> Result<Value, NoMemory>
+    ensures { IfOk result (λ sums. IsSumOf (value.now ∷ []) sums) }
 {
-    let mut rows = 0;
-    for index in reads {
-        rows = rows.max(values[*index].rows());
-    }
-    rows
+    let sums = addc(alloc, value, 0)?;
+    let _cells = sums.cells();
+    Ok(sums)
 }
 
-/// The greatest width of all reads.
-#[tactic(auto, using(crate::proofs::SoFar::greatest_more))]
-fn most_columns(values: &[Value], reads: &[usize]) -> u32
-    requires { All (λ index. index < length values.now) reads.now }
-    ensures width { result ≡ greatest_width (reads_of values.now reads.now) }
-    ensures wide { 1 ≤ length reads.now → 1 ≤ result }
+/// The sum of one value more.
+fn sum_with(alloc: Global, sums: &Value, value: &Value) -> Result<Value, NoMemory>
+    ensures { (reads : List Grid) → IsSumOf reads sums.now
+        → IfOk result (λ more. IsSumOf (reads ++ value.now ∷ []) more) }
 {
-    let mut width = 0;
-    for index in reads {
-        width = width.max(width_of(&values[*index]));
-    }
-    width
-}
-
-/// The sum of the cells of one place.
-#[tactic(auto, using(crate::proofs::SoFar::cells_more))]
-fn sum_at_place(values: &[Value], reads: &[usize], row: usize, column: usize) -> i64
-    requires { All (λ index. index < length values.now) reads.now }
-    ensures { result ≡ sum_of_cells (map (λ grid. cell_of grid row column) (reads_of values.now reads.now)) }
-{
-    let mut sum: i64 = 0;
-    for index in reads {
-        let cell = cell_or_zero(row_of(&values[*index], row), column);
-        sum = sum.wrapping_add(cell);
-    }
-    sum
-}
-
-/// Adds the sums of one row.
-#[tactic(auto, using(crate::proofs::CellRows::row_more))]
-fn push_sums(
-    cells: &mut Vec<i64>,
-    values: &[Value],
-    reads: &[usize],
-    row: usize,
-    width: u32,
-) -> Result<(), NoMemory>
-    requires { All (λ index. index < length values.now) reads.now }
-    ensures { OnOk result (cells.new.items ≡ cells.old.items ++ row_by width (λ column.
-        sum_of_cells (map (λ grid. cell_of grid row column) (reads_of values.now reads.now)))) }
-{
-    for column in 0..width as usize {
-        cells.push(sum_at_place(values, reads, row, column))?;
-    }
-    Ok(())
+    let more = add(alloc, sums, value)?;
+    let _added = value.cells();
+    let _cells = more.cells();
+    Ok(more)
 }
 
 /// The sums of the cells of the same place; rows and width are the greatest of all reads.
-#[tactic(auto, using(crate::proofs::CellRows::grid_more))]
 pub fn sum(alloc: Global, values: &[Value], reads: &[usize]) -> Result<Value, NoMemory>
     requires some { 1 ≤ length reads.now }
     requires inside { All (λ index. index < length values.now) reads.now }
     ensures { IfOk result (λ sums. sums ≡ sum_of (reads_of values.now reads.now)) }
 {
-    let rows = most_rows(values, reads);
-    let width = most_columns(values, reads);
-    let mut cells = Vec::with_capacity(alloc, rows as usize * width as usize)?;
-    for row in 0..rows as usize {
-        push_sums(&mut cells, values, reads, row, width)?;
+    let mut sums = sum_of_one(alloc, &values[reads[0]])?;
+    for at in 1..reads.len() {
+        sums = sum_with(alloc, &sums, &values[reads[at]])?;
     }
-    Ok(Value::from_cells(width, rows, cells))
+    Ok(sums)
 }

@@ -1,17 +1,17 @@
 ghost use Rattle.std.specs.Prelude.{◌≡◌, ◌≤◌, ◌<◌, [], ◌∷◌, length, All, IfOk};
 ghost use Rattle.nim_base.specs.Value.{fitted};
 ghost use Rattle.nim_base.specs.Apply.{HasCounts, apply_of};
-ghost use Rattle.nim_funcs.specs.Known.{IsKnown};
 ghost use Rattle.nim_base.specs.Functions.{reads_of};
 
 use crate::cellwise::{addc, mulc};
+use crate::group::{group_by, merge};
 use crate::keep::keep_by;
 use crate::pairwise::{add, max, sub};
 use crate::split::split_by;
 use crate::stencil::stencil_by;
 use crate::sum::sum;
 use crate::total::{count, total};
-use nim_base::{Func, NoMemory, Shape, Value, fit};
+use nim_base::{Copied, Func, NoMemory, Shape, Value, fit};
 use std::alloc::Global;
 
 /// One value alone.
@@ -29,6 +29,18 @@ fn one(alloc: Global, value: Value, shape: Shape) -> Result<Vec<Value>, NoMemory
     ensures { IfOk result (λ written. written.items ≡ fitted value shape ∷ []) }
 {
     alone(alloc, value.into_shape(shape)?)
+}
+
+/// A value copied into a shape, in one piece where the shape is as wide and cuts no row.
+fn copied(alloc: Global, value: &Value, shape: Shape) -> Result<Value, NoMemory>
+    requires { 1 ≤ shape.width }
+    ensures { IfOk result (λ copy. copy ≡ fitted value.now shape) }
+{
+    if value.width() == shape.width && value.rows() <= shape.rows {
+        value.copy()?.into_shape(shape)
+    } else {
+        fit(alloc, value, shape)
+    }
 }
 
 /// The two results of a task, each fitted to its shape.
@@ -60,7 +72,6 @@ pub fn apply(
     reads: &[usize],
     shapes: &[Shape],
 ) -> Result<Vec<Value>, NoMemory>
-    requires known { IsKnown func }
     requires counts { HasCounts func params.now reads.now shapes.now }
     requires reads { All (λ index. index < length values.now) reads.now }
     requires wide { All (λ shape. 1 ≤ shape.width) shapes.now }
@@ -73,7 +84,7 @@ pub fn apply(
             Value::filled(alloc, shapes[0], params[0])?,
             shapes[0],
         ),
-        Func::Copy => alone(alloc, fit(alloc, &values[reads[0]], shapes[0])?),
+        Func::Copy => alone(alloc, copied(alloc, &values[reads[0]], shapes[0])?),
         Func::Addc => one(alloc, addc(alloc, &values[reads[0]], params[0])?, shapes[0]),
         Func::Mulc => one(alloc, mulc(alloc, &values[reads[0]], params[0])?, shapes[0]),
         Func::Add => one(
@@ -109,6 +120,11 @@ pub fn apply(
             shapes[0],
             shapes[1],
         ),
-        Func::Group | Func::Merge => Ok(Vec::new(alloc)),
+        Func::Group => one(
+            alloc,
+            group_by(alloc, &values[reads[0]], params)?,
+            shapes[0],
+        ),
+        Func::Merge => one(alloc, merge(alloc, values, reads)?, shapes[0]),
     }
 }

@@ -1,8 +1,8 @@
 ghost use Rattle.std.specs.Prelude.{◌≡◌, ◌≤◌, ◌<◌, [], ◌∷◌, length, All};
 ghost use Rattle.nim_base.specs.Apply.{HasCounts};
-ghost use Rattle.nim_funcs.specs.Known.{IsKnown};
 
 mod cells;
+mod groups;
 mod laws;
 mod pairs;
 mod places;
@@ -53,7 +53,6 @@ fn writes(
     shape: (u32, u32),
     rows: &[&[i64]],
 ) -> Result<(), Fail>
-    requires known { IsKnown func }
     requires counts { HasCounts func params.now reads.now (shape ∷ []) }
     requires reads { All (λ index. index < length values.now) reads.now }
     requires wide { 1 ≤ shape.0 }

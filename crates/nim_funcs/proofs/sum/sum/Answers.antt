@@ -1,18 +1,27 @@
-use Rattle.std.proofs.Common.{arith, map}
-use Rattle.nim_base.specs.Value.{cell_of}
-use Rattle.nim_base.specs.Functions.{reads_of, sum_of_cells}
-use Rattle.nim_funcs.proofs.CellRows.{made_length, made_grid}
+use Rattle.std.proofs.Common.{◌∙◌, ap, subst, arith, take}
+use Rattle.std.proofs.lemmas.List.{take_all}
+use Rattle.nim_base.specs.Functions.{reads_of, sum_of}
+use Rattle.nim_funcs.specs.Sums.{IsSumOf}
+use Rattle.nim_funcs.proofs.SoFar.{read_added}
+use Rattle.nim_funcs.proofs.Sums.{sums_are}
 use Rattle.nim_funcs.proofs.sum.sum.Goals as goal
 
-pub from_cells-requires-clause-whole : goal.from_cells-requires-clause-whole
-from_cells-requires-clause-whole c =
-    made_length c.loop-row.row c.most_rows-rows.result c.most_columns-width.result
-    (λ row column. sum_of_cells (map (λ grid. cell_of grid row column) (reads_of c.args.values.now c.args.reads.now)))
-    c.loop-row.cells.items (omega arith) c.loop-row.invariant
+pub loop-at-init : goal.loop-at-init
+loop-at-init c =
+    subst (λ grids. IsSumOf grids c.in_ok-sums.sums)
+    (read_added c.args.values.now c.args.reads.now 0 c.index-values-reads.result c.requires.inside (omega (arith, c.requires.some)) c.index-values-reads.is)
+    c.in_ok-sums.ensures
+
+pub loop-at-preserved : goal.loop-at-preserved
+loop-at-preserved c =
+    let reads = c.args.reads.now in
+    subst (λ grids. IsSumOf grids c.in_ok-sums-2.sums)
+    (read_added c.args.values.now reads c.loop-at.at c.index-values-reads-in-loop-at.result c.requires.inside c.loop-at-test.true c.index-values-reads-in-loop-at.is)
+    (c.in_ok-sums-2.ensures (reads_of c.args.values.now (take c.loop-at.at reads)) c.loop-at.invariant)
 
 pub returns : goal.returns
 returns c =
-    made_grid c.loop-row.row c.most_rows-rows.result c.most_columns-width.result _ _
-    (λ row column. sum_of_cells (map (λ grid. cell_of grid row column) (reads_of c.args.values.now c.args.reads.now)))
-    c.loop-row.cells.items c.from_cells.result (omega arith) c.loop-row.invariant
-    c.most_rows-rows.ensures c.most_columns-width.ensures.width c.from_cells.ensures
+    let values = c.args.values.now in
+    let reads = c.args.reads.now in
+    sums_are (reads_of values (take c.loop-at.at reads)) c.loop-at.sums c.loop-at.invariant
+    ∙ ap (λ some. sum_of (reads_of values some)) (take_all c.loop-at.at reads c.loop-at-test.false)

@@ -1,7 +1,7 @@
 use Rattle.std.proofs.Common.{◌∙◌, ap₂, arith, max}
 use Rattle.nim_base.specs.Value.{cell_of}
 use Rattle.nim_funcs.proofs.CellRows.{made_length, made_grid}
-use Rattle.nim_funcs.proofs.pairwise.paired.Goals as goal
+use Rattle.nim_funcs.proofs.pairwise.paired_apart.Goals as goal
 
 pub from_cells-requires-clause-whole : goal.from_cells-requires-clause-whole
 from_cells-requires-clause-whole g c =

@@ -1,7 +1,7 @@
 use Rattle.std.proofs.Common.{◌≡◌}
 use Rattle.nim_base.specs.Value.{cell_of, cells_of}
 use Rattle.nim_base.specs.Functions.{grid_by}
-use Rattle.nim_funcs.proofs.pairwise.paired.Given as goal
+use Rattle.nim_funcs.proofs.pairwise.paired_apart.Given as goal
 
 -- the rows so far
 abbrev pub invariant-loop-row : goal.invariant-loop-row
