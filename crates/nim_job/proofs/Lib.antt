@@ -1,5 +1,7 @@
 pub mod Asks
-pub mod Lists
-pub mod Whole
-pub mod Versions
+pub mod FewTasks
 pub mod Follows
+pub mod Lists
+pub mod TaskLeaves
+pub mod Versions
+pub mod Whole

@@ -1,0 +1,83 @@
+-- What the objects of a whole job hold after each of its tasks.
+use Rattle.std.proofs.Common.{◌≡◌, ℕ, suc, true, false, List, [], ◌∷◌, ◌++◌, length, take, map, refl, ap, sym, ◌∙◌, arith, Option, Some}
+use Rattle.std.specs.Prelude.{◌==◌, slice_get, slice_set}
+use Rattle.std.specs.List.{list_all, list_any}
+use Rattle.std.specs.Option.{option_to_list}
+use Rattle.std.proofs.lemmas.Bool.{and_parts, both_ways, eqb-false, or_parts}
+use Rattle.std.proofs.lemmas.List.{get_or-set_other, length-append, length-replicate, length-set}
+use Rattle.std.proofs.lemmas.List.Sums.{sum_by-cons}
+use Rattle.nim_base.specs.declared.number.Object.{Object}
+use Rattle.nim_base.specs.declared.number.Shape.{Shape}
+use Rattle.nim_base.specs.declared.task.Task.{Task}
+use Rattle.nim_base.specs.Apply.{apply_of}
+use Rattle.nim_base.specs.Value.{Grid, empty_grid, filled}
+use Rattle.nim_job.specs.declared.job.Init.{Init}
+use Rattle.nim_job.specs.declared.job.Init.TheVariants.{Fill, Iota, Loaded}
+use Rattle.nim_job.specs.declared.job.Job.{Job}
+use Rattle.nim_job.specs.declared.job.Var.{Var}
+use Rattle.nim_job.specs.Objects.{initial_parts, initial_values, objects_of, shape_at, shapes_of, value_at}
+use Rattle.nim_job.specs.Serial.{tasks_of}
+use Rattle.nim_job.specs.Step.{after_task, after_tasks, written}
+use Rattle.nim_job.specs.Versions.{values_after}
+use Rattle.nim_job.specs.Whole.{is_init, is_var, is_whole}
+use Rattle.nim_job.proofs.Lists.{take_next}
+use Rattle.nim_job.proofs.Whole.{vars_sizes, whole_vars}
+
+-- as many values are written as there were
+pub length-written : (values : List Grid) (objects : List Object) (grids : List Grid) → length (written values objects grids) ≡ length values
+length-written values [] grids = refl
+length-written values (o ∷ objects) [] = refl
+length-written values (o ∷ objects) (grid ∷ grids) = length-written (slice_set values o.0 grid) objects grids ∙ length-set values o.0 grid
+
+-- an object that isn't written keeps its value
+pub value-written : (values : List Grid) (objects : List Object) (grids : List Grid) (object : Object) → list_any (λ (o : Object). o.0 == object.0) objects ≡ false
+    → value_at (written values objects grids) object ≡ value_at values object
+value-written values [] grids object none = refl
+value-written values (o ∷ objects) [] object none = refl
+value-written values (o ∷ objects) (grid ∷ grids) object none =
+    let parts = or_parts (o.0 == object.0) (list_any (λ (p : Object). p.0 == object.0) objects) none in
+    value-written (slice_set values o.0 grid) objects grids object parts.1
+    ∙ get_or-set_other values o.0 object.0 grid empty_grid (λ same. eqb-false o.0 object.0 parts.0 (sym same))
+
+length-after_tasks : (shapes : List Shape) (values : List Grid) (tasks : List Task) → length (after_tasks shapes values tasks) ≡ length values
+length-after_tasks shapes values [] = refl
+length-after_tasks shapes values (task ∷ tasks) =
+    length-after_tasks shapes (after_task shapes values task) tasks
+    ∙ length-written values task.writes (apply_of task.func task.params (map (value_at values) task.reads) (map (shape_at shapes) task.writes))
+
+var_init : (v : Var) → is_var v ≡ true → is_init v.init ≡ true
+var_init v is = (and_parts _ (is_init v.init) is).1
+
+length-parts : (v : Var) (init : Init) → is_init init ≡ true → length (initial_parts v init) ≡ v.parts
+length-parts v (Fill number) is = length-replicate v.parts (filled v.shape number)
+length-parts v Iota is = absurd (both_ways false refl is)
+length-parts v (Loaded values) is = absurd (both_ways false refl is)
+
+length-initial : (vars : List Var) → list_all is_var vars ≡ true → length (initial_values vars) ≡ objects_of vars
+length-initial [] all = refl
+length-initial (v ∷ vars) all =
+    let parts = and_parts (is_var v) (list_all is_var vars) all in
+    omega (
+      arith,
+      length-append (initial_parts v v.init) (initial_values vars),
+      length-parts v v.init (var_init v parts.0),
+      length-initial vars parts.1,
+      sum_by-cons (λ (w : Var). w.parts) v vars,
+    )
+
+-- as many values as objects
+pub length-values : (job : Job) (k : ℕ) → is_whole job ≡ true → length (values_after job k) ≡ objects_of job.vars
+length-values job k whole =
+    length-after_tasks (shapes_of job.vars) (initial_values job.vars) (take k (tasks_of job))
+    ∙ length-initial job.vars (vars_sizes job.vars (whole_vars job whole)).1
+
+-- one more task
+after_tasks-push : (shapes : List Shape) (values : List Grid) (tasks : List Task) (last : Task) → after_tasks shapes values (tasks ++ last ∷ []) ≡ after_task shapes (after_tasks shapes values tasks) last
+after_tasks-push shapes values [] last = refl
+after_tasks-push shapes values (task ∷ tasks) last = after_tasks-push shapes (after_task shapes values task) tasks last
+
+-- what the objects hold after the task at a position
+pub task_leaves : (job : Job) (k : ℕ) (task : Task) → slice_get (tasks_of job) k ≡ Some task → values_after job (suc k) ≡ after_task (shapes_of job.vars) (values_after job k) task
+task_leaves job k task there =
+    ap (after_tasks (shapes_of job.vars) (initial_values job.vars)) (take_next (tasks_of job) k ∙ ap (λ (o : Option Task). take k (tasks_of job) ++ option_to_list o) there)
+    ∙ after_tasks-push (shapes_of job.vars) (initial_values job.vars) (take k (tasks_of job)) task
