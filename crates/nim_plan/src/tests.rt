@@ -118,7 +118,7 @@ fn have_waits(commands: &[Command], waits: &[&[u32]]) -> bool {
     commands.len() == waits.len()
 }
 
-const EACH_KIND: [Told; 9] = [
+const EACH_KIND: &[Told] = &[
     (0, What::Create(1), &[]),
     (0, What::Load(2, 6), &[]),
     (0, What::Receive(515, 4), &[]),
@@ -131,7 +131,7 @@ const EACH_KIND: [Told; 9] = [
 ];
 
 /// A place, a slot, and the object and version that it holds.
-const HELD: [(usize, u16, Option<(Object, u64)>); 13] = [
+const HELD: &[(usize, u16, Option<(Object, u64)>)] = &[
     (0, 1, None),
     (1, 1, Some((Object(1), 0))),
     (5, 1, Some((Object(1), 0))),
@@ -149,12 +149,10 @@ const HELD: [(usize, u16, Option<(Object, u64)>); 13] = [
 
 #[test]
 fn holds_what_the_last_writer_left(rt: HostRuntime) -> Result<(), Fail> {
-    let list = all_told(rt.alloc(), &EACH_KIND)?;
+    let list = all_told(rt.alloc(), EACH_KIND)?;
     for (before, slot, want) in HELD {
-        assert_eq!(rt;
-            holds(list.as_slice(), list.len().min(before), Slot(slot)),
-            want
-        );
+        let held = holds(list.as_slice(), list.len().min(*before), Slot(*slot));
+        assert_eq!(rt; held, *want);
     }
     Ok(())
 }
@@ -182,7 +180,7 @@ const NAMED: Asked = Asked::Single(
 const FAR: Asked = Asked::Single(0, &[(17, What::Create(2), &[16])]);
 
 /// Orders, and what each command waits for.
-const LISTS: [(&[Asked], &[&[u32]]); 16] = [
+const LISTS: &[(&[Asked], &[&[u32]])] = &[
     (&[], &[]),
     (&[WRITE, Asked::Stop], &[]),
     (&[WRITE, Asked::Reset(0), WRITE], &[&[]]),
@@ -222,7 +220,7 @@ fn commands_of_the_last_epoch_wait_by_number_and_by_slot(rt: HostRuntime) -> Res
 }
 
 /// Commands, and whether they are covered.
-const COVERED: [(&[Told], bool); 11] = [
+const COVERED: &[(&[Told], bool)] = &[
     (&[], true),
     (&[(0, What::Create(1), &[])], true),
     (
@@ -275,13 +273,13 @@ fn conflicts_are_covered_by_chains_of_waits(rt: HostRuntime) -> Result<(), Fail>
     let alloc = rt.alloc();
     for (told, want) in COVERED {
         let list = all_told(alloc, told)?;
-        assert_eq!(rt; covered(alloc, list.as_slice())?, want);
+        assert_eq!(rt; covered(alloc, list.as_slice())?, *want);
     }
     Ok(())
 }
 
 /// A position and a command in ascending order, with its stage, and whether it is no Send.
-const RANKS: [(u64, u32, What, u8, bool); 12] = [
+const RANKS: &[(u64, u32, What, u8, bool)] = &[
     (4, 99, What::Run(4, &[]), 3, true),
     (5, 9, What::Create(1), 0, true),
     (5, 10, What::Load(1, 0), 0, true),
@@ -299,19 +297,17 @@ const RANKS: [(u64, u32, What, u8, bool); 12] = [
 #[test]
 fn ranks_go_by_position_stage_number_and_sends(rt: HostRuntime) -> Result<(), Fail> {
     let mut last = None;
-    for (position, number, what, stage, later) in RANKS {
-        let rank = rank(position, &command(rt.alloc(), (number, what, &[]))?);
-        assert_eq!(rt;
-            rank,
-            Rank {
-                position,
-                stage,
-                number,
-                later
-            }
-        );
-        assert!(rt; last < Some(rank));
-        last = Some(rank);
+    for (position, id, what, stage, later) in RANKS {
+        let wanted = Rank {
+            position: *position,
+            stage: *stage,
+            number: *id,
+            later: *later,
+        };
+        let found = rank(*position, &command(rt.alloc(), (*id, *what, &[]))?);
+        assert_eq!(rt; found, wanted);
+        assert!(rt; last < Some(found));
+        last = Some(found);
     }
     Ok(())
 }

@@ -49,8 +49,7 @@ fn keep_free(slots: &mut Vec<Slot>, kind: &Kind)
     slots.retain(|slot| !does_write(kind, *slot));
 }
 
-/// Appends a place where it is waited for. A place past the numbers of commands is want of memory: there are fewer
-/// commands than that.
+/// Appends a place where it is waited for. Memory is refused where the place is no number of a command.
 fn push_if(waits: &mut Vec<u32>, waited: bool, place: usize) -> Result<(), NoMemory>
     ensures { OnOk result (waits.new.items ≡ waits.old.items ++ (if waited then place ∷ [] else [])) }
 {
