@@ -47,7 +47,7 @@ fn add_rows(
     Ok(())
 }
 
-/// Rows of two cells: each key, ascending, and its sum. More than a value can count find no memory.
+/// Rows of two cells: each key, ascending, and its sum. More rows than a value counts are want of memory.
 fn rows_of_sums(alloc: Global, sums: &BTreeMap<i64, i64>) -> Result<Value, NoMemory>
     ensures { IfOk result (λ rows. rows ≡ sums_grid sums.now.entries) }
 {

@@ -13,6 +13,7 @@ fn sum_of_one(alloc: Global, value: &Value) -> Result<Value, NoMemory>
     ensures { IfOk result (λ sums. IsSumOf (value.now ∷ []) sums) }
 {
     let sums = addc(alloc, value, 0)?;
+    // The clauses of `cells` say that each row has the width.
     let _cells = sums.cells();
     Ok(sums)
 }
@@ -23,6 +24,7 @@ fn sum_with(alloc: Global, sums: &Value, value: &Value) -> Result<Value, NoMemor
         → IfOk result (λ more. IsSumOf (reads ++ value.now ∷ []) more) }
 {
     let more = add(alloc, sums, value)?;
+    // As above, of what is added and of what comes of it.
     let _added = value.cells();
     let _cells = more.cells();
     Ok(more)
