@@ -34,3 +34,13 @@ pub enum Head {
     Output,
     Other,
 }
+
+/// What was read of a line.
+#[derive(Debug, Drop)]
+pub struct Found {
+    pub head: Head,
+    /// What the line is, if it has the form of one.
+    pub form: Option<Form>,
+    /// Each of its ints is in the range of an `i64`.
+    pub fits: bool,
+}

@@ -2,13 +2,21 @@
 #![tactic(auto)]
 
 mod cursor;
+mod driver;
 mod fault;
 mod form;
 mod lines;
+mod nest;
 mod parts;
+mod rules;
+mod state;
 mod statements;
+#[cfg(test)]
+mod tests;
 mod tree;
 
+pub use driver::parse;
+pub use fault::ParseFault;
 pub use tree::{
     Atom, Block, Condition, Expression, Index, Init, Line, Operator, Ref, Relation, Stage,
     Statement, Steps, Tree, Var,
