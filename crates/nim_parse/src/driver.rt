@@ -1,5 +1,6 @@
-ghost use Rattle.std.specs.Prelude.{◌≡◌, ◌<◌, ◌+◌, ◌^◌, ◌==◌, length, IfOk, IfErr, OnOk, None};
-ghost use Rattle.std.specs.List.{prefix_len};
+ghost use Rattle.std.specs.Prelude.{◌≡◌, ◌<◌, ◌+◌, ◌^◌, ◌==◌, ◌≤◌, length, IfOk, IfErr, OnOk, None};
+ghost use Rattle.std.specs.List.{count_by, prefix_len};
+ghost use Rattle.nim_lex.specs.Bytes.{is_newline};
 ghost use Rattle.nim_lex.specs.Source.{tokens_of};
 ghost use Rattle.nim_lex.specs.Source as lex;
 ghost use Rattle.nim_parse.specs.Driver.{IsRefusal, found, line_count, next, number_of, refusal_of, refused, tree_of};
@@ -19,7 +20,9 @@ use std::alloc::Global;
 
 /// How many tokens stand on the first line.
 fn line_len(tokens: &[Token]) -> usize
-    ensures { result ≡ prefix_len (λ t. t.line == number_of tokens.now) tokens.now }
+    ensures len { result ≡ prefix_len (λ t. t.line == number_of tokens.now) tokens.now }
+    ensures some { 0 < length tokens.now → 0 < result }
+    ensures within { result ≤ length tokens.now }
 {
     match tokens {
         [first, ..] => tokens.iter().take_while(|t| t.line == first.line).count(),
@@ -36,14 +39,26 @@ fn number_of(line: &[Token]) -> u32
     }
 }
 
+fn newlines(source: &[u8]) -> usize
+    ensures count { result ≡ count_by is_newline source.now }
+    ensures within { result ≤ length source.now }
+{
+    source.iter().filter(|b| **b == b'\n').count()
+}
+
 /// How many lines a text has.
 fn line_count(source: &[u8]) -> usize
+    requires { length source.now < 2 ^ 32 }
     ensures { result ≡ line_count source.now }
 {
-    let ended = source.iter().filter(|b| **b == b'\n').count();
-    match source {
-        [] | [.., b'\n'] => ended,
-        _ => ended + 1,
+    if source.is_empty() {
+        return 0;
+    }
+    let ended = newlines(source);
+    if source[source.len() - 1] == b'\n' {
+        ended
+    } else {
+        ended + 1
     }
 }
 
@@ -108,12 +123,13 @@ pub fn parse(alloc: Global, bytes: &[u8], tokens: &[Token]) -> Result<Tree, Pars
     let mut at = 0;
     while at < tokens.len() {
         let rest = &tokens[at..];
-        let line = &rest[..line_len(rest)];
+        let len = line_len(rest);
+        let line = &rest[..len];
         if let Some(rule) = take_line(alloc, bytes, &mut state, line)? {
             let line = number_of(line);
             return Err(ParseFault::At { line, rule });
         }
-        at += line.len();
+        at += len;
     }
     if let Some(rule) = rule_at_end(&state) {
         let line = line_count(bytes) as u32 + 1;
