@@ -1,8 +1,7 @@
 -- The grammar of the lines of a driver. Each production stands beside its text.
-use Rattle.std.specs.Prelude.{ℕ, zero, suc, ◌==◌, ◌||◌, Bool, true, false, if◌then◌else◌, List, [], ◌∷◌, ◌++◌, length, codes, Option, None, Some}
+use Rattle.std.specs.Prelude.{ℕ, zero, suc, ◌==◌, ◌||◌, Bool, true, false, if◌then◌else◌, List, [], ◌∷◌, ◌++◌, codes, Option, None, Some}
 use Rattle.nim_parse.specs.declared.tree.Atom.{Atom}
 use Rattle.nim_parse.specs.declared.tree.Atom.TheVariants as atom_is
-use Rattle.nim_parse.specs.declared.tree.Block.{Block}
 use Rattle.nim_parse.specs.declared.tree.Condition.{Condition}
 use Rattle.nim_parse.specs.declared.tree.Condition.TheVariants.{NotZero, Holds}
 use Rattle.nim_parse.specs.declared.tree.Expression.{Expression}
@@ -11,17 +10,13 @@ use Rattle.nim_parse.specs.declared.tree.Index.{Index}
 use Rattle.nim_parse.specs.declared.tree.Index.TheVariants.{Part, Own, After, Before}
 use Rattle.nim_parse.specs.declared.tree.Init.{Init}
 use Rattle.nim_parse.specs.declared.tree.Init.TheVariants.{Fill, Iota, Load}
-use Rattle.nim_parse.specs.declared.tree.Line.{Line}
 use Rattle.nim_parse.specs.declared.tree.Operator.{Operator}
 use Rattle.nim_parse.specs.declared.tree.Operator.TheVariants.{Add, Subtract, Multiply, Divide, Remainder}
 use Rattle.nim_parse.specs.declared.tree.Ref.{Ref}
 use Rattle.nim_parse.specs.declared.tree.Relation.{Relation}
 use Rattle.nim_parse.specs.declared.tree.Relation.TheVariants.{Less, AtMost, Equal, NotEqual, Greater, AtLeast}
-use Rattle.nim_parse.specs.declared.tree.Stage.{Stage}
 use Rattle.nim_parse.specs.declared.tree.Statement.{Statement}
 use Rattle.nim_parse.specs.declared.tree.Statement.TheVariants.{Do, Let, Get, Loop, While, If, Else, End, Checkpoint, Output}
-use Rattle.nim_parse.specs.declared.tree.Steps.{Steps}
-use Rattle.nim_parse.specs.declared.tree.Var.{Var}
 use Rattle.nim_parse.specs.declared.form.Form.{Form}
 use Rattle.nim_parse.specs.declared.form.Form.TheVariants as form
 use Rattle.nim_parse.specs.declared.form.Head.{Head}

@@ -1,5 +1,5 @@
 -- What a production of the grammar reads from, and the steps that each is made of.
-use Rattle.std.specs.Prelude.{◌≡◌, ℕ, zero, suc, ◌+◌, ◌-◌, ◌^◌, ◌==◌, nat_lt, nat_le, Bool, true, false, if◌then◌else◌, List, [], ◌∷◌, ◌++◌, length, drop, bytes_eq, ℤ, pos, ◌-ℤ◌, codes, is_some, Option, None, Some, Result, Ok, Err, refl}
+use Rattle.std.specs.Prelude.{◌≡◌, ℕ, ◌+◌, ◌==◌, nat_le, Bool, true, false, if◌then◌else◌, List, [], ◌∷◌, length, drop, bytes_eq, ℤ, pos, ◌-ℤ◌, codes, is_some, Option, None, Some, Result, Ok, Err, refl}
 use Rattle.std.specs.Coded.{Coded, code_by, coded×, coded_ℕ, coded_bool, coded_list}
 use Rattle.nim_lex.specs.declared.token.Token.{Token}
 use Rattle.nim_lex.specs.declared.token.TokenKind.{TokenKind}
@@ -8,7 +8,7 @@ use Rattle.nim_lex.specs.contracts.token.Token as token
 use Rattle.nim_lex.specs.contracts.token.TokenKind as kind
 use Rattle.nim_lex.specs.Texts.{text_of}
 use Rattle.nim_parse.specs.declared.fault.Unread.{Unread}
-use Rattle.nim_parse.specs.declared.fault.Unread.TheVariants.{Malformed, NoMemory}
+use Rattle.nim_parse.specs.declared.fault.Unread.TheVariants.{Malformed}
 
 -- the rest of a line
 pub record Input : Type 0 where

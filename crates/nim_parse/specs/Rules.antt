@@ -6,7 +6,7 @@ use Rattle.nim_parse.specs.declared.form.Found.{Found}
 use Rattle.nim_parse.specs.declared.form.Head.{Head}
 use Rattle.nim_parse.specs.declared.form.Head.TheVariants as head
 use Rattle.nim_parse.specs.declared.state.Phase.{Phase}
-use Rattle.nim_parse.specs.declared.state.Phase.TheVariants.{Start, Header, Vars, Blocks, Statements}
+use Rattle.nim_parse.specs.declared.state.Phase.TheVariants.{Start, Header, Blocks, Statements}
 use Rattle.nim_parse.specs.declared.state.State.{State}
 use Rattle.nim_parse.specs.Nesting.{is_empty, may_stand}
 

@@ -6,6 +6,7 @@ ghost use Rattle.nim_lex.specs.Source as lex;
 ghost use Rattle.nim_parse.specs.Driver.{IsRefusal, found, line_count, next, number_of, refusal_of, refused, tree_of};
 ghost use Rattle.nim_parse.specs.Rules.{rule_of};
 
+use crate::Tree;
 use crate::cursor::Cursor;
 use crate::fault::{ParseFault, Unread};
 use crate::form::Found;
@@ -13,7 +14,6 @@ use crate::lines::read_line;
 use crate::rules::{rule_at_end, rule_of};
 use crate::state::State;
 use crate::statements::head_of;
-use crate::Tree;
 use nim_base::NoMemory;
 use nim_lex::Token;
 use std::alloc::Global;
@@ -63,12 +63,7 @@ fn line_count(source: &[u8]) -> usize
 }
 
 #[tactic(auto, unfolding(crate::specs::Driver::found))]
-fn find(
-    alloc: Global,
-    source: &[u8],
-    state: &State,
-    line: &[Token],
-) -> Result<Found, NoMemory>
+fn find(alloc: Global, source: &[u8], state: &State, line: &[Token]) -> Result<Found, NoMemory>
     ensures { IfOk result (λ line_found. line_found ≡ found source.now state.now line.now) }
 {
     let mut cursor = Cursor::new(source, line);

@@ -12,6 +12,7 @@ pub enum Unread {
 
 impl From<NoMemory> for Unread {
     ghost use Rattle.nim_parse.specs.declared.fault.Unread.TheVariants.{NoMemory};
+
     ghost from_gives = { λ _ unread. unread ≡ NoMemory };
 
     fn from(_refused: NoMemory) -> Unread {
@@ -30,6 +31,7 @@ pub enum ParseFault {
 
 impl From<NoMemory> for ParseFault {
     ghost use Rattle.nim_parse.specs.declared.fault.ParseFault.TheVariants.{NoMemory};
+
     ghost from_gives = { λ _ fault. fault ≡ NoMemory };
 
     fn from(_refused: NoMemory) -> ParseFault {

@@ -1,9 +1,8 @@
-use Rattle.std.proofs.Common.{◌≡◌, ◌+◌, ◌-◌, ◌≤◌, None, Some, take, drop, length, sym, ◌∙◌, ap, arith, rules}
+use Rattle.std.proofs.Common.{◌≡◌, ◌+◌, ◌-◌, ◌≤◌, None, Some, take, drop, length, sym, ◌∙◌, ap, arith}
 use Rattle.std.specs.Prelude.{◌==◌}
 use Rattle.std.specs.List.{prefix_len}
 use Rattle.std.proofs.lemmas.List.{take_rest, length-drop}
 use Rattle.nim_parse.specs.Driver.{after_lines, first_refusal, found, lines, next, number_of}
-use Rattle.nim_parse.specs.States.{first}
 use Rattle.nim_parse.specs.Rules.{rule_of}
 use Rattle.nim_parse.proofs.Counts.{cut-within, short}
 use Rattle.nim_parse.proofs.LineSteps.{step_lines, refusal_here, refusal_later}

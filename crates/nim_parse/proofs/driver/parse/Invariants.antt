@@ -1,7 +1,6 @@
 -- the lines that are left, and what the lines before them gave
-use Rattle.std.proofs.Common.{◌≡◌, ◌-◌, ◌+◌, ◌≤◌, drop, length}
-use Rattle.nim_lex.specs.Source.{tokens_of}
-use Rattle.nim_parse.specs.Driver.{after_lines, first_refusal, lines, refusal_of}
+use Rattle.std.proofs.Common.{◌≡◌, ◌-◌, ◌≤◌, drop, length}
+use Rattle.nim_parse.specs.Driver.{after_lines, first_refusal, lines}
 use Rattle.nim_parse.specs.States.{first}
 use Rattle.nim_parse.proofs.driver.parse.Given as goal
 
