@@ -1,3 +1,4 @@
 pub mod Counts
 pub mod LineSteps
+pub mod Nests
 pub mod Turns

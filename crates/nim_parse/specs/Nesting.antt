@@ -1,7 +1,8 @@
 -- How loops, whiles and ifs nest: the list of those that are open, the innermost first.
-use Rattle.std.specs.Prelude.{Bool, true, false, List, [], ◌∷◌, Option, None, Some}
+use Rattle.std.specs.Prelude.{Bool, true, false, if◌then◌else◌, List, [], ◌∷◌, Option, None, Some}
 use Rattle.nim_parse.specs.declared.nest.Open.{Open}
 use Rattle.nim_parse.specs.declared.nest.Open.TheVariants as opening
+use Rattle.nim_parse.specs.declared.tree.Line.{Line}
 use Rattle.nim_parse.specs.declared.tree.Statement.{Statement}
 use Rattle.nim_parse.specs.declared.tree.Statement.TheVariants.{Loop, While, If, Else, End}
 
@@ -36,3 +37,8 @@ abbrev pub may_stand : List Open → Statement → Bool
 may_stand [] End = false
 may_stand opened Else = is_if (head opened)
 may_stand _ _ = true
+
+-- what is open after some statements, if each may stand where it stands
+abbrev pub open_after : List Open → List Line → Option (List Open)
+open_after opened [] = Some opened
+open_after opened (l ∷ ls) = if may_stand opened l.statement then open_after (nested l.statement opened) ls else None

@@ -1,9 +1,10 @@
-ghost use Rattle.std.specs.Prelude.{◌≡◌, ◌<◌, ◌+◌, ◌^◌, ◌==◌, ◌≤◌, length, IfOk, IfErr, OnOk, None};
+ghost use Rattle.std.specs.Prelude.{◌≡◌, ◌<◌, ◌+◌, ◌^◌, ◌==◌, ◌≤◌, length, IfOk, IfErr, OnOk, None, Some, []};
 ghost use Rattle.std.specs.List.{count_by, prefix_len};
 ghost use Rattle.nim_lex.specs.Bytes.{is_newline};
 ghost use Rattle.nim_lex.specs.Source.{tokens_of};
 ghost use Rattle.nim_lex.specs.Source as lex;
 ghost use Rattle.nim_parse.specs.Driver.{IsRefusal, found, line_count, next, number_of, refusal_of, refused, tree_of};
+ghost use Rattle.nim_parse.specs.Nesting.{open_after};
 ghost use Rattle.nim_parse.specs.Rules.{rule_of};
 
 use crate::Tree;
@@ -112,6 +113,7 @@ pub fn parse(alloc: Global, bytes: &[u8], tokens: &[Token]) -> Result<Tree, Pars
     requires tokens { tokens.now ≡ tokens_of bytes.now }
     ensures accepted { IfOk result (λ tree. refusal_of bytes.now ≡ None) }
     ensures tree { IfOk result (λ tree. tree ≡ tree_of bytes.now) }
+    ensures nest { IfOk result (λ tree. open_after [] tree.statements ≡ Some []) }
     ensures refused { IfErr result (IsRefusal (refusal_of bytes.now)) }
 {
     let mut state = State::new(alloc);

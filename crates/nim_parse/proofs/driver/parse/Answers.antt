@@ -1,11 +1,13 @@
-use Rattle.std.proofs.Common.{◌≡◌, ◌+◌, ◌-◌, ◌≤◌, None, Some, take, drop, length, sym, ◌∙◌, ap, arith}
+use Rattle.std.proofs.Common.{◌≡◌, ◌+◌, ◌-◌, ◌≤◌, None, Some, take, drop, length, sym, ◌∙◌, ap, arith, rules}
 use Rattle.std.specs.Prelude.{◌==◌}
 use Rattle.std.specs.List.{prefix_len}
+use Rattle.std.proofs.lemmas.Grind.{common_steps}
 use Rattle.std.proofs.lemmas.List.{take_rest, length-drop}
-use Rattle.nim_parse.specs.Driver.{after_lines, first_refusal, found, lines, next, number_of}
+use Rattle.nim_parse.specs.Driver.{after_lines, first_refusal, found, lines, next, number_of, refusal_of, tree_of}
 use Rattle.nim_parse.specs.Rules.{rule_of}
 use Rattle.nim_parse.proofs.Counts.{cut-within, short}
 use Rattle.nim_parse.proofs.LineSteps.{step_lines, refusal_here, refusal_later}
+use Rattle.nim_parse.proofs.Nests.{all_nest}
 use Rattle.nim_parse.proofs.driver.parse.Goals as goal
 
 pub returns-in-Some-clause-refused : goal.returns-in-Some-clause-refused
@@ -51,3 +53,9 @@ overflow_cast-line c = omega (arith, short c.args.bytes.now c.requires.sound, cu
 
 pub overflow_add-line : goal.overflow_add-line
 overflow_add-line c = omega (arith, short c.args.bytes.now c.requires.sound, cut-within c.args.bytes.now, c.line_count.ensures)
+
+pub returns-clause-nest : goal.returns-clause-nest
+returns-clause-nest c =
+    let accepted : refusal_of c.args.bytes.now ≡ None = first_of (search rules, grind (arith, common_steps)) in
+    let whole : c.loop-at.state.tree ≡ tree_of c.args.bytes.now = first_of (search rules, grind (arith, common_steps)) in
+    rw whole (all_nest c.args.bytes.now accepted)
