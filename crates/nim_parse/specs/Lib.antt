@@ -1,4 +1,6 @@
 pub mod Cursor
+pub mod DataLines
+pub mod DataRules
 pub mod Driver
 pub mod Grammar
 pub mod Input

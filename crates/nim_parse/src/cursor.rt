@@ -186,7 +186,7 @@ impl<'a> Cursor<'a> {
 }
 
 /// A number with its sign, where that is in the range.
-fn signed(negative: bool, number: u64) -> Option<i64>
+pub fn signed(negative: bool, number: u64) -> Option<i64>
     ensures some { IfSome result (λ value. (spec.in_range negative number ≡ true) × (value ≡ spec.signed negative number)) }
     ensures none { result ≡ None → spec.in_range negative number ≡ false }
 {
@@ -200,7 +200,7 @@ fn signed(negative: bool, number: u64) -> Option<i64>
     }
 }
 
-fn bytes(alloc: Global, text: &[u8]) -> Result<Seq<u8>, nim_base::NoMemory>
+pub fn bytes(alloc: Global, text: &[u8]) -> Result<Seq<u8>, nim_base::NoMemory>
     ensures { IfOk result (λ all. all ≡ text.now) }
 {
     let mut all = Vec::new(alloc);

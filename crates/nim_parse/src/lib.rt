@@ -2,11 +2,13 @@
 #![tactic(auto)]
 
 mod cursor;
+mod data_lines;
 mod driver;
 mod fault;
 mod form;
 mod lines;
 mod nest;
+mod part;
 mod parts;
 mod rules;
 mod state;
