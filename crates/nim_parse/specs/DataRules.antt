@@ -46,6 +46,10 @@ begun line h = record {
 abbrev pub longer : Loading → List ℤ → Loading
 longer l cells = record l { part = record l.part { value = record l.part.value { rows = l.part.value.rows ++ cells ∷ [] } } }
 
+abbrev pub longer_by : Loading → Option (List ℤ) → Option Loading
+longer_by l None = None
+longer_by l (Some cells) = Some (longer l cells)
+
 -- the row of the last part that a line is
 abbrev pub row_of : Option Loading → List ℕ → Option (List ℤ)
 row_of None text = None

@@ -171,7 +171,8 @@ fn is_short_name(word: &[u8]) -> bool
 
 #[tactic(auto, unfolding(crate::specs::DataLines::heading))]
 pub fn read_heading(alloc: Global, line: &[u8]) -> Result<Heading, Unread>
-    ensures { Gives (spec.heading line.now) result }
+    ensures heading { Gives (spec.heading line.now) result }
+    ensures wide { IfOk result (λ heading. 1 ≤ heading.width) }
 {
     let (name, rest) = next_word(line);
     let (part, rest) = next_word(rest);

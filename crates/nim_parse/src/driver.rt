@@ -48,7 +48,7 @@ fn newlines(source: &[u8]) -> usize
 }
 
 /// How many lines a text has.
-fn line_count(source: &[u8]) -> usize
+pub fn line_count(source: &[u8]) -> usize
     requires { length source.now < 2 ^ 32 }
     ensures { result ≡ line_count source.now }
 {

@@ -2,6 +2,7 @@
 #![tactic(auto)]
 
 mod cursor;
+mod data;
 mod data_lines;
 mod driver;
 mod fault;
@@ -17,8 +18,10 @@ mod statements;
 mod tests;
 mod tree;
 
+pub use data::parse_data;
 pub use driver::parse;
 pub use fault::ParseFault;
+pub use part::Part;
 pub use tree::{
     Atom, Block, Condition, Expression, Index, Init, Line, Operator, Ref, Relation, Stage,
     Statement, Steps, Tree, Var,
