@@ -1,5 +1,5 @@
 -- The statements of a driver that no rule refuses nest.
-use Rattle.std.proofs.Common.{◌≡◌, ℕ, ◌+◌, cond, List, [], ◌∷◌, ◌++◌, Bool, true, false, refl, ap, ◌∙◌, sym, Option, None, Some}
+use Rattle.std.proofs.Common.{◌≡◌, ℕ, ◌+◌, cond, List, [], ◌∷◌, ◌++◌, Bool, true, false, refl, ap, ◌∙◌, Option, None, Some}
 use Rattle.std.specs.Prelude.{not, ◌&&◌, ◌||◌, is_none, is_some}
 use Rattle.std.specs.Option.{option_or}
 use Rattle.nim_lex.specs.declared.token.Token.{Token}
@@ -12,11 +12,10 @@ use Rattle.nim_parse.specs.declared.nest.Open.{Open}
 use Rattle.nim_parse.specs.declared.state.State.{State}
 use Rattle.nim_parse.specs.declared.tree.Block.{Block}
 use Rattle.nim_parse.specs.declared.tree.Line.{Line}
-use Rattle.nim_parse.specs.declared.tree.Statement.{Statement}
 use Rattle.nim_parse.specs.Driver.{after_form, after_lines, first_refusal, found, line_count, lines, next, number_of, refusal_of, refused, tree_of}
 use Rattle.nim_parse.specs.Nesting.{is_empty, may_stand, nested, open_after}
-use Rattle.nim_parse.specs.Rules.{rule_10, rule_11, rule_12, rule_13, rule_14, rule_15, rule_16, rule_19, rule_at_end, rule_of, is_start}
-use Rattle.nim_parse.specs.States.{after, first}
+use Rattle.nim_parse.specs.Rules.{rule_10, rule_11, rule_12, rule_13, rule_14, rule_15, rule_16, rule_at_end, rule_of, is_start}
+use Rattle.nim_parse.specs.States.{first}
 
 -- a chain of tests that gives none
 passes : (b : Bool) (x : ℕ) (o : Option ℕ) → cond b (Some x) o ≡ None → b ≡ false

@@ -1,11 +1,10 @@
 -- The parts of a data file, and the rules that refuse its lines.
-use Rattle.std.specs.Prelude.{◌≡◌, ℕ, ◌+◌, nat_lt, if◌then◌else◌, Bool, true, false, not, ◌&&◌, is_none, ℤ, List, [], ◌∷◌, ◌++◌, length, Option, None, Some, Result, Ok, Err}
-use Rattle.nim_base.specs.Value.{Grid}
+use Rattle.std.specs.Prelude.{◌≡◌, ℕ, ◌+◌, nat_lt, if◌then◌else◌, Bool, false, not, ◌&&◌, is_none, ℤ, List, [], ◌∷◌, ◌++◌, length, Option, None, Some, Result, Ok, Err}
 use Rattle.nim_lex.specs.Source.{Line, Refusal, lines_of}
 use Rattle.nim_parse.specs.declared.fault.ParseFault.{ParseFault}
 use Rattle.nim_parse.specs.declared.fault.ParseFault.TheVariants as fault
 use Rattle.nim_parse.specs.declared.fault.Unread.{Unread}
-use Rattle.nim_parse.specs.declared.fault.Unread.TheVariants.{Malformed, NoMemory}
+use Rattle.nim_parse.specs.declared.fault.Unread.TheVariants.{Malformed}
 use Rattle.nim_parse.specs.declared.part.Heading.{Heading}
 use Rattle.nim_parse.specs.declared.part.Loaded.{Loaded}
 use Rattle.nim_parse.specs.declared.part.Loading.{Loading}

@@ -19,7 +19,9 @@ const LONGEST_NAME: usize = 16;
 
 /// The greatest number of a part, and the most rows and columns.
 const LAST_PART: u32 = 63;
+
 const MOST_ROWS: u32 = 65_536;
+
 const MOST_WIDTH: u32 = 65_536;
 
 fn is_blank(b: u8) -> bool

@@ -6,6 +6,7 @@ use nim_base::NoMemory;
 use nim_lex::{LexFault, tokens};
 use std::alloc::Global;
 
+mod data;
 mod refusals;
 
 /// Why a text has no tree.

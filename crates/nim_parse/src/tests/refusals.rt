@@ -2,7 +2,7 @@ use super::{Fault, tree};
 use crate::ParseFault;
 
 /// Where a text is refused, and by which rule.
-type Refused = (&'static [u8], u32, u8);
+pub type Refused = (&'static [u8], u32, u8);
 
 const HEADERS: [Refused; 8] = [
     (b"", 1, 10),

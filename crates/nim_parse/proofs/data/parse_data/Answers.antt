@@ -1,4 +1,4 @@
-use Rattle.std.proofs.Common.{◌≡◌, ◌+◌, ◌-◌, ◌≤◌, cond, false, None, Some, take, drop, length, refl, sym, ◌∙◌, ap, arith, rules}
+use Rattle.std.proofs.Common.{◌≡◌, ◌+◌, ◌-◌, false, None, Some, take, drop, length, sym, ◌∙◌, ap, arith, rules}
 use Rattle.std.specs.Prelude.{nat_lt, not}
 use Rattle.std.specs.List.{position_or_len}
 use Rattle.std.proofs.lemmas.List.{take_rest, length-drop}
@@ -6,7 +6,7 @@ use Rattle.std.proofs.lemmas.List.Sums.{prefix_len-le-length}
 use Rattle.nim_lex.specs.Bytes.{is_newline}
 use Rattle.nim_lex.specs.Source.{Line, cut, line_at, numbered}
 use Rattle.nim_lex.proofs.SourceSteps.{step_line}
-use Rattle.nim_parse.specs.DataRules.{data_after, data_from, data_of, data_rule}
+use Rattle.nim_parse.specs.DataRules.{data_after, data_from, data_rule}
 use Rattle.nim_parse.specs.Driver.{line_count}
 use Rattle.nim_parse.proofs.Counts.{cut-within}
 use Rattle.nim_parse.proofs.DataSteps.{refused_here, refused_later}
