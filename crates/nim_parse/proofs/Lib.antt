@@ -1,0 +1,5 @@
+pub mod Counts
+pub mod DataSteps
+pub mod LineSteps
+pub mod Nests
+pub mod Turns

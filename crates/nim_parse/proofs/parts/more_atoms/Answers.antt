@@ -1,0 +1,35 @@
+use Rattle.std.proofs.Common.{rules, arith}
+use Rattle.std.proofs.lemmas.Grind.{common_steps}
+use Rattle.nim_parse.specs.Grammar.{more_from, atom}
+use Rattle.nim_parse.proofs.Turns.{one_more, no_more}
+use Rattle.nim_parse.proofs.parts.more_atoms.Goals as goal
+
+pub returns-then-eat : goal.returns-then-eat
+unfolding more_from
+returns-then-eat c =
+    let e = one_more (λ n. more_from atom n c.loop-turn.found c.loop-turn.cursor) _ c.loop-turn._turn c.loop-turn-test.true c.loop-turn.invariant in
+    first_of (search rules, grind (arith, common_steps))
+
+pub returns-in_err-expect : goal.returns-in_err-expect
+unfolding more_from
+returns-in_err-expect c =
+    let e = one_more (λ n. more_from atom n c.loop-turn.found c.loop-turn.cursor) _ c.loop-turn._turn c.loop-turn-test.true c.loop-turn.invariant in
+    first_of (search rules, grind (arith, common_steps))
+
+pub returns-in_err-atom : goal.returns-in_err-atom
+unfolding more_from
+returns-in_err-atom c =
+    let e = one_more (λ n. more_from atom n c.loop-turn.found c.loop-turn.cursor) _ c.loop-turn._turn c.loop-turn-test.true c.loop-turn.invariant in
+    first_of (search rules, grind (arith, common_steps))
+
+pub loop-turn-preserved : goal.loop-turn-preserved
+unfolding more_from
+loop-turn-preserved c =
+    let e = one_more (λ n. more_from atom n c.loop-turn.found c.loop-turn.cursor) _ c.loop-turn._turn c.loop-turn-test.true c.loop-turn.invariant in
+    first_of (search rules, grind (arith, common_steps))
+
+pub returns : goal.returns
+unfolding more_from
+returns c =
+    let e = no_more (λ n. more_from atom n c.loop-turn.found c.loop-turn.cursor) _ c.loop-turn._turn c.loop-turn-test.false c.loop-turn.invariant in
+    first_of (search rules, grind (arith, common_steps))

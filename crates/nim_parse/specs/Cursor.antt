@@ -1,0 +1,6 @@
+-- What a `Cursor` shows.
+use Rattle.nim_parse.specs.declared.cursor.Cursor.TheInside.{Inside}
+use Rattle.nim_parse.specs.Input.{Input}
+
+abbrev pub input_of : Inside → Input
+input_of c = record { source = c.source.now; tokens = c.tokens.now; fits = c.fits }

@@ -1,0 +1,89 @@
+-- The tree of a driver, and the first refused line.
+use Rattle.std.specs.Prelude.{◌≡◌, ℕ, ◌+◌, ◌==◌, if◌then◌else◌, is_some, true, List, [], ◌∷◌, length, Option, None, Some}
+use Rattle.std.specs.Option.{option_map, option_or}
+use Rattle.nim_lex.specs.declared.token.Token.{Token}
+use Rattle.nim_lex.specs.Source.{Refusal, cut, tokens_of}
+use Rattle.nim_parse.specs.declared.fault.ParseFault.{ParseFault}
+use Rattle.nim_parse.specs.declared.fault.ParseFault.TheVariants.{At, NoMemory}
+use Rattle.nim_parse.specs.declared.form.Form.{Form}
+use Rattle.nim_parse.specs.declared.form.Found.{Found}
+use Rattle.nim_parse.specs.declared.form.Head.{Head}
+use Rattle.nim_parse.specs.declared.state.State.{State}
+use Rattle.nim_parse.specs.declared.tree.Tree.{Tree}
+use Rattle.nim_parse.specs.Grammar.{head_of, line_form}
+use Rattle.nim_parse.specs.Input.{Input, Outcome, start}
+use Rattle.nim_parse.specs.Rules.{rule_of, rule_at_end}
+use Rattle.nim_parse.specs.States.{after, first}
+
+-- ---- lines
+
+-- a token before some lines: it begins the first of them if it stands on it
+abbrev pub before : Token → List (List Token) → List (List Token)
+before t [] = (t ∷ []) ∷ []
+before t ([] ∷ lines) = (t ∷ []) ∷ lines
+before t ((u ∷ line) ∷ lines) = if u.line == t.line then (t ∷ u ∷ line) ∷ lines else (t ∷ []) ∷ (u ∷ line) ∷ lines
+
+-- the tokens of each line that has some
+abbrev pub lines : List Token → List (List Token)
+lines [] = []
+lines (t ∷ ts) = before t (lines ts)
+
+-- the number of a line
+abbrev pub number_of : List Token → ℕ
+number_of [] = 0
+number_of (t ∷ ts) = t.line
+
+-- how many lines a text has, those without tokens too
+abbrev pub line_count : List ℕ → ℕ
+line_count source = length (cut source)
+
+-- ---- what a line is
+
+abbrev pub with_head : Head → Outcome Form → Found
+with_head head None = record { head = head; form = None; fits = true }
+with_head head (Some (form, rest)) = record { head = head; form = Some form; fits = rest.fits }
+
+abbrev pub begun : State → ℕ → Input → Found
+begun st line i = with_head (head_of i) (line_form (is_some st.block) line (head_of i) i)
+
+-- what a line is, after the lines before it
+unfoldable pub found : List ℕ → State → List Token → Found
+found source st line = begun st (number_of line) (start source line)
+
+-- ---- one line after the other
+
+abbrev pub after_form : State → Option Form → State
+after_form st None = st
+after_form st (Some form) = after st form
+
+abbrev pub next : List ℕ → State → List Token → State
+next source st line = after_form st (found source st line).form
+
+-- after several lines
+abbrev pub after_lines : List ℕ → State → List (List Token) → State
+after_lines source st [] = st
+after_lines source st (line ∷ rest) = after_lines source (next source st line) rest
+
+abbrev pub refused : ℕ → Option ℕ → Option Refusal
+refused line rule = option_map (λ r. record { line = line; rule = r }) rule
+
+-- the first of some lines that a rule refuses, and the smallest that does; the end of the file has the line behind the last
+abbrev pub first_refusal : List ℕ → State → List (List Token) → Option Refusal
+first_refusal source st [] = refused (line_count source + 1) (rule_at_end st)
+first_refusal source st (line ∷ rest) =
+    option_or (refused (number_of line) (rule_of st (found source st line))) (first_refusal source (next source st line) rest)
+
+-- ---- a driver
+
+-- why the grammar refuses a driver, if it does
+abbrev pub refusal_of : List ℕ → Option Refusal
+refusal_of source = first_refusal source first (lines (tokens_of source))
+
+-- the tree that the lines of a driver make
+abbrev pub tree_of : List ℕ → Tree
+tree_of source = (after_lines source first (lines (tokens_of source))).tree
+
+-- the fault that a call answered, if memory wasn't refused, is this refusal
+abbrev pub IsRefusal : Option Refusal → ParseFault → Type 0
+IsRefusal refusal (At line rule) = refusal ≡ Some (record { line = line; rule = rule })
+IsRefusal refusal NoMemory = Unit {0}

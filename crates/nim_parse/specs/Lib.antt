@@ -1,0 +1,9 @@
+pub mod Cursor
+pub mod DataLines
+pub mod DataRules
+pub mod Driver
+pub mod Grammar
+pub mod Input
+pub mod Nesting
+pub mod Rules
+pub mod States

@@ -1,0 +1,209 @@
+//! The rest of a line, from which each production takes its tokens.
+
+ghost use Rattle.std.specs.Prelude.{◌≡◌, ◌-◌, take, drop, IfOk, IfSome, None, Some, true, false};
+ghost use Rattle.nim_parse.specs.Input as spec;
+ghost use Rattle.nim_parse.specs.Input.{Reads};
+ghost use Rattle.nim_lex.specs.Texts.{text_of};
+
+use crate::fault::Unread;
+use nim_base::Seq;
+use nim_lex::{Token, TokenKind};
+use std::alloc::Global;
+use std::marker::Model;
+
+/// The greatest number that an `int` may be, and the one below it with a sign.
+const MOST: u64 = 9_223_372_036_854_775_807;
+
+/// The bytes of a token.
+fn text_of<'a>(source: &'a [u8], token: Token) -> &'a [u8]
+    ensures { result.now ≡ text_of source.now token }
+{
+    let at = source.len().min(token.at as usize);
+    let rest = &source[at..];
+    &rest[..rest.len().min(token.len as usize)]
+}
+
+#[derive(Drop)]
+pub struct Cursor<'a> {
+    source: &'a [u8],
+    tokens: &'a [Token],
+    fits: bool,
+}
+
+impl<'a> Model for Cursor<'a> {
+    ghost use Rattle.nim_parse.specs.Input.{Input, input_code};
+
+    ghost Value = { Input };
+
+    ghost coded = { input_code };
+
+    ghost use Rattle.nim_parse.specs.Cursor.{input_of};
+
+    ghost view = { input_of };
+}
+
+impl<'a> Cursor<'a> {
+    pub fn new(source: &'a [u8], tokens: &'a [Token]) -> Cursor<'a>
+        ensures { result ≡ spec.start source.now tokens.now }
+    {
+        Cursor {
+            source,
+            tokens,
+            fits: true,
+        }
+    }
+
+    /// Each int that was read is in the range of an `i64`.
+    pub fn fits(&self) -> bool
+        ensures { result ≡ self.now.fits }
+    {
+        self.fits
+    }
+
+    /// How many tokens are left.
+    #[tactic(auto, unfolding(crate::specs::Input::left))]
+    pub fn left(&self) -> usize
+        ensures { result ≡ spec.left self.now }
+    {
+        self.tokens.len()
+    }
+
+    #[tactic(auto, unfolding(crate::specs::Input::sees))]
+    pub fn sees(&self, text: &[u8]) -> bool
+        ensures { result ≡ spec.sees text.now self.now }
+    {
+        match self.tokens {
+            [first, ..] => text_of(self.source, *first) == text,
+            [] => false,
+        }
+    }
+
+    #[tactic(auto, unfolding(crate::specs::Input::next))]
+    fn advance(&mut self)
+        ensures { self.new ≡ spec.next self.old }
+    {
+        if let [_, rest @ ..] = self.tokens {
+            self.tokens = rest;
+        }
+    }
+
+    #[tactic(auto, unfolding(crate::specs::Input::after))]
+    pub fn eat(&mut self, text: &[u8]) -> bool
+        ensures found { result ≡ spec.sees text.now self.old }
+        ensures after { self.new ≡ spec.after text.now self.old }
+    {
+        let found = self.sees(text);
+        if found {
+            self.advance();
+        }
+        found
+    }
+
+    #[tactic(auto, unfolding(crate::specs::Input::expect))]
+    pub fn expect(&mut self, text: &[u8]) -> Result<(), Unread>
+        ensures { Reads (spec.expect text.now self.old) result self.new }
+    {
+        if self.sees(text) {
+            self.advance();
+            Ok(())
+        } else {
+            Err(Unread::Malformed)
+        }
+    }
+
+    #[tactic(auto, unfolding(crate::specs::Input::done))]
+    pub fn done(&mut self) -> Result<(), Unread>
+        ensures { Reads (spec.done self.old) result self.new }
+    {
+        if self.left() == 0 {
+            Ok(())
+        } else {
+            Err(Unread::Malformed)
+        }
+    }
+
+    #[tactic(auto, unfolding(crate::specs::Input::sees_name))]
+    pub fn sees_name(&self) -> bool
+        ensures { result ≡ spec.sees_name self.now }
+    {
+        match self.tokens {
+            [first, ..] => matches!(first.kind, TokenKind::Name),
+            [] => false,
+        }
+    }
+
+    #[tactic(auto, unfolding(crate::specs::Input::name))]
+    pub fn name(&mut self, alloc: Global) -> Result<Seq<u8>, Unread>
+        ensures { Reads (spec.name self.old) result self.new }
+    {
+        match self.tokens {
+            [first, ..] if matches!(first.kind, TokenKind::Name) => {
+                let text = bytes(alloc, text_of(self.source, *first))?;
+                self.advance();
+                Ok(text)
+            }
+            _ => Err(Unread::Malformed),
+        }
+    }
+
+    #[tactic(auto, unfolding(crate::specs::Input::number))]
+    pub fn number(&mut self) -> Result<u64, Unread>
+        ensures { Reads (spec.number self.old) result self.new }
+    {
+        match self.tokens {
+            [first, ..] => match first.kind {
+                TokenKind::Number(value) => {
+                    self.advance();
+                    Ok(value)
+                }
+                _ => Err(Unread::Malformed),
+            },
+            [] => Err(Unread::Malformed),
+        }
+    }
+
+    #[tactic(auto, unfolding(crate::specs::Input::with_sign))]
+    fn with_sign(&mut self, negative: bool, number: u64) -> i64
+        ensures { spec.with_sign negative number self.old ≡ Some (result, self.new) }
+    {
+        match signed(negative, number) {
+            Some(value) => value,
+            None => {
+                self.fits = false;
+                0
+            }
+        }
+    }
+
+    #[tactic(auto, unfolding(crate::specs::Input::int))]
+    pub fn int(&mut self) -> Result<i64, Unread>
+        ensures { Reads (spec.int self.old) result self.new }
+    {
+        let negative = self.eat(b"-");
+        let number = self.number()?;
+        Ok(self.with_sign(negative, number))
+    }
+}
+
+/// A number with its sign, where that is in the range.
+pub fn signed(negative: bool, number: u64) -> Option<i64>
+    ensures some { IfSome result (λ value. (spec.in_range negative number ≡ true) × (value ≡ spec.signed negative number)) }
+    ensures none { result ≡ None → spec.in_range negative number ≡ false }
+{
+    if number <= MOST {
+        let value = number as i64;
+        Some(if negative { -value } else { value })
+    } else if negative && number == MOST + 1 {
+        Some(i64::MIN)
+    } else {
+        None
+    }
+}
+
+pub fn bytes(alloc: Global, text: &[u8]) -> Result<Seq<u8>, nim_base::NoMemory>
+    ensures { IfOk result (λ all. all ≡ text.now) }
+{
+    let mut all = Vec::new(alloc);
+    all.extend_from_slice(text)?;
+    Ok(Seq::from_vec(all))
+}

@@ -1,0 +1,289 @@
+//! The parts of lines, each a production of `specs/Grammar.antt`.
+
+ghost use Rattle.std.specs.Prelude.{◌≡◌};
+ghost use Rattle.nim_parse.specs.Grammar as spec;
+ghost use Rattle.nim_parse.specs.Input.{Reads, name};
+
+use crate::cursor::Cursor;
+use crate::fault::Unread;
+use crate::{Atom, Condition, Expression, Index, Init, Operator, Ref, Relation};
+use nim_base::Seq;
+use std::alloc::Global;
+
+fn more_names(
+    alloc: Global,
+    cursor: &mut Cursor<'_>,
+    first: Seq<u8>,
+) -> Result<Seq<Seq<u8>>, Unread>
+    ensures { Reads (spec.more name first cursor.old) result cursor.new }
+{
+    let mut found = Seq::new(alloc);
+    found.push(first)?;
+    for _turn in 0..cursor.left() {
+        if cursor.eat(b")") {
+            return Ok(found);
+        }
+        cursor.expect(b",")?;
+        found.push(cursor.name(alloc)?)?;
+    }
+    Err(Unread::Malformed)
+}
+
+#[tactic(auto, unfolding(crate::specs::Grammar::names))]
+pub fn names(alloc: Global, cursor: &mut Cursor<'_>) -> Result<Seq<Seq<u8>>, Unread>
+    ensures { Reads (spec.names cursor.old) result cursor.new }
+{
+    cursor.expect(b"(")?;
+    if cursor.eat(b")") {
+        return Ok(Seq::new(alloc));
+    }
+    let first = cursor.name(alloc)?;
+    more_names(alloc, cursor, first)
+}
+
+#[tactic(auto, unfolding(crate::specs::Grammar::atom))]
+pub fn atom(alloc: Global, cursor: &mut Cursor<'_>) -> Result<Atom, Unread>
+    ensures { Reads (spec.atom cursor.old) result cursor.new }
+{
+    if cursor.sees_name() {
+        Ok(Atom::Name(cursor.name(alloc)?))
+    } else {
+        Ok(Atom::Number(cursor.int()?))
+    }
+}
+
+fn more_atoms(alloc: Global, cursor: &mut Cursor<'_>, first: Atom) -> Result<Seq<Atom>, Unread>
+    ensures { Reads (spec.more spec.atom first cursor.old) result cursor.new }
+{
+    let mut found = Seq::new(alloc);
+    found.push(first)?;
+    for _turn in 0..cursor.left() {
+        if cursor.eat(b")") {
+            return Ok(found);
+        }
+        cursor.expect(b",")?;
+        found.push(atom(alloc, cursor)?)?;
+    }
+    Err(Unread::Malformed)
+}
+
+#[tactic(auto, unfolding(crate::specs::Grammar::atoms))]
+pub fn atoms(alloc: Global, cursor: &mut Cursor<'_>) -> Result<Seq<Atom>, Unread>
+    ensures { Reads (spec.atoms cursor.old) result cursor.new }
+{
+    cursor.expect(b"(")?;
+    if cursor.eat(b")") {
+        return Ok(Seq::new(alloc));
+    }
+    let first = atom(alloc, cursor)?;
+    more_atoms(alloc, cursor, first)
+}
+
+#[tactic(auto, unfolding(crate::specs::Grammar::own_index))]
+fn own_index(cursor: &mut Cursor<'_>) -> Result<Index, Unread>
+    ensures { Reads (spec.own_index cursor.old) result cursor.new }
+{
+    if cursor.eat(b"+") {
+        return Ok(Index::After(cursor.number()?));
+    }
+    if cursor.eat(b"-") {
+        return Ok(Index::Before(cursor.number()?));
+    }
+    Ok(Index::Own)
+}
+
+#[tactic(auto, unfolding(crate::specs::Grammar::index))]
+fn index(cursor: &mut Cursor<'_>) -> Result<Index, Unread>
+    ensures { Reads (spec.index cursor.old) result cursor.new }
+{
+    if cursor.eat(b"i") {
+        own_index(cursor)
+    } else {
+        Ok(Index::Part(cursor.number()?))
+    }
+}
+
+#[tactic(auto, unfolding(crate::specs::Grammar::reference))]
+fn reference(alloc: Global, cursor: &mut Cursor<'_>) -> Result<Ref, Unread>
+    ensures { Reads (spec.reference cursor.old) result cursor.new }
+{
+    let name = cursor.name(alloc)?;
+    cursor.expect(b"[")?;
+    let index = index(cursor)?;
+    cursor.expect(b"]")?;
+    Ok(Ref { name, index })
+}
+
+#[tactic(auto, unfolding(crate::specs::Grammar::init))]
+pub fn init(cursor: &mut Cursor<'_>) -> Result<Init, Unread>
+    ensures { Reads (spec.init cursor.old) result cursor.new }
+{
+    if cursor.eat(b"fill") {
+        return Ok(Init::Fill(cursor.int()?));
+    }
+    if cursor.eat(b"iota") {
+        return Ok(Init::Iota);
+    }
+    cursor.expect(b"load")?;
+    Ok(Init::Load)
+}
+
+pub fn reads(alloc: Global, cursor: &mut Cursor<'_>) -> Result<Seq<Ref>, Unread>
+    ensures { Reads (spec.reads cursor.old) result cursor.new }
+{
+    let mut found = Seq::new(alloc);
+    for _turn in 0..cursor.left() {
+        if cursor.eat(b"->") {
+            return Ok(found);
+        }
+        found.push(reference(alloc, cursor)?)?;
+    }
+    Err(Unread::Malformed)
+}
+
+#[tactic(auto, unfolding(crate::specs::Grammar::ends))]
+fn ends(cursor: &Cursor<'_>) -> bool
+    ensures { result ≡ spec.ends cursor.now }
+{
+    cursor.left() == 0 || cursor.sees(b"with") || cursor.sees(b"each")
+}
+
+fn more_writes(alloc: Global, cursor: &mut Cursor<'_>, first: Ref) -> Result<Seq<Ref>, Unread>
+    ensures { Reads (spec.writes_after first cursor.old) result cursor.new }
+{
+    let mut found = Seq::new(alloc);
+    found.push(first)?;
+    for _turn in 0..cursor.left() {
+        if ends(cursor) {
+            return Ok(found);
+        }
+        found.push(reference(alloc, cursor)?)?;
+    }
+    Ok(found)
+}
+
+#[tactic(auto, unfolding(crate::specs::Grammar::writes))]
+pub fn writes(alloc: Global, cursor: &mut Cursor<'_>) -> Result<Seq<Ref>, Unread>
+    ensures { Reads (spec.writes cursor.old) result cursor.new }
+{
+    let first = reference(alloc, cursor)?;
+    more_writes(alloc, cursor, first)
+}
+
+fn more_values(alloc: Global, cursor: &mut Cursor<'_>, first: Atom) -> Result<Seq<Atom>, Unread>
+    ensures { Reads (spec.values_after first cursor.old) result cursor.new }
+{
+    let mut found = Seq::new(alloc);
+    found.push(first)?;
+    for _turn in 0..cursor.left() {
+        if ends(cursor) {
+            return Ok(found);
+        }
+        found.push(atom(alloc, cursor)?)?;
+    }
+    Ok(found)
+}
+
+#[tactic(auto, unfolding(crate::specs::Grammar::values))]
+fn values(alloc: Global, cursor: &mut Cursor<'_>) -> Result<Seq<Atom>, Unread>
+    ensures { Reads (spec.values cursor.old) result cursor.new }
+{
+    if ends(cursor) {
+        return Err(Unread::Malformed);
+    }
+    let first = atom(alloc, cursor)?;
+    more_values(alloc, cursor, first)
+}
+
+#[tactic(auto, unfolding(crate::specs::Grammar::parameters))]
+pub fn parameters(alloc: Global, cursor: &mut Cursor<'_>) -> Result<Seq<Atom>, Unread>
+    ensures { Reads (spec.parameters cursor.old) result cursor.new }
+{
+    if cursor.eat(b"with") {
+        values(alloc, cursor)
+    } else {
+        Ok(Seq::new(alloc))
+    }
+}
+
+#[tactic(auto, unfolding(crate::specs::Grammar::each))]
+pub fn each(cursor: &mut Cursor<'_>) -> Result<bool, Unread>
+    ensures { Reads (spec.each cursor.old) result cursor.new }
+{
+    if cursor.eat(b"each") {
+        cursor.expect(b"i")?;
+        Ok(true)
+    } else {
+        Ok(false)
+    }
+}
+
+#[tactic(auto, unfolding(crate::specs::Grammar::operator))]
+fn operator(cursor: &mut Cursor<'_>) -> Option<Operator>
+    ensures { spec.operator cursor.old ≡ Some (result, cursor.new) }
+{
+    if cursor.eat(b"+") {
+        Some(Operator::Add)
+    } else if cursor.eat(b"-") {
+        Some(Operator::Subtract)
+    } else if cursor.eat(b"*") {
+        Some(Operator::Multiply)
+    } else if cursor.eat(b"/") {
+        Some(Operator::Divide)
+    } else if cursor.eat(b"%") {
+        Some(Operator::Remainder)
+    } else {
+        None
+    }
+}
+
+#[tactic(auto, unfolding(crate::specs::Grammar::expression))]
+pub fn expression(alloc: Global, cursor: &mut Cursor<'_>) -> Result<Expression, Unread>
+    ensures { Reads (spec.expression cursor.old) result cursor.new }
+{
+    let left = atom(alloc, cursor)?;
+    match operator(cursor) {
+        None => Ok(Expression::Alone(left)),
+        Some(operator) => Ok(Expression::Two {
+            left,
+            operator,
+            right: atom(alloc, cursor)?,
+        }),
+    }
+}
+
+#[tactic(auto, unfolding(crate::specs::Grammar::relation))]
+fn relation(cursor: &mut Cursor<'_>) -> Option<Relation>
+    ensures { spec.relation cursor.old ≡ Some (result, cursor.new) }
+{
+    if cursor.eat(b"<") {
+        Some(Relation::Less)
+    } else if cursor.eat(b"<=") {
+        Some(Relation::AtMost)
+    } else if cursor.eat(b"=") {
+        Some(Relation::Equal)
+    } else if cursor.eat(b"!=") {
+        Some(Relation::NotEqual)
+    } else if cursor.eat(b">") {
+        Some(Relation::Greater)
+    } else if cursor.eat(b">=") {
+        Some(Relation::AtLeast)
+    } else {
+        None
+    }
+}
+
+#[tactic(auto, unfolding(crate::specs::Grammar::condition))]
+pub fn condition(alloc: Global, cursor: &mut Cursor<'_>) -> Result<Condition, Unread>
+    ensures { Reads (spec.condition cursor.old) result cursor.new }
+{
+    let left = atom(alloc, cursor)?;
+    match relation(cursor) {
+        None => Ok(Condition::NotZero(left)),
+        Some(relation) => Ok(Condition::Holds {
+            left,
+            relation,
+            right: atom(alloc, cursor)?,
+        }),
+    }
+}
