@@ -1,5 +1,5 @@
 -- The slots of a worker: which object each is of, and which of them a command reads and writes.
-use Rattle.std.specs.Prelude.{ℕ, ◌%◌, ◌==◌, Bool, ◌||◌, List, [], ◌∷◌}
+use Rattle.std.specs.Prelude.{◌%◌, ◌==◌, Bool, ◌||◌, List, [], ◌∷◌}
 use Rattle.std.specs.List.{list_any}
 use Rattle.nim_base.specs.declared.number.Object.{Object}
 use Rattle.nim_base.specs.declared.number.Slot.{Slot}

@@ -1,10 +1,10 @@
 -- Which earlier commands a command waits for.
-use Rattle.std.specs.Prelude.{ℕ, ◌+◌, ◌==◌, Bool, true, false, not, ◌&&◌, ◌||◌, if◌then◌else◌, List, [], ◌∷◌, ◌++◌, Option, map, filter, length, slice_get, slice_range}
+use Rattle.std.specs.Prelude.{ℕ, ◌+◌, ◌==◌, Bool, false, not, ◌&&◌, ◌||◌, if◌then◌else◌, List, [], ◌∷◌, ◌++◌, map, filter, length, slice_get, slice_range}
 use Rattle.std.specs.List.{flat_map, list_any, range_with_len}
 use Rattle.std.specs.Option.{option_map_or}
 use Rattle.nim_base.specs.declared.number.Slot.{Slot}
 use Rattle.nim_command.specs.declared.command.Command.{Command}
-use Rattle.nim_command.specs.Slots.{does_read, does_touch, does_write, reads_of, writes_of}
+use Rattle.nim_command.specs.Slots.{does_touch, does_write, reads_of, writes_of}
 
 -- what one order stands for: commands that name each other by their numbers
 pub record Group : Type 0 where

@@ -1,16 +1,16 @@
 -- What the objects of a whole job hold after each of its tasks.
-use Rattle.std.proofs.Common.{◌≡◌, ℕ, suc, true, false, List, [], ◌∷◌, ◌++◌, length, take, map, refl, ap, sym, ◌∙◌, arith, Option, Some}
-use Rattle.std.specs.Prelude.{◌==◌, slice_get, slice_set}
-use Rattle.std.specs.List.{list_all, list_any}
+use Rattle.std.proofs.Common.{◌≡◌, ℕ, suc, true, false, List, [], ◌∷◌, ◌++◌, length, take, map, refl, ap, ◌∙◌, arith, Option, Some}
+use Rattle.std.specs.Prelude.{slice_get, slice_set}
+use Rattle.std.specs.List.{list_all}
 use Rattle.std.specs.Option.{option_to_list}
-use Rattle.std.proofs.lemmas.Bool.{and_parts, both_ways, eqb-false, or_parts}
-use Rattle.std.proofs.lemmas.List.{get_or-set_other, length-append, length-replicate, length-set}
+use Rattle.std.proofs.lemmas.Bool.{and_parts, both_ways}
+use Rattle.std.proofs.lemmas.List.{length-append, length-replicate, length-set}
 use Rattle.std.proofs.lemmas.List.Sums.{sum_by-cons}
 use Rattle.nim_base.specs.declared.number.Object.{Object}
 use Rattle.nim_base.specs.declared.number.Shape.{Shape}
 use Rattle.nim_base.specs.declared.task.Task.{Task}
 use Rattle.nim_base.specs.Apply.{apply_of}
-use Rattle.nim_base.specs.Value.{Grid, empty_grid, filled}
+use Rattle.nim_base.specs.Value.{Grid, filled}
 use Rattle.nim_job.specs.declared.job.Init.{Init}
 use Rattle.nim_job.specs.declared.job.Init.TheVariants.{Fill, Iota, Loaded}
 use Rattle.nim_job.specs.declared.job.Job.{Job}
@@ -21,6 +21,7 @@ use Rattle.nim_job.specs.Step.{after_task, after_tasks, written}
 use Rattle.nim_job.specs.Versions.{values_after}
 use Rattle.nim_job.specs.Whole.{is_init, is_var, is_whole}
 use Rattle.nim_job.proofs.Lists.{take_next}
+use Rattle.nim_job.proofs.Versions.{after_tasks-append}
 use Rattle.nim_job.proofs.Whole.{vars_sizes, whole_vars}
 
 -- as many values are written as there were
@@ -28,16 +29,6 @@ pub length-written : (values : List Grid) (objects : List Object) (grids : List 
 length-written values [] grids = refl
 length-written values (o ∷ objects) [] = refl
 length-written values (o ∷ objects) (grid ∷ grids) = length-written (slice_set values o.0 grid) objects grids ∙ length-set values o.0 grid
-
--- an object that isn't written keeps its value
-pub value-written : (values : List Grid) (objects : List Object) (grids : List Grid) (object : Object) → list_any (λ (o : Object). o.0 == object.0) objects ≡ false
-    → value_at (written values objects grids) object ≡ value_at values object
-value-written values [] grids object none = refl
-value-written values (o ∷ objects) [] object none = refl
-value-written values (o ∷ objects) (grid ∷ grids) object none =
-    let parts = or_parts (o.0 == object.0) (list_any (λ (p : Object). p.0 == object.0) objects) none in
-    value-written (slice_set values o.0 grid) objects grids object parts.1
-    ∙ get_or-set_other values o.0 object.0 grid empty_grid (λ same. eqb-false o.0 object.0 parts.0 (sym same))
 
 length-after_tasks : (shapes : List Shape) (values : List Grid) (tasks : List Task) → length (after_tasks shapes values tasks) ≡ length values
 length-after_tasks shapes values [] = refl
@@ -53,7 +44,8 @@ length-parts v (Fill number) is = length-replicate v.parts (filled v.shape numbe
 length-parts v Iota is = absurd (both_ways false refl is)
 length-parts v (Loaded values) is = absurd (both_ways false refl is)
 
-length-initial : (vars : List Var) → list_all is_var vars ≡ true → length (initial_values vars) ≡ objects_of vars
+-- as many values as objects, at first
+pub length-initial : (vars : List Var) → list_all is_var vars ≡ true → length (initial_values vars) ≡ objects_of vars
 length-initial [] all = refl
 length-initial (v ∷ vars) all =
     let parts = and_parts (is_var v) (list_all is_var vars) all in
@@ -71,13 +63,8 @@ length-values job k whole =
     length-after_tasks (shapes_of job.vars) (initial_values job.vars) (take k (tasks_of job))
     ∙ length-initial job.vars (vars_sizes job.vars (whole_vars job whole)).1
 
--- one more task
-after_tasks-push : (shapes : List Shape) (values : List Grid) (tasks : List Task) (last : Task) → after_tasks shapes values (tasks ++ last ∷ []) ≡ after_task shapes (after_tasks shapes values tasks) last
-after_tasks-push shapes values [] last = refl
-after_tasks-push shapes values (task ∷ tasks) last = after_tasks-push shapes (after_task shapes values task) tasks last
-
 -- what the objects hold after the task at a position
 pub task_leaves : (job : Job) (k : ℕ) (task : Task) → slice_get (tasks_of job) k ≡ Some task → values_after job (suc k) ≡ after_task (shapes_of job.vars) (values_after job k) task
 task_leaves job k task there =
     ap (after_tasks (shapes_of job.vars) (initial_values job.vars)) (take_next (tasks_of job) k ∙ ap (λ (o : Option Task). take k (tasks_of job) ++ option_to_list o) there)
-    ∙ after_tasks-push (shapes_of job.vars) (initial_values job.vars) (take k (tasks_of job)) task
+    ∙ after_tasks-append (shapes_of job.vars) (initial_values job.vars) (take k (tasks_of job)) (task ∷ [])

@@ -23,7 +23,7 @@ use Rattle.nim_job.specs.Versions.{is_written, version_before, ReadsVersions, Ke
 use Rattle.nim_job.proofs.Lists.{take_next}
 
 -- an object that isn't written keeps its value
-written_other : (values : List Grid) (objects : List Object) (grids : List Grid) (object : Object) → list_any (λ (o : Object). o.0 == object.0) objects ≡ false
+pub written_other : (values : List Grid) (objects : List Object) (grids : List Grid) (object : Object) → list_any (λ (o : Object). o.0 == object.0) objects ≡ false
     → value_at (written values objects grids) object ≡ value_at values object
 written_other values [] grids object none = refl
 written_other values (o ∷ objects) [] object none = refl

@@ -1,5 +1,5 @@
 -- Which reports are true of a job.
-use Rattle.std.specs.Prelude.{◌≡◌, ℕ, true, IsSomeAnd, slice_get}
+use Rattle.std.specs.Prelude.{◌≡◌, true, IsSomeAnd, slice_get}
 use Rattle.nim_message.specs.declared.report.FromWorker.{FromWorker}
 use Rattle.nim_message.specs.declared.report.FromWorker.TheVariants.{Ran, Value, NoMemory}
 use Rattle.nim_job.specs.declared.job.Job.{Job}

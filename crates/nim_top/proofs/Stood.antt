@@ -21,6 +21,7 @@ use Rattle.nim_job.specs.Step.{State, after_tasks, output_of, step, tasks_next}
 use Rattle.nim_job.specs.Tasks.{block_tasks_of, takes_of}
 use Rattle.nim_job.specs.Whole.{is_between, is_init, is_var, is_whole}
 use Rattle.nim_job.proofs.Follows.{answer_follows, append_follows, finished_ends, full_ends, left_whole, output_prints, run_tasks, starts}
+use Rattle.nim_job.proofs.TaskLeaves.{length-initial}
 use Rattle.nim_job.proofs.Whole.{vars_sizes, whole_vars}
 use Rattle.nim_job.proofs.Versions.{step_moves}
 use Rattle.nim_top.specs.Runs.{Stands, StandsAt}
@@ -133,21 +134,6 @@ output_allowed job m values var whole stands is =
     let at = stands.at (passes m (ap goes_on is)).0 in
     items_var job (machine_at job (state_of job m)) (state_of job m).driver.todo var (left_whole job m.driver.count whole) (here job m values (Ask.Output var) at is)
 
--- as many values as objects
-length_parts : (v : Var) (init : Init) → is_init init ≡ true → length (initial_parts v init) ≡ v.parts
-length_parts v (Fill number) is = length-replicate v.parts (filled v.shape number)
-length_parts v Iota is = absurd (both_ways false refl is)
-length_parts v (Loaded values) is = absurd (both_ways false refl is)
-
-init_of : (v : Var) → is_var v ≡ true → is_init v.init ≡ true
-init_of v is = (and_parts (is_between 1 64 v.parts && is_between 1 65536 v.shape.width && is_between 1 65536 v.shape.rows && nat_le (v.shape.width * v.shape.rows) 65536) (is_init v.init) is).1
-
-length_initial : (vars : List Var) → list_all is_var vars ≡ true → length (initial_values vars) ≡ objects_of vars
-length_initial [] all = refl
-length_initial (v ∷ vars) all =
-    let parts = and_parts (is_var v) (list_all is_var vars) all in
-    omega (arith, length-append (initial_parts v v.init) (initial_values vars), length_parts v v.init (init_of v parts.0), length_initial vars parts.1, sum_by-cons (λ (w : Var). w.parts) v vars)
-
 first_values : (job : Job) → (driver_at job 0).values ≡ initial_values job.vars
 unfolding driver_at
 first_values job = refl
@@ -159,7 +145,7 @@ begins_stood job m values whole new initial =
     let first : driver_at job m.driver.count ≡ driver_at job 0 = ap (driver_at job) none in
     record {
       answered = ap (λ (k : Machine). k.asked) new;
-      counts = ap length initial ∙ length_initial job.vars (vars_sizes job.vars (whole_vars job whole)).1;
+      counts = ap length initial ∙ length-initial job.vars (vars_sizes job.vars (whole_vars job whole)).1;
       at = λ _. record {
         machine = new ∙ starts job ∙ ap (machine_at job) (sym first);
         held = initial ∙ sym (first_values job) ∙ ap (λ (s : State). s.values) (sym first);

@@ -1,0 +1,20 @@
+use Rattle.std.proofs.Common.{◌≡◌, ◌<◌, ◌≤◌, ℕ, length, map, take, All}
+use Rattle.std.specs.Vec.{vec_capacity}
+use Rattle.nim_base.specs.declared.number.Slot.{Slot}
+use Rattle.nim_base.specs.Functions.{reads_of}
+use Rattle.nim_worker.specs.Inputs.{AreSeen, given_back, slot_at}
+use Rattle.nim_worker.specs.Kept.{content_seen, seen}
+use Rattle.nim_worker.proofs.inputs.Inputs.take.Given as goal
+
+-- what is taken is what the slots had, and the first reads have their places in it
+abbrev pub invariant-loop-slot : goal.invariant-loop-slot
+invariant-loop-slot l = record {
+  back : given_back l.taken.items l.values.items (slot_at l.slots) ≡ slot_at l.fn.slots;
+  values : reads_of l.values.items l.places.items ≡ map (λ (slot : Slot). (seen (slot_at l.fn.slots) slot).value) (take l.slot-index l.reads);
+  contents : l.contents.items ≡ map (content_seen (slot_at l.fn.slots)) (take l.slot-index l.reads);
+  paired : length l.taken.items ≡ length l.values.items;
+  few : length l.taken.items ≤ l.slot-index;
+  right : AreSeen l.taken.items l.values.items;
+  fit : All (λ (place : ℕ). place < length l.values.items) l.places.items;
+  room : (8 ≤ vec_capacity l.taken) × (8 ≤ vec_capacity l.values) × (8 ≤ vec_capacity l.places) × (8 ≤ vec_capacity l.contents);
+}

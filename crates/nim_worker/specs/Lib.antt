@@ -1,0 +1,6 @@
+pub mod Inputs
+pub mod Kept
+pub mod Leaves
+pub mod Right
+pub mod Stands
+pub mod Works

@@ -1,0 +1,175 @@
+ghost use Rattle.std.specs.Prelude.{◌≡◌, ◌≤◌, ◌<◌, ◌+◌, ℕ, [], length, map, slice_index_or, All, IfOk, IfSome};
+ghost use Rattle.std.specs.Vec.{vec_capacity};
+ghost use Rattle.std.specs.List.{position_or_len};
+ghost use Rattle.std.specs.Option.{option_map, option_map_or};
+ghost use Rattle.nim_base.specs.declared.number.Object.{Object as object};
+ghost use Rattle.nim_base.specs.declared.number.Shape.{Shape as shape_type};
+ghost use Rattle.nim_base.specs.Value.{empty_grid};
+ghost use Rattle.nim_command.specs.Slots as slot_spec;
+ghost use Rattle.nim_worker.specs.declared.held.Held.{Held as held_in};
+ghost use Rattle.nim_worker.specs.Inputs as spec;
+ghost use Rattle.nim_worker.specs.Inputs.{AreInputs, AreSeen, Continues, IsIdle, given_back, is_from, slot_at};
+ghost use Rattle.nim_worker.specs.Kept as kept_spec;
+ghost use Rattle.nim_worker.specs.Kept.{content_seen, seen};
+
+use crate::Held;
+use crate::inputs::{Inputs, Taken};
+use crate::slots::Slots;
+use nim_base::{NoMemory, Object, Shape, Slot, Value, Version};
+use std::alloc::Global;
+
+impl Inputs {
+    /// Room for inputs, and nothing in it.
+    pub(crate) fn new(alloc: Global) -> Result<Inputs, NoMemory>
+        ensures { IfOk result IsIdle }
+    {
+        Ok(Inputs {
+            taken: Vec::with_capacity(alloc, 8)?,
+            values: Vec::with_capacity(alloc, 8)?,
+            places: Vec::with_capacity(alloc, 8)?,
+            contents: Vec::with_capacity(alloc, 8)?,
+            shapes: Vec::with_capacity(alloc, 2)?,
+        })
+    }
+
+    /// Takes what a task reads out of its slots.
+    pub(crate) fn take(
+        self,
+        alloc: Global,
+        slots: &mut Slots,
+        shapes: &[Shape],
+        reads: &[Slot],
+        writes: &[Slot],
+    ) -> Inputs
+        requires idle { IsIdle self }
+        requires reads { length reads.now ≤ 8 }
+        requires writes { length writes.now ≤ 2 }
+        ensures { AreInputs shapes.now reads.now writes.now (slot_at slots.old) (slot_at slots.new) result }
+    {
+        let Inputs {
+            mut taken,
+            mut values,
+            mut places,
+            mut contents,
+            shapes: mut fitting,
+        } = self;
+        for slot in reads {
+            let (place, content) = take_read(alloc, slots, *slot, &mut taken, &mut values);
+            places.push_reserved(place);
+            contents.push_reserved(content);
+        }
+        push_shapes(&mut fitting, shapes, writes);
+        Inputs {
+            taken,
+            values,
+            places,
+            contents,
+            shapes: fitting,
+        }
+    }
+}
+
+// Takes what a slot has, where it isn't taken yet: its place among what is taken, and its object and version.
+fn take_read(
+    alloc: Global,
+    slots: &mut Slots,
+    slot: Slot,
+    taken: &mut Vec<Taken>,
+    values: &mut Vec<Value>,
+) -> (usize, (Object, Version))
+    requires paired { length taken.old.items ≡ length values.old.items }
+    requires fits { length taken.old.items < 8 }
+    requires room { (8 ≤ vec_capacity taken.old) × (8 ≤ vec_capacity values.old) }
+    requires seen { AreSeen taken.old.items values.old.items }
+    ensures paired { length taken.new.items ≡ length values.new.items }
+    ensures seen { AreSeen taken.new.items values.new.items }
+    ensures fits { length taken.new.items ≤ length taken.old.items + 1 }
+    ensures room { (8 ≤ vec_capacity taken.new) × (8 ≤ vec_capacity values.new) }
+    ensures back { given_back taken.new.items values.new.items (slot_at slots.new) ≡ given_back taken.old.items values.old.items (slot_at slots.old) }
+    ensures more { Continues values.old.items values.new.items }
+    ensures place { result.0 < length values.new.items }
+    ensures value { slice_index_or values.new.items result.0 empty_grid
+        ≡ (seen (given_back taken.old.items values.old.items (slot_at slots.old)) slot).value }
+    ensures content { result.1 ≡ content_seen (given_back taken.old.items values.old.items (slot_at slots.old)) slot }
+{
+    let place = place_of(taken.as_slice(), slot);
+    if place < taken.len() {
+        return (place, content_of(taken[place]));
+    }
+    let (content, value) = apart(alloc, slots.take(slot));
+    let now = Taken { slot, content };
+    taken.push_reserved(now);
+    values.push_reserved(value);
+    (place, content_of(now))
+}
+
+// The place of a slot among what is taken; past the end where it isn't taken.
+fn place_of(taken: &[Taken], slot: Slot) -> usize
+    ensures { result ≡ position_or_len (is_from slot) taken.now }
+{
+    taken.iter().take_while(|t| slot.0 != t.slot.0).count()
+}
+
+// What a slot that was emptied is read as.
+fn content_of(taken: Taken) -> (Object, Version)
+    ensures { result ≡ spec.content_of taken }
+{
+    match taken.content {
+        Some(content) => content,
+        None => (object_of(taken.slot), 0),
+    }
+}
+
+/// The object of a slot.
+pub(crate) fn object_of(slot: Slot) -> Object
+    ensures { result ≡ slot_spec.object_of slot }
+{
+    Object(slot.0 % 512)
+}
+
+// The content and the value of what a slot has, apart.
+fn apart(alloc: Global, held: Option<Held>) -> (Option<(Object, Version)>, Value)
+    ensures held { option_map (λ (content : object × ℕ). record { object = content.0; version = content.1; value = result.1 }) result.0 ≡ held }
+    ensures value { result.1 ≡ option_map_or (λ (h : held_in). h.value) held empty_grid }
+{
+    match held {
+        Some(held) => (Some((held.object, held.version)), held.value),
+        None => (None, Value::new(alloc, 1)),
+    }
+}
+
+// Appends the shapes that results are fitted to, one a slot that is written.
+fn push_shapes(fitting: &mut Vec<Shape>, shapes: &[Shape], writes: &[Slot])
+    requires idle { fitting.old.items ≡ [] }
+    requires fits { length writes.now ≤ 2 }
+    requires room { 2 ≤ vec_capacity fitting.old }
+    ensures room { 2 ≤ vec_capacity fitting.new }
+    ensures shapes { fitting.new.items ≡ map (kept_spec.fitting_shape shapes.now) writes.now }
+    ensures wide { All (λ (shape : shape_type). 1 ≤ shape.width) fitting.new.items }
+{
+    for slot in writes {
+        fitting.push_reserved(fitting_shape(shapes, *slot));
+    }
+}
+
+// The shape of a slot's object, if it has one with columns.
+pub(crate) fn shape_of(shapes: &[Shape], slot: Slot) -> Option<Shape>
+    ensures shape { result ≡ kept_spec.shape_of shapes.now slot }
+    ensures wide { IfSome result (λ shape. 1 ≤ shape.width) }
+{
+    match shapes.get(usize::from(object_of(slot).0)) {
+        Some(shape) if shape.width > 0 => Some(*shape),
+        _ => None,
+    }
+}
+
+// The shape that a result is fitted to; where there is none the result isn't kept.
+fn fitting_shape(shapes: &[Shape], slot: Slot) -> Shape
+    ensures shape { result ≡ kept_spec.fitting_shape shapes.now slot }
+    ensures wide { 1 ≤ result.width }
+{
+    match shape_of(shapes, slot) {
+        Some(shape) => shape,
+        None => Shape { width: 1, rows: 0 },
+    }
+}
