@@ -97,3 +97,15 @@ pub completes : (shapes : List Shape) (before now : Slot → Option Held) (asked
 completes shapes before now asked work new is done =
     ap₂ (λ (c : Command) (r : Option (List Grid)). left_with shapes c.kind r before) (done.command ∙ is.command) (performed_results shapes before now asked work new is done)
     ∙ left_kept shapes before asked.kind
+
+-- a work that is performed is still its command's
+pub performed : (shapes : List Shape) (before now : Slot → Option Held) (asked : Command) (work new : Work) → IsPerformed work new → IsWork shapes before now asked work → IsWork shapes before now asked new
+performed shapes before now asked work new done is = record {
+  command = done.command ∙ is.command;
+  inputs = subst (AreInputs shapes (reads_taken asked.kind) (writes_taken asked.kind) before now) (sym done.inputs) is.inputs;
+  results = subst (λ (r : Option (List Grid)). IfSome r (λ results. results_of shapes asked.kind before ≡ Some results)) (sym (performed_results shapes before now asked work new is done))
+      (either (results_of shapes asked.kind before));
+} where
+  either : (r : Option (List Grid)) → IfSome r (λ results. r ≡ Some results)
+  either None = record {}
+  either (Some results) = refl

@@ -1,6 +1,7 @@
 pub mod Inputs
 pub mod Kept
 pub mod Leaves
+pub mod Lending
 pub mod Right
 pub mod Stands
 pub mod Works

@@ -1,6 +1,12 @@
-ghost use Rattle.std.specs.Prelude.{◌≡◌, ◌<◌, OnOk, OnErr};
+ghost use Rattle.std.specs.Prelude.{List, Option, ◌≡◌, ◌<◌, OnOk, OnErr};
 ghost use Rattle.std.specs.Vec.{vec_capacity, vec_len};
+ghost use Rattle.std.specs.Borrow.{sem};
+ghost use Rattle.nim_base.specs.declared.number.Shape.{Shape as shape_type};
+ghost use Rattle.nim_base.specs.declared.number.Slot.{Slot as slot_number};
+ghost use Rattle.nim_command.specs.declared.command.Command.{Command as command_type};
+ghost use Rattle.nim_worker.specs.declared.held.Held.{Held as held_type};
 ghost use Rattle.nim_worker.specs.Inputs.{IsIdle, slot_at};
+ghost use Rattle.nim_worker.specs.Lending.{LendsWorks};
 ghost use Rattle.nim_worker.specs.Works.{IsPerformed, IsWork, position_of};
 
 use crate::inputs::Inputs;
@@ -34,8 +40,9 @@ impl Batch {
         self.epoch
     }
 
-    /// The works, in the order in which their commands were given.
+    /// The works, in the order in which their commands were given. The batch ends with the works as they are left.
     pub fn works(&mut self) -> &mut [Work]
+        ensures* lends { sem 𝓛 (LendsWorks self.entry result) }
         ensures value { result.now ≡ self.old.works.items }
     {
         self.works.as_mut_slice()
@@ -48,6 +55,8 @@ impl Work {
     pub fn perform(&mut self) -> Result<(), NoMemory>
         ensures ok { OnOk result (IsPerformed self.old self.new) }
         ensures err { OnErr result (self.new ≡ self.old) }
+        ensures keeps { (shapes : List shape_type) (before now : slot_number → Option held_type) (command : command_type)
+            → IsWork shapes before now command self.old → IsWork shapes before now command self.new }
     {
         if self.results.is_none() {
             if let Kind::Run { func, params, .. } = &self.command.kind {
