@@ -5,10 +5,12 @@ pub mod NoLimit
 pub mod Numbers
 pub mod Limits
 pub mod TooLong
-pub mod Written
 pub mod Stood
 pub mod Lengths
 pub mod Fits
 pub mod Small
 pub mod Short
 pub mod Ends
+pub mod Asked
+pub mod HeldAt
+pub mod Printed

@@ -3,3 +3,5 @@ pub mod FirstPath
 pub mod Lines
 pub mod Runs
 pub mod Words
+pub mod Orders
+pub mod Works

@@ -1,11 +1,13 @@
 //! The top calls: words and files in, bytes and a status out.
 #![tactic(auto)]
 
+mod control;
 mod first_path;
+mod log;
+mod orders;
 mod replay;
 mod run;
 mod status;
-mod tasks;
 #[cfg(test)]
 mod tests;
 mod values;

@@ -1,16 +1,13 @@
-ghost use Rattle.std.specs.Prelude.{◌≡◌, ◌+◌, [], length, IfOk, IfSome, IfNone, IsTrue, OnOk};
-ghost use Rattle.std.specs.List.{list_all};
-ghost use Rattle.nim_job.specs.Objects.{initial_values, objects_of, shapes_of};
+ghost use Rattle.std.specs.Prelude.{◌≡◌, ◌+◌, [], length, IfOk, IfSome, IfNone, IsTrue};
 ghost use Rattle.nim_job.specs.Serial.{serial_of};
-ghost use Rattle.nim_job.specs.Step.{output_of};
 ghost use Rattle.nim_job.specs.Whole.{is_whole};
 ghost use Rattle.nim_top.specs.Runs.{Stands};
+ghost use Rattle.nim_top.specs.Works.{WorksAt};
 ghost use Rattle.nim_top.specs.declared.run.Progress.{Progress};
 
-use crate::tasks::run_tasks;
-use crate::values::{initial_values, output_text};
-use nim_base::{NoMemory, Shape, Value};
-use nim_job::{Ask, DriverMachine, Job, block_tasks, shapes};
+use crate::control::Control;
+use nim_base::NoMemory;
+use nim_job::{Ask, DriverMachine, Job};
 use std::alloc::Global;
 
 /// Whether a driver goes on.
@@ -21,18 +18,32 @@ pub enum Progress {
     Limit,
 }
 
-/// Applies the tasks of a job one after another, and gives the machine that stands at its end and has
+/// Has the tasks of a job run one after another, and gives the machine that stands at its end and has
 /// what the job prints; nothing where the job passes its limits.
 pub fn run(alloc: Global, job: &Job) -> Result<Option<DriverMachine>, NoMemory>
     requires { IsTrue (is_whole job.now) }
     ensures output { IfOk result (λ end. IfSome end (λ m. serial_of job.now ≡ record { status = 0; bytes = m.driver.output })) }
     ensures limit { IfOk result (λ end. IfNone end (serial_of job.now ≡ record { status = 4; bytes = [] })) }
 {
-    let shapes = shapes(alloc, job)?;
-    let mut values = initial_values(alloc, job.vars.as_slice())?;
+    let mut control = Control::new(alloc, job, None)?;
+    drive(alloc, job, &mut control)
+}
+
+/// The same with a controller that has given no task yet.
+pub fn drive(
+    alloc: Global,
+    job: &Job,
+    control: &mut Control,
+) -> Result<Option<DriverMachine>, NoMemory>
+    requires whole { IsTrue (is_whole job.now) }
+    requires works { WorksAt job.now control.old.core 0 }
+    requires position { control.old.position ≡ 0 }
+    ensures output { IfOk result (λ end. IfSome end (λ m. serial_of job.now ≡ record { status = 0; bytes = m.driver.output })) }
+    ensures limit { IfOk result (λ end. IfNone end (serial_of job.now ≡ record { status = 4; bytes = [] })) }
+{
     let mut machine = DriverMachine::new(alloc, job)?;
     loop {
-        match turn(alloc, job, &shapes, &mut values, &mut machine)? {
+        match turn(job, control, &mut machine)? {
             Progress::Goes => {}
             Progress::Finished => return Ok(Some(machine)),
             Progress::Limit => return Ok(None),
@@ -41,17 +52,10 @@ pub fn run(alloc: Global, job: &Job) -> Result<Option<DriverMachine>, NoMemory>
 }
 
 // Does what the driver asks for next.
-fn turn(
-    alloc: Global,
-    job: &Job,
-    shapes: &[Shape],
-    values: &mut Vec<Value>,
-    machine: &mut DriverMachine,
-) -> Result<Progress, NoMemory>
+fn turn(job: &Job, control: &mut Control, machine: &mut DriverMachine) -> Result<Progress, NoMemory>
     requires whole { IsTrue (is_whole job.now) }
-    requires shapes { shapes.now ≡ shapes_of job.now.vars }
-    requires stands { Stands job.now machine.old values.old.items }
-    ensures goes { IfOk result (λ turn. turn ≡ Progress.Goes → Stands job.now machine.new values.new.items) }
+    requires stands { Stands job.now machine.old control.old }
+    ensures goes { IfOk result (λ turn. turn ≡ Progress.Goes → Stands job.now machine.new control.new) }
     ensures nearer { IfOk result (λ turn. turn ≡ Progress.Goes → length machine.new.driver.todo + 1 ≡ length machine.old.driver.todo) }
     ensures finished { IfOk result (λ turn. turn ≡ Progress.Finished → serial_of job.now ≡ record { status = 0; bytes = machine.new.driver.output }) }
     ensures limit { IfOk result (λ turn. turn ≡ Progress.Limit → serial_of job.now ≡ record { status = 4; bytes = [] }) }
@@ -59,13 +63,12 @@ fn turn(
     let _printed = machine.output();
     match machine.next()? {
         Ask::Run { block, args } => {
-            let tasks = block_tasks(alloc, job, block, args.as_slice())?;
-            run_tasks(alloc, shapes, values, &tasks)?;
+            control.run_block(job, block, args.as_slice())?;
             machine.answer(0);
             Ok(Progress::Goes)
         }
         Ask::Output { var } => {
-            let text = output_text(alloc, job, values, var)?;
+            let text = control.output(job, var)?;
             machine.append(&text)?;
             Ok(Progress::Goes)
         }

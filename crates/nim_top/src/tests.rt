@@ -6,7 +6,7 @@ use nim_job::{block_forms, is_whole, machine_follows, versions_are_read};
 use std::alloc::{AllocError, Global};
 use std::test::Fail;
 
-const TWO: &str =
+pub(crate) const TWO: &str =
     "nimbus 1\nvar a parts 2 width 1 rows 1 fill 3\nblock b()\naddc a[i] -> a[i] with 4 each i\nend\ndo b()\noutput a\n";
 
 const GREATEST: &str =

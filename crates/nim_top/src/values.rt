@@ -1,74 +1,44 @@
-ghost use Rattle.std.specs.Prelude.{◌≡◌, ◌<◌, ◌≤◌, ◌++◌, length, replicate, IfOk, IsTrue, OnOk};
-ghost use Rattle.std.specs.List.{list_all};
-ghost use Rattle.nim_base.specs.Value.{filled};
-ghost use Rattle.nim_job.specs.Objects.{first_object, initial_parts, initial_values, objects_of, parts_at};
-ghost use Rattle.nim_job.specs.Step.{output_of, texts_of};
-ghost use Rattle.nim_job.specs.Whole.{is_var, is_whole};
+ghost use Rattle.std.specs.Prelude.{◌≡◌, ◌<◌, ◌≤◌, ◌++◌, length, replicate, IfOk, OnOk};
+ghost use Rattle.nim_job.specs.Objects.{first_object, objects_of};
+ghost use Rattle.nim_job.specs.Step.{texts_of};
+ghost use Rattle.nim_top.specs.Orders.{number_of, numbers_of};
 
-use nim_base::{NoMemory, Shape, Value, value_text};
-use nim_job::{Init, Job, Var};
+use nim_base::{NoMemory, Value, value_text};
+use nim_job::{Init, Var};
 use std::alloc::Global;
 
-/// What all objects hold at first.
-pub fn initial_values(alloc: Global, vars: &[Var]) -> Result<Vec<Value>, NoMemory>
-    requires { IsTrue (list_all is_var vars.now) }
-    ensures { IfOk result (λ values. values.items ≡ initial_values vars.now) }
+/// The numbers that fill all objects at first.
+pub fn numbers(alloc: Global, vars: &[Var]) -> Result<Vec<i64>, NoMemory>
+    ensures { IfOk result (λ numbers. numbers.items ≡ numbers_of vars.now) }
 {
-    let mut values = Vec::new(alloc);
+    let mut numbers = Vec::new(alloc);
     for var in vars {
-        push_initial(alloc, &mut values, var)?;
+        push_times(&mut numbers, var.parts, number(&var.init))?;
     }
-    Ok(values)
+    Ok(numbers)
 }
 
-// What the parts of a variable hold at first.
-fn push_initial(alloc: Global, values: &mut Vec<Value>, var: &Var) -> Result<(), NoMemory>
-    requires { IsTrue (is_var var.now) }
-    ensures { OnOk result (values.new.items ≡ values.old.items ++ initial_parts var.now var.now.init) }
+// The number that fills the parts of a variable at first.
+fn number(init: &Init) -> i64
+    ensures { result ≡ number_of init.now }
 {
-    match var.init {
-        Init::Fill(number) => push_filled(alloc, values, var.parts, var.shape, number),
-        _ => Ok(()),
+    match init {
+        Init::Fill(number) => *number,
+        _ => 0,
     }
 }
 
-fn push_filled(
-    alloc: Global,
-    values: &mut Vec<Value>,
-    parts: u32,
-    shape: Shape,
-    number: i64,
-) -> Result<(), NoMemory>
-    requires { 1 ≤ shape.width }
-    ensures { OnOk result (values.new.items ≡ values.old.items ++ replicate parts (filled shape number)) }
+fn push_times(numbers: &mut Vec<i64>, times: u32, number: i64) -> Result<(), NoMemory>
+    ensures { OnOk result (numbers.new.items ≡ numbers.old.items ++ replicate times number) }
 {
-    for _ in 0..parts {
-        values.push(Value::filled(alloc, shape, number)?)?;
+    for _ in 0..times {
+        numbers.push(number)?;
     }
     Ok(())
 }
 
-/// What `output` prints of a variable: the texts of its parts.
-pub fn output_text(alloc: Global, job: &Job, values: &[Value], var: u8) -> Result<Vec<u8>, NoMemory>
-    requires whole { IsTrue (is_whole job.now) }
-    requires values { length values.now ≡ objects_of job.now.vars }
-    requires var { var < length job.now.vars }
-    ensures { IfOk result (λ text. text.items ≡ output_of job.now.vars values.now var) }
-{
-    let vars = job.vars.as_slice();
-    let var = usize::from(var);
-    let first = first_object(vars, var);
-    let parts = vars[var].parts;
-    texts(
-        alloc,
-        vars[var].name.as_str(),
-        &values[first..first + parts as usize],
-        parts,
-    )
-}
-
-// The object that is part 0 of a variable.
-fn first_object(vars: &[Var], var: usize) -> usize
+/// The object that is part 0 of a variable.
+pub fn first_object(vars: &[Var], var: usize) -> usize
     requires few { objects_of vars.now ≤ 512 }
     requires var { var < length vars.now }
     ensures { result ≡ first_object vars.now var }
@@ -80,8 +50,8 @@ fn first_object(vars: &[Var], var: usize) -> usize
     first
 }
 
-// The texts of the parts, which are so many.
-fn texts(alloc: Global, name: &str, values: &[Value], parts: u32) -> Result<Vec<u8>, NoMemory>
+/// The texts of the parts, which are so many.
+pub fn texts(alloc: Global, name: &str, values: &[Value], parts: u32) -> Result<Vec<u8>, NoMemory>
     requires { length values.now ≡ parts }
     ensures { IfOk result (λ text. text.items ≡ texts_of name.now 0 values.now) }
 {

@@ -1,0 +1,6 @@
+use Rattle.std.proofs.Common.{◌≡◌, ◌+◌}
+use Rattle.nim_top.specs.Works.{WorksAt}
+use Rattle.nim_top.proofs.control.Control.run_block.Given as goal
+
+abbrev pub invariant-loop-task : goal.invariant-loop-task
+invariant-loop-task l = WorksAt l.job l.self.core l.self.position × (l.self.position ≡ l.fn.self.position + l.task-index)

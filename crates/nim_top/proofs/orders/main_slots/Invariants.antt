@@ -1,0 +1,6 @@
+use Rattle.std.proofs.Common.{◌≡◌, map, take}
+use Rattle.nim_top.specs.Orders.{main_slot}
+use Rattle.nim_top.proofs.orders.main_slots.Given as goal
+
+abbrev pub invariant-loop-object : goal.invariant-loop-object
+invariant-loop-object l = l.slots.items ≡ map main_slot (take l.object-index l.objects)

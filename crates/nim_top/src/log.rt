@@ -1,0 +1,74 @@
+ghost use Rattle.std.specs.Prelude.{◌≡◌, ◌++◌, ◌∷◌, [], IfOk, OnOk};
+ghost use Rattle.nim_worker.specs.Stands.{reports_in};
+
+use nim_base::{Copied, NoMemory};
+use nim_message::{FromWorker, ToWorker};
+use nim_worker::Out;
+use std::alloc::Global;
+
+/// The orders that a controller gave, and the reports that it got, each in order. It grows with the tasks, so it is
+/// kept only where a test asks for it.
+#[derive(Drop)]
+pub struct Log {
+    pub orders: Vec<ToWorker>,
+    pub reports: Vec<FromWorker>,
+}
+
+impl Log {
+    /// Has nothing yet.
+    #[cfg(test)]
+    pub fn new(alloc: Global) -> Log {
+        Log {
+            orders: Vec::new(alloc),
+            reports: Vec::new(alloc),
+        }
+    }
+
+    /// Keeps an order.
+    pub fn order(&mut self, order: &ToWorker) -> Result<(), NoMemory>
+        ensures { OnOk result (self.new.orders.items ≡ self.old.orders.items ++ order.now ∷ []) }
+    {
+        Ok(self.orders.push(order.copy()?)?)
+    }
+
+    /// Keeps what a worker gave.
+    pub fn outs(&mut self, outs: &[Out]) -> Result<(), NoMemory>
+        ensures { OnOk result (self.new.reports.items ≡ self.old.reports.items ++ reports_in outs.now) }
+    {
+        for out in outs {
+            let Out::Report(report) = out;
+            self.reports.push(copy_report(report)?)?;
+        }
+        Ok(())
+    }
+}
+
+fn copy_report(report: &FromWorker) -> Result<FromWorker, NoMemory>
+    ensures { IfOk result (λ other. other ≡ report.now) }
+{
+    Ok(match report {
+        FromWorker::Value {
+            epoch,
+            ticket,
+            object,
+            version,
+            value,
+        } => FromWorker::Value {
+            epoch: *epoch,
+            ticket: *ticket,
+            object: *object,
+            version: *version,
+            value: value.copy()?,
+        },
+        FromWorker::Ran {
+            epoch,
+            position,
+            reads,
+        } => FromWorker::Ran {
+            epoch: *epoch,
+            position: *position,
+            reads: reads.copy()?,
+        },
+        FromWorker::NoMemory => FromWorker::NoMemory,
+    })
+}
