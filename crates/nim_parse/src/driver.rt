@@ -47,7 +47,7 @@ fn newlines(source: &[u8]) -> usize
     source.iter().filter(|b| **b == b'\n').count()
 }
 
-/// How many lines a text has.
+/// How many lines a text has, those without words too; the last piece is one only if it isn't empty.
 pub fn line_count(source: &[u8]) -> usize
     requires { length source.now < 2 ^ 32 }
     ensures { result ≡ line_count source.now }

@@ -19,7 +19,7 @@ mod tests;
 mod tree;
 
 pub use data::parse_data;
-pub use driver::parse;
+pub use driver::{line_count, parse};
 pub use fault::ParseFault;
 pub use part::Part;
 pub use tree::{
