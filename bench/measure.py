@@ -1,4 +1,4 @@
-"""Runs a command twice: once for its seconds and tasks a second, once under GNU time for its peak memory in MiB."""
+"""Runs a command twice: once for its seconds, and tasks a second where it runs some; once for its peak memory in MiB."""
 import subprocess
 import sys
 import tempfile
@@ -12,4 +12,5 @@ seconds = time.perf_counter() - start
 with tempfile.NamedTemporaryFile("r") as peak:
     subprocess.run(["/usr/bin/time", "-f", "%M", "-o", peak.name, *command], stdout=subprocess.DEVNULL, check=True)
     mebibytes = int(peak.read()) / 1024
-print(f"{name}: {seconds:.3f} s, {tasks / seconds:,.0f} tasks a second, {mebibytes:.1f} MiB")
+rate = f", {tasks / seconds:,.0f} tasks a second" if tasks else ""
+print(f"{name}: {seconds:.3f} s{rate}, {mebibytes:.1f} MiB")
