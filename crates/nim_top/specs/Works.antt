@@ -1,8 +1,9 @@
 -- What stays true of the one worker while orders are given to it.
-use Rattle.std.specs.Prelude.{◌≡◌, ◌≢◌, ℕ, ◌+◌, ◌<◌, ◌≤◌, ◌⊎◌, true, Option, None, Some, List, [], ◌∷◌, ◌++◌, length, IfSome, slice_get}
+use Rattle.std.specs.Prelude.{◌≡◌, ◌≢◌, ℕ, ◌+◌, ◌<◌, ◌≤◌, ◌⊎◌, true, Option, None, Some, List, [], ◌∷◌, ◌++◌, length, map, IfSome, slice_get}
 use Rattle.nim_base.specs.declared.number.Object.{Object}
 use Rattle.nim_base.specs.declared.number.Slot.{Slot}
 use Rattle.nim_base.specs.declared.task.Task.{Task}
+use Rattle.nim_base.specs.declared.task.TaskForm.{TaskForm}
 use Rattle.nim_base.specs.Value.{Grid}
 use Rattle.nim_command.specs.declared.command.Command.{Command}
 use Rattle.nim_command.specs.declared.command.Kind.{Kind}
@@ -12,13 +13,16 @@ use Rattle.nim_message.specs.declared.order.ToWorker.{ToWorker}
 use Rattle.nim_message.specs.declared.report.FromWorker.{FromWorker}
 use Rattle.nim_message.specs.declared.report.FromWorker.TheVariants.{Value}
 use Rattle.nim_message.specs.Orders.{session_of}
+use Rattle.nim_job.specs.declared.block.Block.{Block}
 use Rattle.nim_job.specs.declared.job.Job.{Job}
 use Rattle.nim_job.specs.Objects.{objects_of}
 use Rattle.nim_job.specs.Serial.{tasks_of}
+use Rattle.nim_job.specs.Tasks.{forms_of}
 use Rattle.nim_job.specs.Versions.{read_version, version_value}
 use Rattle.nim_plan.specs.Legal.{IsLegal}
 use Rattle.nim_worker.specs.declared.worker.WorkerCore.{WorkerCore}
 use Rattle.nim_worker.specs.Stands.{Stands, asked_for, reported}
+use Rattle.nim_top.specs.declared.control.Control.{Control}
 use Rattle.nim_top.specs.Orders.{is_silent, main_slot}
 
 -- no batch is out
@@ -78,3 +82,11 @@ value_in _ = None
 -- these are the tasks of a job from a position on
 abbrev pub AreNext : Job → ℕ → List Task → Type 0
 AreNext job position tasks = (k : ℕ) → k < length tasks → slice_get (tasks_of job) (position + k) ≡ slice_get tasks k
+
+-- the tasks of each block of a job in order, their arguments not yet put in
+abbrev pub forms_in : Job → List (List TaskForm)
+forms_in job = map (λ (block : Block). forms_of job.vars block.stages) job.blocks
+
+-- A controller gives the tasks of this job's blocks.
+abbrev pub HasForms : Job → Control → Type 0
+HasForms job control = control.forms.items ≡ forms_in job
