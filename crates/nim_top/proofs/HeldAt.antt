@@ -1,6 +1,6 @@
 -- What main slots hold after each order, and that the orders may be given.
-use Rattle.std.proofs.Common.{◌≡◌, ◌≢◌, ℕ, ◌+◌, ◌<◌, ◌≤◌, suc, zero, Bool, true, false, ℤ, List, [], ◌∷◌, ◌++◌, length, get_or, map, take, replicate, refl, ap, ap₂, sym, subst, ◌∙◌, arith, add-one, Option, None, Some}
-use Rattle.std.specs.Prelude.{◌==◌, ◌%◌, ◌&&◌, ◌||◌, if◌then◌else◌, slice_get, IfSome, IsSomeAnd}
+use Rattle.std.proofs.Common.{◌≡◌, ℕ, ◌+◌, ◌<◌, ◌≤◌, suc, zero, Bool, true, false, ℤ, List, [], ◌∷◌, ◌++◌, length, get_or, map, take, replicate, refl, ap, ap₂, sym, subst, ◌∙◌, arith, add-one, Option, None, Some}
+use Rattle.std.specs.Prelude.{◌==◌, ◌%◌, ◌&&◌, ◌||◌, if◌then◌else◌, slice_get, IsSomeAnd}
 use Rattle.std.specs.List.{list_all, list_any}
 use Rattle.std.specs.Option.{option_map_or}
 use Rattle.std.proofs.lemmas.Bool.{and_parts, both_ways, eqb-false, eqb-true, ltb-true}
@@ -15,7 +15,6 @@ use Rattle.nim_base.specs.declared.number.Slot.{Slot}
 use Rattle.nim_base.specs.declared.task.Task.{Task}
 use Rattle.nim_base.specs.declared.task.TaskForm.{TaskForm}
 use Rattle.nim_base.specs.Value.{Grid, filled}
-use Rattle.nim_command.specs.declared.command.Command.{Command}
 use Rattle.nim_command.specs.Created.{created}
 use Rattle.nim_command.specs.Holds.{Content, content_at, left_by, version_after}
 use Rattle.nim_command.specs.Slots.{is_among, object_of}
@@ -39,7 +38,7 @@ use Rattle.nim_plan.specs.Legal.{IsLegal, IsLegalKind, IsRunOf}
 use Rattle.nim_worker.specs.declared.worker.Out.{Out}
 use Rattle.nim_worker.specs.declared.worker.WorkerCore.{WorkerCore}
 use Rattle.nim_worker.specs.Stands.{Stands, done_after, report_in, reports_in}
-use Rattle.nim_top.specs.Orders.{create_of, fetch_of, is_silent, main_slot, number_of, numbers_of, reset_of, run_of}
+use Rattle.nim_top.specs.Orders.{create_of, fetch_of, main_slot, number_of, numbers_of, reset_of, run_of}
 use Rattle.nim_top.specs.Works.{AreNext, HoldsAt, forms_in, Works, WorksAt, value_in}
 
 -- a whole job has at most 512 objects, and few steps
@@ -91,9 +90,7 @@ begins_held job core order is stands = record {
   slots = λ slot. None;
   works = record {
     orders = reset_of (shapes_of job.vars) ∷ [];
-    done = 0;
     stands = subst (λ (o : ToWorker). Stands core None (o ∷ []) (done_after o 0)) is stands;
-    silent = λ k from. subst (λ (o : Option Command). IfSome o (λ command. is_silent command.kind ≡ true)) (sym (slice_get_past [] k (omega arith))) tt;
     legal = (refl, tt);
     begun = refl;
     epoch = refl;
@@ -207,13 +204,6 @@ fetch_legal job core position object ticket below h = λ none. some_apart (objec
 pub fetch_held : (job : Job) (old new : WorkerCore) (position : ℕ) (object : Object) (ticket : ℕ) → (h : WorksAt job old position)
     → Works job new (left_by (fetch_of object ticket) h.slots) → WorksAt job new position
 fetch_held job old new position object ticket h works = record { slots = h.slots; works = works; held = h.held }
-
--- where something was given something is reported
-pub some_told : (outs : List Out) → (length outs ≡ 0 → ⊥) → reports_in outs ≢ []
-some_told outs some = λ none. some (sym (length-map outs report_in) ∙ ap length none)
-
-pub pushed_told : (rest : List Out) (out : Out) (outs : List Out) → outs ≡ rest ++ out ∷ [] → reports_in outs ≢ []
-pushed_told rest out outs is = some_told outs (λ none. omega (arith, none, ap length is, length-append rest (out ∷ [])))
 
 no_more : (r : FromWorker) (rs : List FromWorker) → r ∷ rs ≡ [] → ⊥
 no_more r rs is = absurd cc

@@ -11,9 +11,9 @@ ghost use Rattle.nim_job.specs.Versions.{values_after};
 ghost use Rattle.nim_job.specs.Whole.{is_whole};
 ghost use Rattle.nim_message.specs.declared.order.ToWorker.{ToWorker as order_type};
 ghost use Rattle.nim_plan.specs.Legal.{IsLegalKind};
-ghost use Rattle.nim_worker.specs.Stands.{Stands, done_after, may_run, report_in, reports_in};
+ghost use Rattle.nim_worker.specs.Stands.{IsReleased, Stands, done_after, may_run, report_in, reports_in};
 ghost use Rattle.nim_top.specs.Orders.{numbers_of, run_of};
-ghost use Rattle.nim_top.specs.Works.{Answers, AreNext, HasForms, HasGoneOn, HoldsAt, IsAnswered, Rests, Works, WorksAt, value_in};
+ghost use Rattle.nim_top.specs.Works.{Answers, AreNext, HasForms, HasGoneOn, HoldsAt, Rests, Works, WorksAt, value_in};
 
 #[cfg(test)]
 mod tests;
@@ -139,10 +139,7 @@ impl Control {
         ensures position { OnOk result (self.new.position ≡ self.old.position + 1) }
         ensures forms { OnOk result (self.new.forms ≡ self.old.forms) }
     {
-        // A worker that doesn't report the task is taken for one without memory.
-        if self.ask(self.instance, id, kind)?.is_empty() {
-            return Err(NoMemory);
-        }
+        self.ask(self.instance, id, kind)?;
         self.position += 1;
         Ok(())
     }
@@ -208,7 +205,7 @@ impl Control {
         requires rests { Rests self.old.core }
         ensures works { (job : job_type) (slots : slot_type → Content) → IsTrue (is_whole job) → Works job self.old.core slots
             → IsLegalKind job slots kind → IsTrue (may_run kind)
-            → IfOk result (λ outs. IsAnswered kind (reports_in outs.items) → Works job self.new.core (left_by kind slots)) }
+            → OnOk result (Works job self.new.core (left_by kind slots)) }
         ensures answers { (job : job_type) (slots : slot_type → Content) → IsTrue (is_whole job) → Works job self.old.core slots
             → IsLegalKind job slots kind → IsTrue (may_run kind) → IfOk result (λ outs. Answers job slots kind (reports_in outs.items)) }
         ensures rest { self.new ≡ record self.old { core = self.new.core; log = self.new.log } }
@@ -241,10 +238,10 @@ fn value_of(out: Out) -> Result<Value, NoMemory>
     }
 }
 
-// Begins a batch and finishes it: the next command, where one waits.
+// Begins a batch and finishes it: the next command.
 fn perform(core: &mut WorkerCore) -> Result<Vec<Out>, NoMemory>
     requires rests { Rests core.old }
-    ensures { (orders : List order_type) (done : ℕ) → Stands core.old None orders done
+    ensures { (orders : List order_type) (done : ℕ) → Stands core.old None orders done → IsReleased orders done
         → IfOk result (λ outs. HasGoneOn core.new orders done (reports_in outs.items)) }
 {
     let batch = core.begin(1);
