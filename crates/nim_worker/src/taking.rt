@@ -34,38 +34,30 @@ impl Inputs {
 
     /// Takes what a task reads out of its slots.
     pub(crate) fn take(
-        self,
+        &mut self,
         alloc: Global,
         slots: &mut Slots,
         shapes: &[Shape],
         reads: &[Slot],
         writes: &[Slot],
-    ) -> Inputs
-        requires idle { IsIdle self }
+    )
+        requires idle { IsIdle self.old }
         requires reads { length reads.now ≤ 8 }
         requires writes { length writes.now ≤ 2 }
-        ensures { AreInputs shapes.now reads.now writes.now (slot_at slots.old) (slot_at slots.new) result }
+        ensures { AreInputs shapes.now reads.now writes.now (slot_at slots.old) (slot_at slots.new) self.new }
     {
-        let Inputs {
-            mut taken,
-            mut values,
-            mut places,
-            mut contents,
-            shapes: mut fitting,
-        } = self;
         for slot in reads {
-            let (place, content) = take_read(alloc, slots, *slot, &mut taken, &mut values);
-            places.push_reserved(place);
-            contents.push_reserved(content);
+            let (place, content) = take_read(
+                alloc,
+                slots,
+                *slot,
+                &mut self.taken,
+                &mut self.values,
+            );
+            self.places.push_reserved(place);
+            self.contents.push_reserved(content);
         }
-        push_shapes(&mut fitting, shapes, writes);
-        Inputs {
-            taken,
-            values,
-            places,
-            contents,
-            shapes: fitting,
-        }
+        push_shapes(&mut self.shapes, shapes, writes);
     }
 }
 
