@@ -10,4 +10,4 @@ mod tests;
 
 pub use command::{Command, Kind};
 pub use rank::Rank;
-pub use slots::{reads, writes};
+pub use slots::{object_of, reads, writes};

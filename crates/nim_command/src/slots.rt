@@ -1,9 +1,20 @@
 ghost use Rattle.std.specs.Prelude.{◌≡◌, [], ◌∷◌, IfOk};
+ghost use Rattle.nim_command.specs.Slots as spec;
 ghost use Rattle.nim_command.specs.Slots.{reads_of, writes_of};
 
 use crate::{Command, Kind};
-use nim_base::{NoMemory, Slot};
+use nim_base::{NoMemory, Object, Slot};
 use std::alloc::Global;
+
+/// From this many on, slots are scratch slots of the same objects.
+const SLOTS: u16 = 512;
+
+/// The object that a slot is of.
+pub fn object_of(slot: Slot) -> Object
+    ensures { result ≡ spec.object_of slot }
+{
+    Object(slot.0 % SLOTS)
+}
 
 /// The slots that a command reads, in order.
 pub fn reads(alloc: Global, command: &Command) -> Result<Vec<Slot>, NoMemory>

@@ -1,5 +1,5 @@
-use crate::{Command, Kind, reads, writes};
-use nim_base::{Copied, Func, NoMemory, Seq, Shape, Slot, Value, Worker};
+use crate::{Command, Kind, object_of, reads, writes};
+use nim_base::{Copied, Func, NoMemory, Object, Seq, Shape, Slot, Value, Worker};
 use std::alloc::Global;
 use std::test::Fail;
 
@@ -75,6 +75,22 @@ fn names_the_slots_of_each_kind(rt: HostRuntime) -> Result<(), Fail> {
         assert_eq!(rt; command.id, 7);
         assert_eq!(rt; reads(alloc, &command)?.as_slice(), read);
         assert_eq!(rt; writes(alloc, &command)?.as_slice(), written);
+    }
+    Ok(())
+}
+
+/// Slots with the objects that they are of.
+const OBJECTS: &[(Slot, Object)] = &[
+    (Slot(0), Object(0)),
+    (Slot(511), Object(511)),
+    (Slot(512), Object(0)),
+    (Slot(1023), Object(511)),
+];
+
+#[test]
+fn main_and_scratch_slot_are_of_one_object(rt: HostRuntime) -> Result<(), Fail> {
+    for (slot, object) in OBJECTS {
+        assert_eq!(rt; object_of(*slot), *object);
     }
     Ok(())
 }

@@ -25,5 +25,5 @@ pub use job::{Init, Job, Var};
 pub use laws::{machine_follows, versions_are_read};
 pub use objects::shapes;
 pub use stmt::{Arith, Atom, Cmp, Cond, Stmt};
-pub use tasks::block_tasks;
+pub use tasks::{block_tasks, put_in};
 pub use wholeness::is_whole;

@@ -64,8 +64,8 @@ fn task(
     })
 }
 
-/// The parameters with the arguments put in.
-fn put_in(alloc: Global, args: &[i64], params: &[Param]) -> Result<Seq<i64>, NoMemory>
+/// The parameters with the arguments put in. Their meaning is `param_of` of `specs/Tasks.antt`.
+pub fn put_in(alloc: Global, args: &[i64], params: &[Param]) -> Result<Seq<i64>, NoMemory>
     ensures { IfOk result (λ numbers. numbers ≡ map (param_of args.now) params.now) }
 {
     let mut numbers = Seq::new(alloc);

@@ -1,4 +1,4 @@
-use nim_base::{Epoch, Object, Position, Seq, Value, Version};
+use nim_base::{Copied, Epoch, NoMemory, Object, Position, Seq, Value, Version};
 
 /// A report of a worker to the controller.
 #[derive(Debug, Drop)]
@@ -19,4 +19,34 @@ pub enum FromWorker {
     },
     /// Memory was refused: the worker does nothing any more.
     NoMemory,
+}
+
+impl Copied for FromWorker {
+    fn copy(&self) -> Result<FromWorker, NoMemory> {
+        Ok(match self {
+            FromWorker::Value {
+                epoch,
+                ticket,
+                object,
+                version,
+                value,
+            } => FromWorker::Value {
+                epoch: *epoch,
+                ticket: *ticket,
+                object: *object,
+                version: *version,
+                value: value.copy()?,
+            },
+            FromWorker::Ran {
+                epoch,
+                position,
+                reads,
+            } => FromWorker::Ran {
+                epoch: *epoch,
+                position: *position,
+                reads: reads.copy()?,
+            },
+            FromWorker::NoMemory => FromWorker::NoMemory,
+        })
+    }
 }

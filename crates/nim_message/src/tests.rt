@@ -1,5 +1,5 @@
 use crate::{FromWorker, ToWorker};
-use nim_base::{Copied, Seq, Shape, Slot, Worker};
+use nim_base::{Copied, Object, Seq, Shape, Slot, Value, Worker};
 use nim_command::{Command, Kind};
 use std::test::Fail;
 
@@ -58,6 +58,52 @@ fn copies_orders(rt: HostRuntime) -> Result<(), Fail> {
     let ToWorker::Stop = ToWorker::Stop.copy()? else {
         return Err(Fail::from("it is a stop"));
     };
-    let _ = FromWorker::NoMemory;
+    Ok(())
+}
+
+#[test]
+fn copies_reports(rt: HostRuntime) -> Result<(), Fail> {
+    let alloc = rt.alloc();
+    let report = FromWorker::Value {
+        epoch: 2,
+        ticket: 4,
+        object: Object(7),
+        version: 9,
+        value: Value::filled(alloc, Shape { width: 2, rows: 1 }, 5)?,
+    };
+    let FromWorker::Value {
+        epoch,
+        ticket,
+        object,
+        version,
+        value,
+    } = report.copy()?
+    else {
+        return Err(Fail::from("it is a value"));
+    };
+    assert_eq!(rt; epoch, 2);
+    assert_eq!(rt; ticket, 4);
+    assert_eq!(rt; object, Object(7));
+    assert_eq!(rt; version, 9);
+    assert_eq!(rt; value.cells(), [5, 5].as_slice());
+    let report = FromWorker::Ran {
+        epoch: 3,
+        position: 6,
+        reads: Seq::from_vec(Vec::from_slice(alloc, &[(Object(1), 8)])?),
+    };
+    let FromWorker::Ran {
+        epoch,
+        position,
+        reads,
+    } = report.copy()?
+    else {
+        return Err(Fail::from("it ran"));
+    };
+    assert_eq!(rt; epoch, 3);
+    assert_eq!(rt; position, 6);
+    assert_eq!(rt; reads.as_slice(), [(Object(1), 8)].as_slice());
+    let FromWorker::NoMemory = FromWorker::NoMemory.copy()? else {
+        return Err(Fail::from("it is out of memory"));
+    };
     Ok(())
 }

@@ -4,10 +4,7 @@ ghost use Rattle.nim_plan.specs.Origins.{content_from};
 
 use crate::slots::is_among;
 use nim_base::{Object, Position, Slot, Version};
-use nim_command::{Command, Kind};
-
-/// From this many on, slots are scratch slots of the same objects.
-const SLOTS: u16 = 512;
+use nim_command::{Command, Kind, object_of};
 
 /// Where the content of a slot comes from.
 pub(crate) enum Origin {
@@ -29,7 +26,7 @@ pub fn holds(commands: &[Command], before: usize, slot: Slot) -> Option<(Object,
     while at > 0 {
         at -= 1;
         match look_back(&commands[at].kind, current) {
-            Origin::Put(version) => return Some((Object(current.0 % SLOTS), version)),
+            Origin::Put(version) => return Some((object_of(current), version)),
             Origin::Before(earlier) => current = earlier,
         }
     }

@@ -1,29 +1,31 @@
 -- What main slots hold after each order, and that the orders may be given.
-use Rattle.std.proofs.Common.{◌≡◌, ◌≢◌, ℕ, ◌+◌, ◌<◌, ◌≤◌, suc, zero, Bool, true, false, ℤ, List, [], ◌∷◌, ◌++◌, length, get_or, map, replicate, refl, ap, ap₂, sym, subst, ◌∙◌, arith, add-one, Option, None, Some}
-use Rattle.std.specs.Prelude.{◌==◌, ◌%◌, ◌&&◌, ◌||◌, if◌then◌else◌, slice_get, IfSome, IsSomeAnd}
+use Rattle.std.proofs.Common.{◌≡◌, ℕ, ◌+◌, ◌<◌, ◌≤◌, suc, zero, Bool, true, false, ℤ, List, [], ◌∷◌, ◌++◌, length, get_or, map, take, replicate, refl, ap, ap₂, sym, subst, ◌∙◌, arith, add-one, Option, None, Some}
+use Rattle.std.specs.Prelude.{◌==◌, ◌%◌, ◌&&◌, ◌||◌, if◌then◌else◌, slice_get, IsSomeAnd}
 use Rattle.std.specs.List.{list_all, list_any}
 use Rattle.std.specs.Option.{option_map_or}
 use Rattle.std.proofs.lemmas.Bool.{and_parts, both_ways, eqb-false, eqb-true, ltb-true}
 use Rattle.std.proofs.lemmas.Bool.Decides.{nat_tests}
 use Rattle.std.proofs.Math.Path.{fun_ext}
-use Rattle.std.proofs.lemmas.List.{length-append, length-map, length-replicate}
+use Rattle.std.proofs.lemmas.List.{length-append, length-map, length-replicate, map-append, take_more}
 use Rattle.std.proofs.lemmas.List.Sums.{sum_by-cons}
 use Rattle.std.proofs.lemmas.Option.{slice_get-get_or, slice_get_past, slice_get_within}
 use Rattle.nim_base.specs.declared.number.Object.{Object}
 use Rattle.nim_base.specs.declared.number.Shape.{Shape}
 use Rattle.nim_base.specs.declared.number.Slot.{Slot}
 use Rattle.nim_base.specs.declared.task.Task.{Task}
+use Rattle.nim_base.specs.declared.task.TaskForm.{TaskForm}
 use Rattle.nim_base.specs.Value.{Grid, filled}
-use Rattle.nim_command.specs.declared.command.Command.{Command}
 use Rattle.nim_command.specs.Created.{created}
 use Rattle.nim_command.specs.Holds.{Content, content_at, left_by, version_after}
 use Rattle.nim_command.specs.Slots.{is_among, object_of}
+use Rattle.nim_job.specs.declared.block.Block.{Block}
 use Rattle.nim_job.specs.declared.job.Init.{Init}
 use Rattle.nim_job.specs.declared.job.Init.TheVariants.{Fill}
 use Rattle.nim_job.specs.declared.job.Job.{Job}
 use Rattle.nim_job.specs.declared.job.Var.{Var}
 use Rattle.nim_job.specs.Objects.{initial_parts, initial_values, objects_of, shapes_of, value_at}
 use Rattle.nim_job.specs.Serial.{tasks_of}
+use Rattle.nim_job.specs.Tasks.{block_forms_of, block_tasks_of, forms_of, task_of}
 use Rattle.nim_job.specs.Versions.{is_written, read_version, values_after, version_value}
 use Rattle.nim_job.specs.Whole.{has_counts, is_init, is_object, is_task, is_var, is_whole}
 use Rattle.nim_job.proofs.FewTasks.{few_tasks, tasks_fit}
@@ -36,8 +38,8 @@ use Rattle.nim_plan.specs.Legal.{IsLegal, IsLegalKind, IsRunOf}
 use Rattle.nim_worker.specs.declared.worker.Out.{Out}
 use Rattle.nim_worker.specs.declared.worker.WorkerCore.{WorkerCore}
 use Rattle.nim_worker.specs.Stands.{Stands, done_after, report_in, reports_in}
-use Rattle.nim_top.specs.Orders.{create_of, fetch_of, is_silent, main_slot, number_of, numbers_of, reset_of, run_of}
-use Rattle.nim_top.specs.Works.{AreNext, HoldsAt, Works, WorksAt, value_in}
+use Rattle.nim_top.specs.Orders.{create_of, fetch_of, main_slot, number_of, numbers_of, reset_of, run_of}
+use Rattle.nim_top.specs.Works.{AreNext, HoldsAt, forms_in, Works, WorksAt, value_in}
 
 -- a whole job has at most 512 objects, and few steps
 pub objects_few : (job : Job) → is_whole job ≡ true → objects_of job.vars ≤ 512
@@ -88,9 +90,7 @@ begins_held job core order is stands = record {
   slots = λ slot. None;
   works = record {
     orders = reset_of (shapes_of job.vars) ∷ [];
-    done = 0;
     stands = subst (λ (o : ToWorker). Stands core None (o ∷ []) (done_after o 0)) is stands;
-    silent = λ k from. subst (λ (o : Option Command). IfSome o (λ command. is_silent command.kind ≡ true)) (sym (slice_get_past [] k (omega arith))) tt;
     legal = (refl, tt);
     begun = refl;
     epoch = refl;
@@ -205,13 +205,6 @@ pub fetch_held : (job : Job) (old new : WorkerCore) (position : ℕ) (object : O
     → Works job new (left_by (fetch_of object ticket) h.slots) → WorksAt job new position
 fetch_held job old new position object ticket h works = record { slots = h.slots; works = works; held = h.held }
 
--- where something was given something is reported
-pub some_told : (outs : List Out) → (length outs ≡ 0 → ⊥) → reports_in outs ≢ []
-some_told outs some = λ none. some (sym (length-map outs report_in) ∙ ap length none)
-
-pub pushed_told : (rest : List Out) (out : Out) (outs : List Out) → outs ≡ rest ++ out ∷ [] → reports_in outs ≢ []
-pushed_told rest out outs is = some_told outs (λ none. omega (arith, none, ap length is, length-append rest (out ∷ [])))
-
 no_more : (r : FromWorker) (rs : List FromWorker) → r ∷ rs ≡ [] → ⊥
 no_more r rs is = absurd cc
 
@@ -231,9 +224,49 @@ fetched job position object rest out ticket value is has =
     let right : value ≡ version_value job object (read_version job position object) = cc in
     right ∙ sym (reads_versions job position object)
 
+-- the tasks of a block that were made once are those of the block
+made_once : (vars : List Var) (blocks : List Block) (block : ℕ) (other : List TaskForm) → block < length blocks
+    → get_or (map (λ (b : Block). forms_of vars b.stages) blocks) block other ≡ forms_of vars (option_map_or (λ (b : Block). b.stages) (slice_get blocks block) [])
+made_once vars [] block other below = absurd (omega (arith, below))
+made_once vars (b ∷ blocks) zero other below = refl
+made_once vars (b ∷ blocks) (suc block) other below = made_once vars blocks block other (omega (arith, below))
+
+-- one block more is made
+pub forms_more : (vars : List Var) (blocks : List Block) (block : ℕ) → block < length blocks
+    → map (λ (b : Block). forms_of vars b.stages) (take (block + 1) blocks)
+    ≡ map (λ (b : Block). forms_of vars b.stages) (take block blocks) ++ forms_of vars (option_map_or (λ (b : Block). b.stages) (slice_get blocks block) []) ∷ []
+forms_more vars [] block below = absurd (omega (arith, below))
+forms_more vars (b ∷ blocks) block below =
+    let made : Block → List TaskForm = λ (b : Block). forms_of vars b.stages in
+    ap (map made) (take_more (b ∷ blocks) block b below) ∙ map-append made (take block (b ∷ blocks)) (get_or (b ∷ blocks) block b ∷ [])
+    ∙ ap (λ (o : Option Block). map made (take block (b ∷ blocks)) ++ forms_of vars (option_map_or (λ (b : Block). b.stages) o []) ∷ [])
+    (sym (slice_get-get_or (b ∷ blocks) block b below))
+
+task_at : (args : List ℤ) (forms : List TaskForm) (index : ℕ) (form : TaskForm) → slice_get forms index ≡ Some form
+    → slice_get (map (task_of args) forms) index ≡ Some (task_of args form)
+task_at args [] zero form is = absurd cc
+task_at args [] (suc index) form is = absurd cc
+task_at args (f ∷ forms) zero form is = let same : f ≡ form = cc in ap (λ (g : TaskForm). Some (task_of args g)) same
+task_at args (f ∷ forms) (suc index) form is = task_at args forms index form is
+
 -- the next of the tasks that are given is the job's task at the position
-pub next_task : (job : Job) (old position index : ℕ) (given tasks : List Task) (task : Task) → AreNext job old tasks → position ≡ old + index → given ≡ tasks
-    → index < length given → task ≡ get_or given index task → slice_get (tasks_of job) position ≡ Some task
-next_task job old position index given tasks task next at same within is =
-    ap (slice_get (tasks_of job)) at ∙ next index (omega (arith, within, ap length same))
-    ∙ ap (λ (ts : List Task). slice_get ts index) (sym same) ∙ slice_get-get_or given index task within ∙ ap Some (sym is)
+next_task : (job : Job) (old position index : ℕ) (args : List ℤ) (given forms : List TaskForm) (form : TaskForm) → AreNext job old (map (task_of args) forms)
+    → position ≡ old + index → given ≡ forms → index < length given → form ≡ get_or given index form → slice_get (tasks_of job) position ≡ Some (task_of args form)
+next_task job old position index args given forms form next at same within is =
+    ap (slice_get (tasks_of job)) at ∙ next index (omega (arith, within, ap length same, length-map forms (task_of args)))
+    ∙ task_at args forms index form (ap (λ (fs : List TaskForm). slice_get fs index) (sym same) ∙ slice_get-get_or given index form within ∙ ap Some (sym is))
+
+-- the tasks of one block among those of all
+pub block_given : (job : Job) (block place : ℕ) (made : List (List TaskForm)) (given : List TaskForm) → block < length job.blocks → place ≡ block → made ≡ forms_in job
+    → given ≡ get_or made place given → given ≡ block_forms_of job block
+block_given job block place made given below same are is =
+    is ∙ ap₂ (λ (forms : List (List TaskForm)) (k : ℕ). get_or forms k given) are same ∙ made_once job.vars job.blocks block given below
+
+-- the same for a task that is found among those that were made once
+pub form_there : (job : Job) (old position index block place count : ℕ) (args : List ℤ) (made now : List (List TaskForm)) (first given : List TaskForm) (form : TaskForm)
+    → block < length job.blocks → place ≡ block → made ≡ forms_in job → now ≡ made → first ≡ get_or made place first → count ≡ length first → given ≡ get_or now place given
+    → index < count → form ≡ get_or given index form → AreNext job old (block_tasks_of job block args) → position ≡ old + index → slice_get (tasks_of job) position ≡ Some (task_of args form)
+form_there job old position index block place count args made now first given form below same are still begins counted goes within is next at =
+    let firsts = block_given job block place made first below same are begins in
+    let givens = block_given job block place now given below same (still ∙ are) goes in
+    next_task job old position index args given (block_forms_of job block) form next at givens (omega (arith, within, counted, ap length firsts, ap length givens)) is

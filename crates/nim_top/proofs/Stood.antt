@@ -1,10 +1,11 @@
 -- Each turn of a run keeps that the machine and the worker stand at a state of the job.
-use Rattle.std.proofs.Common.{◌≡◌, ℕ, ◌+◌, ◌<◌, zero, suc, true, ℤ, None, Some, List, [], ◌∷◌, ◌++◌, length, take, refl, sym, ap, ap₂, subst, ◌∙◌, inl, inr, arith, add-one}
+use Rattle.std.proofs.Common.{◌≡◌, ℕ, ◌+◌, ◌<◌, zero, suc, true, ℤ, Vec, Global, None, Some, List, [], ◌∷◌, ◌++◌, length, take, refl, sym, ap, ap₂, subst, ◌∙◌, inl, inr, arith, add-one}
 use Rattle.std.specs.Prelude.{nat_le, slice_get}
 use Rattle.std.proofs.lemmas.Bool.{both_ways, cond-true, cond-false}
 use Rattle.std.proofs.lemmas.Bool.Decides.{leb_tells}
 use Rattle.std.proofs.lemmas.List.{length-append}
 use Rattle.nim_base.specs.declared.task.Task.{Task}
+use Rattle.nim_base.specs.declared.task.TaskForm.{TaskForm}
 use Rattle.nim_base.specs.Value.{Grid}
 use Rattle.nim_job.specs.declared.ask.Ask.{Ask}
 use Rattle.nim_job.specs.declared.ask.Asked.{Asked}
@@ -20,7 +21,7 @@ use Rattle.nim_job.proofs.Follows.{answer_follows, append_follows, finished_ends
 use Rattle.nim_job.proofs.Versions.{keeps_versions, moved, step_moves, tasks_first}
 use Rattle.nim_top.specs.declared.control.Control.{Control}
 use Rattle.nim_top.specs.Runs.{Stands, StandsAt}
-use Rattle.nim_top.specs.Works.{AreNext, WorksAt}
+use Rattle.nim_top.specs.Works.{AreNext, HasForms, WorksAt}
 use Rattle.nim_top.proofs.Next.{asking_prints_nothing, finished_open, goes_on, items_allowed, items_quiet, items_var, passes}
 
 -- the state of a job after as many steps as are counted
@@ -69,11 +70,15 @@ run_next job m control block args stands is =
     subst (λ (ts : List Task). AreNext job control.position ts) tasks
     (subst (λ (p : ℕ). AreNext job p (tasks_next job (state_of job m))) (sym at.position) (next_there job m.driver.count (omega (arith, passed.1.room, steps))))
 
+-- a controller goes on with the same blocks
+kept_forms : (job : Job) (control later : Control) → HasForms job control → later.forms ≡ control.forms → HasForms job later
+kept_forms job control later forms made = ap (λ (fs : Vec (List TaskForm) Global). fs.items) made ∙ forms
+
 -- a block's tasks were run and its ask answered
 pub run_goes : (job : Job) (m next : Machine) (control later : Control) (block : ℕ) (args : List ℤ) → Stands job m control → ask_of m ≡ Ask.Run block args
-    → (after_ask m).asked ≡ Some Asked.Run → WorksAt job later.core later.position → later.position ≡ control.position + length (block_tasks_of job block args) → next ≡ answered (after_ask m)
-    → Stands job next later
-run_goes job m next control later block args stands is asked works moves same =
+    → (after_ask m).asked ≡ Some Asked.Run → WorksAt job later.core later.position → later.position ≡ control.position + length (block_tasks_of job block args)
+    → later.forms ≡ control.forms → next ≡ answered (after_ask m) → Stands job next later
+run_goes job m next control later block args stands is asked works moves made same =
     let passed = passes m (ap goes_on is) in
     let at = stands.at passed.0 in
     let cell : takes_cell (after_ask (machine_at job (state_of job m))).asked ≡ true =
@@ -86,6 +91,7 @@ run_goes job m next control later block args stands is asked works moves same =
     record {
       answered = ap (λ (k : Machine). k.asked) same;
       works = works;
+      forms = kept_forms job control later stands.forms made;
       at = λ _. record {
         machine = stepped ∙ ap (machine_at job) (sym more);
         position = moves ∙ ap₂ (λ (p : ℕ) (ts : List Task). p + length ts) at.position (sym tasks) ∙ sym (step_moves job (state_of job m)).1 ∙ ap (λ (s : State). s.position) (sym more);
@@ -95,9 +101,9 @@ run_goes job m next control later block args stands is asked works moves same =
 
 -- the texts of a variable were appended
 pub output_goes : (job : Job) (m next : Machine) (control later : Control) (var : ℕ) (text : List ℕ) → Stands job m control → ask_of m ≡ Ask.Output var
-    → text ≡ output_of job.vars (values_after job control.position) var → WorksAt job later.core later.position → later.position ≡ control.position → next ≡ appended (after_ask m) text
-    → Stands job next later
-output_goes job m next control later var text stands is printed works stays same =
+    → text ≡ output_of job.vars (values_after job control.position) var → WorksAt job later.core later.position → later.position ≡ control.position
+    → later.forms ≡ control.forms → next ≡ appended (after_ask m) text → Stands job next later
+output_goes job m next control later var text stands is printed works stays made same =
     let passed = passes m (ap goes_on is) in
     let at = stands.at passed.0 in
     let state = state_of job m in
@@ -123,6 +129,7 @@ output_goes job m next control later var text stands is printed works stays same
           record {
             answered = ap (λ (k : Machine). k.asked) stepped;
             works = works;
+            forms = kept_forms job control later stands.forms made;
             at = λ _. record {
               machine = stepped ∙ ap (machine_at job) (sym more);
               position = stays ∙ at.position ∙ sym rests ∙ ap (λ (s : State). s.position) (sym more);
@@ -136,6 +143,7 @@ output_goes job m next control later var text stands is printed works stays same
           record {
             answered = ap (λ (k : Machine). k.asked) shut;
             works = works;
+            forms = kept_forms job control later stands.forms made;
             at = λ open_end. absurd (both_ways next.full open_end (ap (λ (k : Machine). k.full) shut));
             full = λ _. full_ends job (m.driver.count + 1) (omega (arith, passed.1.room, steps))
                 (omega (arith, past.1, longer, length-append state.driver.output (output_of job.vars state.values var), length_text, length_before));
@@ -170,13 +178,15 @@ unfolding driver_at
 first_position job = refl
 
 -- a run begins at the state before any step
-pub begins_stood : (job : Job) (m : Machine) (control : Control) → m ≡ start_machine job → WorksAt job control.core 0 → control.position ≡ 0 → Stands job m control
-begins_stood job m control new works none_yet =
+pub begins_stood : (job : Job) (m : Machine) (control : Control) → m ≡ start_machine job → WorksAt job control.core 0 → control.position ≡ 0 → HasForms job control
+    → Stands job m control
+begins_stood job m control new works none_yet forms =
     let none : m.driver.count ≡ 0 = ap (λ (k : Machine). k.driver.count) new in
     let first : driver_at job m.driver.count ≡ driver_at job 0 = ap (driver_at job) none in
     record {
       answered = ap (λ (k : Machine). k.asked) new;
       works = subst (WorksAt job control.core) (sym none_yet) works;
+      forms = forms;
       at = λ _. record {
         machine = new ∙ starts job ∙ ap (machine_at job) (sym first);
         position = none_yet ∙ sym (first_position job) ∙ ap (λ (s : State). s.position) (sym first);

@@ -1,5 +1,5 @@
 -- The orders that the controller gives to its worker, and the slots that they name.
-use Rattle.std.specs.Prelude.{ℕ, ℤ, pos, Bool, true, false, List, [], ◌∷◌, map, replicate}
+use Rattle.std.specs.Prelude.{ℕ, ℤ, pos, false, List, [], ◌∷◌, map, replicate}
 use Rattle.std.specs.List.{flat_map}
 use Rattle.nim_base.specs.declared.number.Object.{Object}
 use Rattle.nim_base.specs.declared.number.Shape.{Shape}
@@ -42,9 +42,3 @@ number_of _ = pos 0
 -- the same of each object
 abbrev pub numbers_of : List Var → List ℤ
 numbers_of vars = flat_map (λ v. replicate v.parts (number_of v.init)) vars
-
--- whether a command is one that reports nothing
-abbrev pub is_silent : Kind → Bool
-is_silent (Run position func params reads writes) = false
-is_silent (Fetch slot ticket) = false
-is_silent _ = true

@@ -1,10 +1,10 @@
 -- What stays true of the one worker while orders are given to it.
-use Rattle.std.specs.Prelude.{◌≡◌, ◌≢◌, ℕ, ◌+◌, ◌<◌, ◌≤◌, ◌⊎◌, true, Option, None, Some, List, [], ◌∷◌, ◌++◌, length, IfSome, slice_get}
+use Rattle.std.specs.Prelude.{◌≡◌, ℕ, ◌+◌, ◌<◌, true, Option, None, Some, List, [], ◌∷◌, ◌++◌, length, map, slice_get}
 use Rattle.nim_base.specs.declared.number.Object.{Object}
 use Rattle.nim_base.specs.declared.number.Slot.{Slot}
 use Rattle.nim_base.specs.declared.task.Task.{Task}
+use Rattle.nim_base.specs.declared.task.TaskForm.{TaskForm}
 use Rattle.nim_base.specs.Value.{Grid}
-use Rattle.nim_command.specs.declared.command.Command.{Command}
 use Rattle.nim_command.specs.declared.command.Kind.{Kind}
 use Rattle.nim_command.specs.declared.command.Kind.TheVariants.{Fetch}
 use Rattle.nim_command.specs.Holds.{Content, holds}
@@ -12,14 +12,17 @@ use Rattle.nim_message.specs.declared.order.ToWorker.{ToWorker}
 use Rattle.nim_message.specs.declared.report.FromWorker.{FromWorker}
 use Rattle.nim_message.specs.declared.report.FromWorker.TheVariants.{Value}
 use Rattle.nim_message.specs.Orders.{session_of}
+use Rattle.nim_job.specs.declared.block.Block.{Block}
 use Rattle.nim_job.specs.declared.job.Job.{Job}
 use Rattle.nim_job.specs.Objects.{objects_of}
 use Rattle.nim_job.specs.Serial.{tasks_of}
+use Rattle.nim_job.specs.Tasks.{forms_of}
 use Rattle.nim_job.specs.Versions.{read_version, version_value}
 use Rattle.nim_plan.specs.Legal.{IsLegal}
 use Rattle.nim_worker.specs.declared.worker.WorkerCore.{WorkerCore}
 use Rattle.nim_worker.specs.Stands.{Stands, asked_for, reported}
-use Rattle.nim_top.specs.Orders.{is_silent, main_slot}
+use Rattle.nim_top.specs.declared.control.Control.{Control}
+use Rattle.nim_top.specs.Orders.{main_slot}
 
 -- no batch is out
 pub record Rests (core : WorkerCore) : Type 0 where
@@ -27,24 +30,15 @@ pub record Rests (core : WorkerCore) : Type 0 where
   pub done : ℕ
   pub stands : Stands core None orders done
 
--- At most one more command is complete, and this is what it reports.
+-- One more command is complete, and this is what it reports.
 pub record HasGoneOn (core : WorkerCore) (orders : List ToWorker) (done : ℕ) (reports : List FromWorker) : Type 0 where
-  pub more : ℕ
-  pub few : more ≤ 1
-  pub stands : Stands core None orders (done + more)
-  pub told : reported orders (done + more) ≡ reported orders done ++ reports
+  pub stands : Stands core None orders (done + 1)
+  pub told : reported orders (done + 1) ≡ reported orders done ++ reports
 
--- the commands from a place on report nothing
-abbrev pub AreSilent : List Command → ℕ → Type 0
-AreSilent commands done = (k : ℕ) → done ≤ k → IfSome (slice_get commands k) (λ command. is_silent command.kind ≡ true)
-
--- The worker was given legal orders of epoch 0, after which its slots hold this. Commands that aren't complete report
--- nothing.
+-- The worker was given legal orders of epoch 0, whose commands are all complete, after which its slots hold this.
 pub record Works (job : Job) (core : WorkerCore) (slots : Slot → Content) : Type 0 where
   pub orders : List ToWorker
-  pub done : ℕ
-  pub stands : Stands core None orders done
-  pub silent : AreSilent (asked_for orders) done
+  pub stands : Stands core None orders (length (asked_for orders))
   pub legal : IsLegal job orders
   pub begun : (session_of orders).begun ≡ true
   pub epoch : (session_of orders).epoch ≡ 0
@@ -60,13 +54,9 @@ pub record HoldsAt (job : Job) (core : WorkerCore) (objects position : ℕ) : Ty
 abbrev pub WorksAt : Job → WorkerCore → ℕ → Type 0
 WorksAt job core position = HoldsAt job core (objects_of job.vars) position
 
--- a command that reports has reported
-abbrev pub IsAnswered : Kind → List FromWorker → Type 0
-IsAnswered kind reports = (is_silent kind ≡ true) ⊎ (reports ≢ [])
-
 -- What is reported of a Fetch is what the slot holds, with the value of that version.
 abbrev pub Answers : Job → (Slot → Content) → Kind → List FromWorker → Type 0
-Answers job slots (Fetch slot ticket) reports = (object : Object) (version : ℕ) → slots slot ≡ Some (object, version) → reports ≢ []
+Answers job slots (Fetch slot ticket) reports = (object : Object) (version : ℕ) → slots slot ≡ Some (object, version)
     → reports ≡ Value 0 ticket object version (version_value job object version) ∷ []
 Answers job slots kind reports = Unit {0}
 
@@ -78,3 +68,11 @@ value_in _ = None
 -- these are the tasks of a job from a position on
 abbrev pub AreNext : Job → ℕ → List Task → Type 0
 AreNext job position tasks = (k : ℕ) → k < length tasks → slice_get (tasks_of job) (position + k) ≡ slice_get tasks k
+
+-- the tasks of each block of a job in order, their arguments not yet put in
+abbrev pub forms_in : Job → List (List TaskForm)
+forms_in job = map (λ (block : Block). forms_of job.vars block.stages) job.blocks
+
+-- A controller gives the tasks of this job's blocks.
+abbrev pub HasForms : Job → Control → Type 0
+HasForms job control = control.forms.items ≡ forms_in job

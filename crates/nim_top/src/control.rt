@@ -1,5 +1,6 @@
 ghost use Rattle.std.specs.Prelude.{◌≡◌, ◌+◌, ◌^◌, ◌<◌, ◌++◌, ◌∷◌, ℕ, List, [], None, Some, length, slice_get, IfOk, IsTrue, OnOk};
 ghost use Rattle.nim_base.specs.declared.number.Slot.{Slot as slot_type};
+ghost use Rattle.nim_base.specs.declared.task.Task.{Task as task_type};
 ghost use Rattle.nim_command.specs.Holds.{Content, left_by};
 ghost use Rattle.nim_job.specs.declared.job.Job.{Job as job_type};
 ghost use Rattle.nim_job.specs.Objects.{objects_of, parts_at, value_at};
@@ -10,19 +11,20 @@ ghost use Rattle.nim_job.specs.Versions.{values_after};
 ghost use Rattle.nim_job.specs.Whole.{is_whole};
 ghost use Rattle.nim_message.specs.declared.order.ToWorker.{ToWorker as order_type};
 ghost use Rattle.nim_plan.specs.Legal.{IsLegalKind};
-ghost use Rattle.nim_worker.specs.Stands.{Stands, done_after, may_run, report_in, reports_in};
-ghost use Rattle.nim_top.specs.Orders.{numbers_of};
-ghost use Rattle.nim_top.specs.Works.{Answers, AreNext, HasGoneOn, HoldsAt, IsAnswered, Rests, Works, WorksAt, value_in};
+ghost use Rattle.nim_worker.specs.Stands.{IsReleased, Stands, done_after, may_run, report_in, reports_in};
+ghost use Rattle.nim_top.specs.Orders.{numbers_of, run_of};
+ghost use Rattle.nim_top.specs.Works.{Answers, AreNext, HasForms, HasGoneOn, HoldsAt, Rests, Works, WorksAt, value_in};
 
 #[cfg(test)]
 mod tests;
 
+use crate::blocks::all_forms;
 use crate::log::Log;
 use crate::orders::{create, fetch, reset, run, single};
 use crate::values::{first_object, numbers, texts};
-use nim_base::{Instance, NoMemory, Object, Position, Task, Value, Worker};
+use nim_base::{Instance, NoMemory, Object, Position, Seq, TaskForm, Value, Worker};
 use nim_command::Kind;
-use nim_job::{Job, block_tasks, shapes};
+use nim_job::{Job, shapes};
 use nim_message::{FromWorker, ToWorker};
 use nim_worker::{Out, WorkerCore};
 use std::alloc::Global;
@@ -36,6 +38,8 @@ const NO_INSTANCE: Instance = u32::MAX;
 pub struct Control {
     alloc: Global,
     core: WorkerCore,
+    /// The tasks of each block, their arguments not yet put in: a `do` makes none of them anew.
+    forms: Vec<Seq<TaskForm>>,
     /// How many tasks were given.
     position: Position,
     /// How many `do`s were given.
@@ -51,10 +55,12 @@ impl Control {
         requires whole { IsTrue (is_whole job.now) }
         ensures works { IfOk result (λ control. WorksAt job.now control.core 0) }
         ensures position { IfOk result (λ control. control.position ≡ 0) }
+        ensures forms { IfOk result (λ control. HasForms job.now control) }
     {
         let mut control = Control {
             alloc,
             core: WorkerCore::new(alloc, Worker(0)),
+            forms: all_forms(alloc, job)?,
             position: 0,
             instance: 0,
             ticket: 0,
@@ -77,6 +83,7 @@ impl Control {
         requires works { HoldsAt job.now self.old.core 0 0 }
         ensures works { OnOk result (WorksAt job.now self.new.core 0) }
         ensures position { OnOk result (self.new.position ≡ self.old.position) }
+        ensures forms { OnOk result (self.new.forms ≡ self.old.forms) }
     {
         let numbers = numbers(self.alloc, job.vars.as_slice())?;
         let numbers = numbers.as_slice();
@@ -92,6 +99,7 @@ impl Control {
         ensures works { (job : job_type) → IsTrue (is_whole job) → HoldsAt job self.old.core object.0 0
             → slice_get (numbers_of job.vars) object.0 ≡ Some number → OnOk result (HoldsAt job self.new.core (object.0 + 1) 0) }
         ensures position { OnOk result (self.new.position ≡ self.old.position) }
+        ensures forms { OnOk result (self.new.forms ≡ self.old.forms) }
     {
         self.ask(NO_INSTANCE, 0, create(object, number))?;
         Ok(())
@@ -104,32 +112,34 @@ impl Control {
         requires args { length args.now ≡ takes_of job.now block }
         requires works { WorksAt job.now self.old.core self.old.position }
         requires next { AreNext job.now self.old.position (block_tasks_of job.now block args.now) }
+        requires forms { HasForms job.now self.old }
         ensures works { OnOk result (WorksAt job.now self.new.core self.new.position) }
         ensures position { OnOk result (self.new.position ≡ self.old.position + length (block_tasks_of job.now block args.now)) }
+        ensures forms { OnOk result (self.new.forms ≡ self.old.forms) }
     {
+        let block = usize::from(block);
         let mut id = 32u32;
-        let tasks = block_tasks(self.alloc, job, block, args)?;
-        for task in &tasks {
-            self.run_task(id, task)?;
+        for at in 0..self.forms[block].len() {
+            let form = &self.forms[block].as_slice()[at];
+            let kind = run(self.alloc, self.position, form, args)?;
+            self.run_task(id, kind)?;
             id = id.saturating_add(64);
         }
         self.instance = self.instance.saturating_add(1);
         Ok(())
     }
 
-    // Runs the next task of the job.
-    fn run_task(&mut self, id: u32, task: &Task) -> Result<(), NoMemory>
+    // Has the next task of the job run, which this command is of.
+    fn run_task(&mut self, id: u32, kind: Kind) -> Result<(), NoMemory>
         requires rests { Rests self.old.core }
         requires room { self.old.position + 1 < 2 ^ 64 }
-        ensures works { (job : job_type) → IsTrue (is_whole job) → WorksAt job self.old.core self.old.position
-            → slice_get (tasks_of job) self.old.position ≡ Some task.now → OnOk result (WorksAt job self.new.core (self.old.position + 1)) }
+        ensures works { (job : job_type) (task : task_type) → IsTrue (is_whole job) → WorksAt job self.old.core self.old.position
+            → slice_get (tasks_of job) self.old.position ≡ Some task → kind ≡ run_of self.old.position task
+            → OnOk result (WorksAt job self.new.core (self.old.position + 1)) }
         ensures position { OnOk result (self.new.position ≡ self.old.position + 1) }
+        ensures forms { OnOk result (self.new.forms ≡ self.old.forms) }
     {
-        let kind = run(self.alloc, self.position, task)?;
-        // A worker that doesn't report the task is taken for one without memory.
-        if self.ask(self.instance, id, kind)?.is_empty() {
-            return Err(NoMemory);
-        }
+        self.ask(self.instance, id, kind)?;
         self.position += 1;
         Ok(())
     }
@@ -141,6 +151,7 @@ impl Control {
         requires works { WorksAt job.now self.old.core self.old.position }
         ensures works { OnOk result (WorksAt job.now self.new.core self.old.position) }
         ensures position { OnOk result (self.new.position ≡ self.old.position) }
+        ensures forms { OnOk result (self.new.forms ≡ self.old.forms) }
         ensures text { IfOk result (λ text. text.items ≡ output_of job.now.vars (values_after job.now self.old.position) var) }
     {
         let values = self.parts(job, var)?;
@@ -155,6 +166,7 @@ impl Control {
         requires works { WorksAt job.now self.old.core self.old.position }
         ensures works { OnOk result (WorksAt job.now self.new.core self.old.position) }
         ensures position { OnOk result (self.new.position ≡ self.old.position) }
+        ensures forms { OnOk result (self.new.forms ≡ self.old.forms) }
         ensures values { IfOk result (λ values. values.items ≡ parts_at job.now.vars (values_after job.now self.old.position) var) }
     {
         let vars = job.vars.as_slice();
@@ -177,6 +189,7 @@ impl Control {
         ensures value { (job : job_type) (position : ℕ) → IsTrue (is_whole job) → WorksAt job self.old.core position
             → object.0 < objects_of job.vars → IfOk result (λ value. value ≡ value_at (values_after job position) object) }
         ensures position { OnOk result (self.new.position ≡ self.old.position) }
+        ensures forms { OnOk result (self.new.forms ≡ self.old.forms) }
     {
         let ticket = self.ticket;
         self.ticket = ticket.saturating_add(1);
@@ -192,7 +205,7 @@ impl Control {
         requires rests { Rests self.old.core }
         ensures works { (job : job_type) (slots : slot_type → Content) → IsTrue (is_whole job) → Works job self.old.core slots
             → IsLegalKind job slots kind → IsTrue (may_run kind)
-            → IfOk result (λ outs. IsAnswered kind (reports_in outs.items) → Works job self.new.core (left_by kind slots)) }
+            → OnOk result (Works job self.new.core (left_by kind slots)) }
         ensures answers { (job : job_type) (slots : slot_type → Content) → IsTrue (is_whole job) → Works job self.old.core slots
             → IsLegalKind job slots kind → IsTrue (may_run kind) → IfOk result (λ outs. Answers job slots kind (reports_in outs.items)) }
         ensures rest { self.new ≡ record self.old { core = self.new.core; log = self.new.log } }
@@ -225,10 +238,10 @@ fn value_of(out: Out) -> Result<Value, NoMemory>
     }
 }
 
-// Begins a batch and finishes it: the next command, where one waits.
+// Begins a batch and finishes it: the next command.
 fn perform(core: &mut WorkerCore) -> Result<Vec<Out>, NoMemory>
     requires rests { Rests core.old }
-    ensures { (orders : List order_type) (done : ℕ) → Stands core.old None orders done
+    ensures { (orders : List order_type) (done : ℕ) → Stands core.old None orders done → IsReleased orders done
         → IfOk result (λ outs. HasGoneOn core.new orders done (reports_in outs.items)) }
 {
     let batch = core.begin(1);

@@ -1,6 +1,7 @@
 //! The top calls: words and files in, bytes and a status out.
 #![tactic(auto)]
 
+mod blocks;
 mod control;
 mod first_path;
 mod log;

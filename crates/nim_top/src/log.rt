@@ -1,4 +1,4 @@
-ghost use Rattle.std.specs.Prelude.{◌≡◌, ◌++◌, ◌∷◌, [], IfOk, OnOk};
+ghost use Rattle.std.specs.Prelude.{◌≡◌, ◌++◌, ◌∷◌, [], OnOk};
 ghost use Rattle.nim_worker.specs.Stands.{reports_in};
 
 use nim_base::{Copied, NoMemory};
@@ -37,38 +37,8 @@ impl Log {
     {
         for out in outs {
             let Out::Report(report) = out;
-            self.reports.push(copy_report(report)?)?;
+            self.reports.push(report.copy()?)?;
         }
         Ok(())
     }
-}
-
-fn copy_report(report: &FromWorker) -> Result<FromWorker, NoMemory>
-    ensures { IfOk result (λ other. other ≡ report.now) }
-{
-    Ok(match report {
-        FromWorker::Value {
-            epoch,
-            ticket,
-            object,
-            version,
-            value,
-        } => FromWorker::Value {
-            epoch: *epoch,
-            ticket: *ticket,
-            object: *object,
-            version: *version,
-            value: value.copy()?,
-        },
-        FromWorker::Ran {
-            epoch,
-            position,
-            reads,
-        } => FromWorker::Ran {
-            epoch: *epoch,
-            position: *position,
-            reads: reads.copy()?,
-        },
-        FromWorker::NoMemory => FromWorker::NoMemory,
-    })
 }

@@ -1,8 +1,10 @@
 ghost use Rattle.std.specs.Prelude.{◌≡◌, map, IfOk};
+ghost use Rattle.nim_job.specs.Tasks.{task_of};
 ghost use Rattle.nim_top.specs.Orders as spec;
 
-use nim_base::{Copied, Instance, NoMemory, Object, Position, Seq, Shape, Slot, Task, Worker};
+use nim_base::{Instance, NoMemory, Object, Position, Seq, Shape, Slot, TaskForm, Worker};
 use nim_command::{Command, Kind};
+use nim_job::put_in;
 use nim_message::ToWorker;
 use std::alloc::Global;
 
@@ -64,16 +66,21 @@ pub fn create(object: Object, number: i64) -> Kind
     }
 }
 
-/// Runs a task over main slots.
-pub fn run(alloc: Global, position: Position, task: &Task) -> Result<Kind, NoMemory>
-    ensures { IfOk result (λ kind. kind ≡ spec.run_of position task.now) }
+/// Runs a task over main slots, the arguments put in.
+pub fn run(
+    alloc: Global,
+    position: Position,
+    form: &TaskForm,
+    args: &[i64],
+) -> Result<Kind, NoMemory>
+    ensures { IfOk result (λ kind. kind ≡ spec.run_of position (task_of args.now form.now)) }
 {
     Ok(Kind::Run {
         position,
-        func: task.func,
-        params: task.params.copy()?,
-        reads: main_slots(alloc, task.reads.as_slice())?,
-        writes: main_slots(alloc, task.writes.as_slice())?,
+        func: form.func,
+        params: put_in(alloc, args, form.params.as_slice())?,
+        reads: main_slots(alloc, form.reads.as_slice())?,
+        writes: main_slots(alloc, form.writes.as_slice())?,
     })
 }
 

@@ -2,7 +2,7 @@ ghost use Rattle.std.specs.Prelude.{◌≡◌, ◌+◌, [], length, IfOk, IfSome
 ghost use Rattle.nim_job.specs.Serial.{serial_of};
 ghost use Rattle.nim_job.specs.Whole.{is_whole};
 ghost use Rattle.nim_top.specs.Runs.{Stands};
-ghost use Rattle.nim_top.specs.Works.{WorksAt};
+ghost use Rattle.nim_top.specs.Works.{HasForms, WorksAt};
 ghost use Rattle.nim_top.specs.declared.run.Progress.{Progress};
 
 use crate::control::Control;
@@ -38,6 +38,7 @@ pub fn drive(
     requires whole { IsTrue (is_whole job.now) }
     requires works { WorksAt job.now control.old.core 0 }
     requires position { control.old.position ≡ 0 }
+    requires forms { HasForms job.now control.old }
     ensures output { IfOk result (λ end. IfSome end (λ m. serial_of job.now ≡ record { status = 0; bytes = m.driver.output })) }
     ensures limit { IfOk result (λ end. IfNone end (serial_of job.now ≡ record { status = 4; bytes = [] })) }
 {

@@ -2,7 +2,7 @@ use crate::first_path::read_driver;
 use crate::{Status, top_replay};
 use nim_base::{Func, Object, Param, Value};
 use nim_io::{FileFail, MemFiles, MemSink};
-use nim_job::{block_forms, is_whole, machine_follows, versions_are_read};
+use nim_job::{block_forms, block_tasks, is_whole, machine_follows, versions_are_read};
 use std::alloc::{AllocError, Global};
 use std::test::Fail;
 
@@ -123,6 +123,9 @@ fn a_block_has_a_form_for_each_part(rt: HostRuntime) -> Result<(), Fail> {
             "{part}"
         );
     }
+    let tasks = block_tasks(alloc, &job, 0, &[])?;
+    assert_eq!(rt; tasks.len(), 2);
+    assert_eq!(rt; tasks[1].params.as_slice(), [4].as_slice());
     Ok(())
 }
 

@@ -1,8 +1,8 @@
 -- What one slot and the others have once something is put.
-use Rattle.std.proofs.Common.{◌≡◌, ◌<◌, ◌≤◌, ◌++◌, ◌∷◌, [], ℕ, zero, suc, Bool, true, false, List, Option, None, length, get_or, refl, ap, sym, ◌∙◌}
+use Rattle.std.proofs.Common.{◌≡◌, ◌<◌, ◌++◌, ◌∷◌, [], ℕ, zero, suc, Bool, true, false, List, Option, None, length, get_or, refl, ap, sym, ◌∙◌}
 use Rattle.std.proofs.Math.Path.{fun_ext}
 use Rattle.std.proofs.lemmas.Bool.{eqb-false, eqb-true}
-use Rattle.std.proofs.lemmas.List.{get_or_past, get_or-set_other, get_or-set_same}
+use Rattle.std.proofs.lemmas.List.{get_or-set_other, get_or-set_same}
 use Rattle.std.specs.Prelude.{◌==◌, if◌then◌else◌, slice_set}
 use Rattle.nim_base.specs.declared.number.Slot.{Slot}
 use Rattle.nim_command.specs.Holds.{put_at}
@@ -49,9 +49,3 @@ set_put xs slot held within = fun_ext (λ (s : Slot). either s (s.0 == slot.0) r
   either : (s : Slot) (b : Bool) → (s.0 == slot.0) ≡ b → get_or (slice_set xs slot.0 held) s.0 None ≡ (if b then held else get_or xs s.0 None)
   either s true same = ap (λ (n : ℕ). get_or (slice_set xs slot.0 held) n None) (eqb-true s.0 slot.0 same) ∙ get_or-set_same xs slot.0 held None within
   either s false other = get_or-set_other xs slot.0 s.0 held None (eqb-false s.0 slot.0 other)
-
--- a slot past the end is empty
-pub past_put : {X : Type 0} (xs : List (Option X)) (slot : Slot) → length xs ≤ slot.0
-    → numbered xs ≡ put_at slot None (numbered xs)
-past_put xs slot past =
-    sym (put_same slot (numbered xs)) ∙ ap (λ h. put_at slot h (numbered xs)) (get_or_past xs slot.0 None past)

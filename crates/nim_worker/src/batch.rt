@@ -81,14 +81,14 @@ impl Work {
     pub(crate) fn new(
         alloc: Global,
         command: Command,
-        inputs: Inputs,
+        mut inputs: Inputs,
         slots: &mut Slots,
         shapes: &[Shape],
     ) -> Work
         requires { IsIdle inputs }
         ensures { IsWork shapes.now (slot_at slots.old) (slot_at slots.new) command result }
     {
-        let inputs = match &command.kind {
+        match &command.kind {
             Kind::Run {
                 func,
                 params,
@@ -96,10 +96,10 @@ impl Work {
                 writes,
                 ..
             } if func.has_counts(params.len(), reads.len(), writes.len()) => {
-                inputs.take(alloc, slots, shapes, reads.as_slice(), writes.as_slice())
+                inputs.take(alloc, slots, shapes, reads.as_slice(), writes.as_slice());
             }
-            _ => inputs,
-        };
+            _ => {}
+        }
         Work {
             alloc,
             command,

@@ -34,46 +34,33 @@ pub(crate) fn complete(
     ensures idle { IfOk result (λ completed. IsIdle completed.1) }
 {
     work.perform()?;
+    let contents = Vec::from_slice(alloc, work.inputs.contents.as_slice())?;
+    work.inputs.give_back(slots)?;
     let Work {
         command,
         inputs,
         results,
         ..
     } = work;
-    let contents = Vec::from_slice(alloc, inputs.contents.as_slice())?;
-    let inputs = inputs.give_back(slots)?;
     let report = leave(alloc, epoch, shapes, slots, command.kind, contents, results)?;
     Ok((report, inputs))
 }
 
 impl Inputs {
     // Gives what was taken back to its slots.
-    fn give_back(self, slots: &mut Slots) -> Result<Inputs, NoMemory>
-        ensures slots { OnOk result (slot_at slots.new ≡ given_back self.taken.items self.values.items (slot_at slots.old)) }
-        ensures idle { IfOk result IsIdle }
+    fn give_back(&mut self, slots: &mut Slots) -> Result<(), NoMemory>
+        ensures slots { OnOk result (slot_at slots.new ≡ given_back self.old.taken.items self.old.values.items (slot_at slots.old)) }
+        ensures idle { OnOk result (IsIdle self.new) }
     {
-        let Inputs {
-            mut taken,
-            mut values,
-            mut places,
-            mut contents,
-            mut shapes,
-        } = self;
-        while let Some(value) = values.pop() {
-            if let Some(from) = taken.pop() {
+        self.places.clear();
+        self.contents.clear();
+        self.shapes.clear();
+        while let Some(value) = self.values.pop() {
+            if let Some(from) = self.taken.pop() {
                 slots.set(from.slot, held_of(from, value))?;
             }
         }
-        places.clear();
-        contents.clear();
-        shapes.clear();
-        Ok(Inputs {
-            taken,
-            values,
-            places,
-            contents,
-            shapes,
-        })
+        Ok(())
     }
 }
 

@@ -10,9 +10,9 @@ ghost use Rattle.nim_worker.specs.Leaves.{left_with, told_with};
 
 use crate::Held;
 use crate::slots::Slots;
-use crate::taking::{object_of, shape_of};
+use crate::taking::shape_of;
 use nim_base::{Copied, Epoch, NoMemory, Object, Position, Seq, Shape, Slot, Value, Version};
-use nim_command::Kind;
+use nim_command::{Kind, object_of};
 use nim_message::FromWorker;
 use std::alloc::Global;
 

@@ -5,7 +5,6 @@ ghost use Rattle.std.specs.Option.{option_map, option_map_or};
 ghost use Rattle.nim_base.specs.declared.number.Object.{Object as object};
 ghost use Rattle.nim_base.specs.declared.number.Shape.{Shape as shape_type};
 ghost use Rattle.nim_base.specs.Value.{empty_grid};
-ghost use Rattle.nim_command.specs.Slots as slot_spec;
 ghost use Rattle.nim_worker.specs.declared.held.Held.{Held as held_in};
 ghost use Rattle.nim_worker.specs.Inputs as spec;
 ghost use Rattle.nim_worker.specs.Inputs.{AreInputs, AreSeen, Continues, IsIdle, given_back, is_from, slot_at};
@@ -16,6 +15,7 @@ use crate::Held;
 use crate::inputs::{Inputs, Taken};
 use crate::slots::Slots;
 use nim_base::{NoMemory, Object, Shape, Slot, Value, Version};
+use nim_command::object_of;
 use std::alloc::Global;
 
 impl Inputs {
@@ -34,38 +34,30 @@ impl Inputs {
 
     /// Takes what a task reads out of its slots.
     pub(crate) fn take(
-        self,
+        &mut self,
         alloc: Global,
         slots: &mut Slots,
         shapes: &[Shape],
         reads: &[Slot],
         writes: &[Slot],
-    ) -> Inputs
-        requires idle { IsIdle self }
+    )
+        requires idle { IsIdle self.old }
         requires reads { length reads.now ≤ 8 }
         requires writes { length writes.now ≤ 2 }
-        ensures { AreInputs shapes.now reads.now writes.now (slot_at slots.old) (slot_at slots.new) result }
+        ensures { AreInputs shapes.now reads.now writes.now (slot_at slots.old) (slot_at slots.new) self.new }
     {
-        let Inputs {
-            mut taken,
-            mut values,
-            mut places,
-            mut contents,
-            shapes: mut fitting,
-        } = self;
         for slot in reads {
-            let (place, content) = take_read(alloc, slots, *slot, &mut taken, &mut values);
-            places.push_reserved(place);
-            contents.push_reserved(content);
+            let (place, content) = take_read(
+                alloc,
+                slots,
+                *slot,
+                &mut self.taken,
+                &mut self.values,
+            );
+            self.places.push_reserved(place);
+            self.contents.push_reserved(content);
         }
-        push_shapes(&mut fitting, shapes, writes);
-        Inputs {
-            taken,
-            values,
-            places,
-            contents,
-            shapes: fitting,
-        }
+        push_shapes(&mut self.shapes, shapes, writes);
     }
 }
 
@@ -118,13 +110,6 @@ fn content_of(taken: Taken) -> (Object, Version)
         Some(content) => content,
         None => (object_of(taken.slot), 0),
     }
-}
-
-/// The object of a slot.
-pub(crate) fn object_of(slot: Slot) -> Object
-    ensures { result ≡ slot_spec.object_of slot }
-{
-    Object(slot.0 % 512)
 }
 
 // The content and the value of what a slot has, apart.

@@ -51,7 +51,8 @@ pub struct WorkerCore {
 impl WorkerCore {
     /// Was given no order; takes no memory.
     pub fn new(alloc: Global, worker: Worker) -> WorkerCore
-        ensures { Stands result None [] 0 }
+        ensures stands { Stands result None [] 0 }
+        ensures worker { result.worker ≡ worker }
     {
         WorkerCore {
             alloc,
@@ -139,6 +140,7 @@ impl WorkerCore {
         ensures released { (orders : List order_type) (done : ℕ) → Stands self.old None orders done
             → (IsReleased orders done ↔ (length result.works.items ≡ 1)) × (length result.works.items ≤ 1) }
         ensures epoch { result.epoch ≡ self.old.epoch }
+        ensures stale { self.new.stale ≡ self.old.stale }
         ensures reads { (job : job_type) (orders : List order_type) (done : ℕ) → IsTrue (is_whole job) → IsLegal job orders
             → Stands self.old None orders done → All (ReadsRight job) result.works.items }
     {

@@ -34,6 +34,7 @@ returns-in_ok-run_block-in-Run-clause-goes c = λ _.
     c.requires.stands (sym c.in_ok-block.ensures.ask ∙ c.in-Run.is) asked
     c.in_ok-run_block-in-Run.ensures.works
     (c.in_ok-run_block-in-Run.ensures.position ∙ ap (λ (args : List ℤ). c.args.control.now.position + length (block_tasks_of c.args.job.now c.in-Run.block args)) c.as_slice.ensures)
+    c.in_ok-run_block-in-Run.ensures.forms
     (c.answer.ensures ∙ ap answered c.in_ok-block.ensures.ok)
 
 pub returns-in_ok-append-in-Output-clause-goes : goal.returns-in_ok-append-in-Output-clause-goes
@@ -43,6 +44,7 @@ returns-in_ok-append-in-Output-clause-goes c = λ _.
     (c.deref.ensures.value ∙ c.in_ok-text-in-Output.ensures.text)
     (subst (WorksAt c.args.job.now c.output.new.self.core) (sym c.in_ok-text-in-Output.ensures.position) c.in_ok-text-in-Output.ensures.works)
     c.in_ok-text-in-Output.ensures.position
+    c.in_ok-text-in-Output.ensures.forms
     (c.in_ok-append-in-Output.ensures.ok ∙ ap (λ (m : Machine). appended m c.deref.result.now) c.in_ok-block.ensures.ok)
 
 pub returns-in-Finished-clause-finished : goal.returns-in-Finished-clause-finished

@@ -1,10 +1,10 @@
-use Rattle.std.proofs.Common.{◌≡◌, ◌∙◌, true, ap, inl, refl, subst, sym, w64}
+use Rattle.std.proofs.Common.{◌≡◌, ◌∙◌, true, ap, refl, subst, sym, w64}
 use Rattle.std.proofs.lemmas.Int.{to_z-of_z}
 use Rattle.nim_command.specs.declared.command.Kind.{Kind}
 use Rattle.nim_command.specs.Holds.{left_by}
 use Rattle.nim_plan.specs.Legal.{IsLegalKind}
 use Rattle.nim_worker.specs.Stands.{may_run}
-use Rattle.nim_top.specs.Orders.{create_of, is_silent}
+use Rattle.nim_top.specs.Orders.{create_of}
 use Rattle.nim_top.specs.Works.{Works}
 use Rattle.nim_top.proofs.HeldAt.{create_held, create_legal, number_few}
 use Rattle.nim_top.proofs.control.Control.create.Goals as goal
@@ -18,5 +18,4 @@ returns-clause-works c = λ job whole holds numbered.
     (subst (λ (k : Kind). Works job c.ask.new.self.core (left_by k holds.slots)) is
     (c.in_ok-ask.ensures.works job holds.slots whole holds.works
     (subst (IsLegalKind job holds.slots) (sym is) (create_legal job holds.slots c.args.object c.args.number whole few numbered))
-    (subst (λ (k : Kind). may_run k ≡ true) (sym is) refl)
-    (inl (subst (λ (k : Kind). is_silent k ≡ true) (sym is) refl))))
+    (subst (λ (k : Kind). may_run k ≡ true) (sym is) refl)))

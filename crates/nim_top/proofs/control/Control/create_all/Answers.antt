@@ -28,7 +28,7 @@ loop-object-preserved c =
     let numbered : slice_get (numbers_of c.args.job.now.vars) c.loop-object.object ≡ Some (to_z w64 (of_z w64 number)) =
     ap (λ (numbers : List ℤ). slice_get numbers c.loop-object.object) (sym all)
     ∙ slice_get-get_or c.as_slice-numbers.result.now c.loop-object.object (pos 0) c.loop-object-test.true ∙ ap Some (sym (to_z-of_z w64 number fits)) in
-    (c.in_ok-create.ensures.works c.args.job.now c.requires.whole c.loop-object.invariant.0 numbered, c.in_ok-create.ensures.position ∙ c.loop-object.invariant.1)
+    (c.in_ok-create.ensures.works c.args.job.now c.requires.whole c.loop-object.invariant.0 numbered, c.in_ok-create.ensures.position ∙ c.loop-object.invariant.1, c.in_ok-create.ensures.forms ∙ c.loop-object.invariant.2)
 
 pub returns-clause-works : goal.returns-clause-works
 returns-clause-works c =

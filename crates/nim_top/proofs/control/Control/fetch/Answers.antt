@@ -1,4 +1,4 @@
-use Rattle.std.proofs.Common.{◌≡◌, ◌∙◌, true, ap, inr, refl, subst, sym}
+use Rattle.std.proofs.Common.{◌≡◌, ◌∙◌, true, ap, refl, subst, sym}
 use Rattle.nim_base.specs.Value.{Grid}
 use Rattle.nim_command.specs.declared.command.Kind.{Kind}
 use Rattle.nim_command.specs.Holds.{left_by}
@@ -7,7 +7,7 @@ use Rattle.nim_plan.specs.Legal.{IsLegalKind}
 use Rattle.nim_worker.specs.Stands.{may_run, reports_in}
 use Rattle.nim_top.specs.Orders.{fetch_of}
 use Rattle.nim_top.specs.Works.{Answers, Works}
-use Rattle.nim_top.proofs.HeldAt.{fetch_held, fetch_legal, fetched, pushed_told}
+use Rattle.nim_top.proofs.HeldAt.{fetch_held, fetch_legal, fetched}
 use Rattle.nim_top.proofs.Printed.{always_ok, each_ok}
 use Rattle.nim_top.proofs.control.Control.fetch.Goals as goal
 
@@ -18,12 +18,10 @@ returns-in-Some-clause-works c = λ job position whole holds below.
     (subst (λ (k : Kind). Works job c.ask.new.self.core (left_by k holds.slots)) c.fetch.ensures
     (c.in_ok-outs.ensures.works job holds.slots whole holds.works
     (subst (IsLegalKind job holds.slots) (sym c.fetch.ensures) (fetch_legal job c.args.self.now.core position c.args.object c.args.self.now.ticket below holds))
-    (subst (λ (k : Kind). may_run k ≡ true) (sym c.fetch.ensures) refl)
-    (inr (pushed_told c.pop.new.self.items c.in-Some.out c.in_ok-outs.outs.items c.in-Some.ensures.items)))))
+    (subst (λ (k : Kind). may_run k ≡ true) (sym c.fetch.ensures) refl))))
 
 pub returns-in-Some-clause-value : goal.returns-in-Some-clause-value
 returns-in-Some-clause-value c = λ job position whole holds below.
-    let told = pushed_told c.pop.new.self.items c.in-Some.out c.in_ok-outs.outs.items c.in-Some.ensures.items in
     let answers : Answers job holds.slots (fetch_of c.args.object c.args.self.now.ticket) (reports_in c.in_ok-outs.outs.items) =
     subst (λ (k : Kind). Answers job holds.slots k (reports_in c.in_ok-outs.outs.items)) c.fetch.ensures
     (c.in_ok-outs.ensures.answers job holds.slots whole holds.works
@@ -32,4 +30,4 @@ returns-in-Some-clause-value c = λ job position whole holds below.
     each_ok c.value_of.result c.value_of.ensures
     (λ (value : Grid) has. fetched job position c.args.object c.pop.new.self.items c.in-Some.out c.args.self.now.ticket value
     (sym (ap reports_in c.in-Some.ensures.items)
-    ∙ answers c.args.object (read_version job position c.args.object) (holds.held c.args.object below) told) has)
+    ∙ answers c.args.object (read_version job position c.args.object) (holds.held c.args.object below)) has)

@@ -20,5 +20,8 @@ loop-value-preserved-in-Continue-1 c =
           ∙ ap₂ (λ (all : List Taken) (values : List Grid). given_back all values f) (sym c.in-Some-pop.ensures.items) (sym c.in-Some.ensures.items)
           ∙ inv.back;
       paired = paired;
+      places = inv.places;
+      contents = inv.contents;
+      shapes = inv.shapes;
       room = (omega (arith, c.in-Some-pop.ensures.capacity, inv.room), omega (arith, c.in-Some.ensures.capacity, inv.room));
     }

@@ -23,6 +23,7 @@ loop-slot-preserved c =
           (pushed_map (content_seen before) c.args.reads.now c.loop-slot.slot-index first _ _ c.loop-slot-test.true inv.contents
           (read.content ∙ ap (λ (f : Slot → Option Held). content_seen f slot) inv.back));
       paired = read.paired;
+      shapes = inv.shapes;
       few = omega (arith, read.fits, inv.few);
       right = read.seen;
       fit = rw c.push_reserved.ensures.items (fits_more _ _ _ _ read.more inv.fit read.place);

@@ -1,4 +1,4 @@
-use Rattle.std.proofs.Common.{◌≡◌, ◌<◌, ◌≤◌, ℕ, length, map, take, All}
+use Rattle.std.proofs.Common.{◌≡◌, ◌<◌, ◌≤◌, ℕ, [], length, map, take, All}
 use Rattle.std.specs.Vec.{vec_capacity}
 use Rattle.nim_base.specs.declared.number.Slot.{Slot}
 use Rattle.nim_base.specs.Functions.{reads_of}
@@ -9,12 +9,13 @@ use Rattle.nim_worker.proofs.inputs.Inputs.take.Given as goal
 -- what is taken is what the slots had, and the first reads have their places in it
 abbrev pub invariant-loop-slot : goal.invariant-loop-slot
 invariant-loop-slot l = record {
-  back : given_back l.taken.items l.values.items (slot_at l.slots) ≡ slot_at l.fn.slots;
-  values : reads_of l.values.items l.places.items ≡ map (λ (slot : Slot). (seen (slot_at l.fn.slots) slot).value) (take l.slot-index l.reads);
-  contents : l.contents.items ≡ map (content_seen (slot_at l.fn.slots)) (take l.slot-index l.reads);
-  paired : length l.taken.items ≡ length l.values.items;
-  few : length l.taken.items ≤ l.slot-index;
-  right : AreSeen l.taken.items l.values.items;
-  fit : All (λ (place : ℕ). place < length l.values.items) l.places.items;
-  room : (8 ≤ vec_capacity l.taken) × (8 ≤ vec_capacity l.values) × (8 ≤ vec_capacity l.places) × (8 ≤ vec_capacity l.contents);
+  back : given_back l.self.taken.items l.self.values.items (slot_at l.slots) ≡ slot_at l.fn.slots;
+  values : reads_of l.self.values.items l.self.places.items ≡ map (λ (slot : Slot). (seen (slot_at l.fn.slots) slot).value) (take l.slot-index l.reads);
+  contents : l.self.contents.items ≡ map (content_seen (slot_at l.fn.slots)) (take l.slot-index l.reads);
+  paired : length l.self.taken.items ≡ length l.self.values.items;
+  shapes : l.self.shapes.items ≡ [];
+  few : length l.self.taken.items ≤ l.slot-index;
+  right : AreSeen l.self.taken.items l.self.values.items;
+  fit : All (λ (place : ℕ). place < length l.self.values.items) l.self.places.items;
+  room : (8 ≤ vec_capacity l.self.taken) × (8 ≤ vec_capacity l.self.values) × (8 ≤ vec_capacity l.self.places) × (8 ≤ vec_capacity l.self.contents);
 }
