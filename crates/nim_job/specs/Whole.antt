@@ -1,5 +1,5 @@
 -- When a job is whole: its limits, and that what it names is there, rule by rule.
-use Rattle.std.specs.Prelude.{ℕ, ◌+◌, ◌*◌, ◌^◌, ◌==◌, Bool, true, false, not, ◌&&◌, nat_lt, nat_le, Option, None, Some, List, [], ◌∷◌, length, map, is_some, slice_get, if◌then◌else◌}
+use Rattle.std.specs.Prelude.{ℕ, ◌+◌, ◌*◌, ◌==◌, Bool, true, false, not, ◌&&◌, nat_lt, nat_le, Option, None, Some, List, [], ◌∷◌, length, map, is_some, slice_get, if◌then◌else◌}
 use Rattle.std.specs.List.{list_all, list_any, range_with_len, sum_by}
 use Rattle.std.specs.Option.{option_and_then, option_map_or}
 use Rattle.nim_base.specs.declared.number.Object.{Object}
@@ -58,11 +58,11 @@ is_filled v = has_init v.parts v.shape v.init
 
 -- ---- blocks
 
--- a number is at most 2 ^ 63, and the task's own number stands only where the stage has `each`
+-- the task's own number stands only where the stage has `each`
 abbrev pub is_place : Bool → Place → Bool
-is_place each (Fixed n) = nat_le n (2 ^ 63)
-is_place each (Plus n) = each && nat_le n (2 ^ 63)
-is_place each (Minus n) = each && nat_le n (2 ^ 63)
+is_place each (Fixed n) = true
+is_place each (Plus n) = each
+is_place each (Minus n) = each
 
 -- the variable is there
 abbrev pub is_ref : List Var → Bool → Ref → Bool
@@ -73,7 +73,7 @@ abbrev pub is_param : ℕ → Param → Bool
 is_param args (Const number) = true
 is_param args (Arg a) = nat_lt a args
 
--- whether what a stage reads and writes are variables that are there, at numbers that are small enough
+-- whether what a stage reads and writes are variables that are there
 abbrev pub has_refs : List Var → Stage → Bool
 has_refs vars stage = list_all (is_ref vars true) stage.reads && list_all (is_ref vars true) stage.writes
 

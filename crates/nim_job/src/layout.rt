@@ -93,7 +93,6 @@ fn parts(vars: &[Var], var: u8) -> u32
 
 /// The part that a place means at task `turn` of its stage.
 fn part(place: Place, turn: u32, parts: u32) -> u32
-    requires place { IsTrue (is_place true place) }
     requires turn { turn < 64 }
     requires parts { 1 ≤ parts }
     ensures part { result ≡ part_of place turn parts }
@@ -103,7 +102,7 @@ fn part(place: Place, turn: u32, parts: u32) -> u32
     let turn = u64::from(turn);
     let part = match place {
         Place::Fixed(number) => number % parts,
-        Place::Plus(number) => (turn + number) % parts,
+        Place::Plus(number) => (turn + number % parts) % parts,
         Place::Minus(number) => (turn + (parts - number % parts)) % parts,
     };
     part as u32
