@@ -81,6 +81,30 @@ pub(crate) fn turns(vars: &[Var], stage: &Stage) -> u32
     }
 }
 
+/// The object that a reference means at task `turn` of its stage, without a table of the first objects.
+pub(crate) fn object(vars: &[Var], reference: Ref, turn: u32) -> Object
+    requires vars { IsTrue (are_vars vars.now) }
+    requires reference { IsTrue (is_ref vars.now true reference) }
+    requires turn { turn < 64 }
+    ensures { result ≡ object_of vars.now turn reference }
+{
+    let part = part(reference.place, turn, parts(vars, reference.var));
+    Object(first_object(vars, reference.var) + part as u16)
+}
+
+/// The object that is part 0 of a variable.
+fn first_object(vars: &[Var], var: u8) -> u16
+    requires vars { IsTrue (are_vars vars.now) }
+    requires there { var < length vars.now }
+    ensures { result ≡ first_object vars.now var }
+{
+    let mut first = 0;
+    for var in &vars[..usize::from(var)] {
+        first += var.parts as u16;
+    }
+    first
+}
+
 /// How many parts a variable has; 0 where it isn't there.
 fn parts(vars: &[Var], var: u8) -> u32
     ensures { result ≡ parts_of vars.now var }
@@ -92,6 +116,7 @@ fn parts(vars: &[Var], var: u8) -> u32
 }
 
 /// The part that a place means at task `turn` of its stage.
+#[tactic(auto, using(crate::proofs::Whole::plus_part))]
 fn part(place: Place, turn: u32, parts: u32) -> u32
     requires turn { turn < 64 }
     requires parts { 1 ≤ parts }

@@ -26,4 +26,4 @@ pub use laws::{machine_follows, versions_are_read};
 pub use objects::shapes;
 pub use stmt::{Arith, Atom, Cmp, Cond, Stmt};
 pub use tasks::block_tasks;
-pub use wholeness::is_whole;
+pub use wholeness::{is_checked, is_plain, is_whole};
