@@ -17,8 +17,8 @@ use Rattle.nim_job.specs.Machine.{Machine, start_machine, stmt_ask, stmt_asked, 
 use Rattle.nim_job.specs.Serial.{driver_at, is_nil, is_limit, ending_of, serial_of}
 use Rattle.nim_job.specs.Step.{State, output_of, stmt_tasks, tasks_next, item_tasks, stmt_step, item_step, step}
 use Rattle.nim_job.specs.Tasks.{block_tasks_of}
-use Rattle.nim_job.specs.Whole.{is_stmt_out, is_stmt, is_whole}
-use Rattle.nim_job.proofs.Whole.{whole_body}
+use Rattle.nim_job.specs.Whole.{is_plain_out, is_plain_stmt, is_plain}
+use Rattle.nim_job.proofs.Whole.{plain_body}
 
 -- the machine that passed an item: it stands behind it, and has asked this
 abbrev behind : Machine → List Item → Option Asked → Machine
@@ -176,44 +176,44 @@ output_grows job n (suc d) =
       items_grow job (driver_at job (d + n)) (driver_at job (d + n)).driver.todo,
     )
 
--- what is left to do is statements that a whole job may have
+-- what is left to do is statements that a plain job may have
 abbrev is_item : Job → Item → Bool
-is_item job (Run stmt) = is_stmt job stmt
+is_item job (Run stmt) = is_plain_stmt job stmt
 is_item job (Again turns body) = false
 
 stmt_left : (job : Job) (state : State) (rest : List Item) (stmt : Stmt-F Stmt) → list_all (is_item job) rest ≡ true → list_all (is_item job) (stmt_step job state rest stmt).driver.todo ≡ true
-stmt_left job state rest (Stmt-F.Output var) whole = whole
-stmt_left job state rest stmt whole = whole
+stmt_left job state rest (Stmt-F.Output var) plain = plain
+stmt_left job state rest stmt plain = plain
 
 items_left : (job : Job) (state : State) (items : List Item) → state.driver.todo ≡ items → list_all (is_item job) items ≡ true → list_all (is_item job) (item_step job state items).driver.todo ≡ true
-items_left job state [] is whole = ap (list_all (is_item job)) is
-items_left job state (Run stmt ∷ rest) is whole = stmt_left job state rest (out-Stmt stmt) (and_parts (is_stmt job stmt) (list_all (is_item job) rest) whole).1
-items_left job state (Again turns body ∷ rest) is whole = (and_parts false (list_all (is_item job) rest) whole).1
+items_left job state [] is plain = ap (list_all (is_item job)) is
+items_left job state (Run stmt ∷ rest) is plain = stmt_left job state rest (out-Stmt stmt) (and_parts (is_plain_stmt job stmt) (list_all (is_item job) rest) plain).1
+items_left job state (Again turns body ∷ rest) is plain = (and_parts false (list_all (is_item job) rest) plain).1
 
-pub left_whole : (job : Job) (n : ℕ) → is_whole job ≡ true → list_all (is_item job) (driver_at job n).driver.todo ≡ true
+pub left_plain : (job : Job) (n : ℕ) → is_plain job ≡ true → list_all (is_item job) (driver_at job n).driver.todo ≡ true
 unfolding driver_at
-left_whole job zero whole = list_all-map (is_item job) (λ stmt. Run stmt) job.body ∙ whole_body job whole
-left_whole job (suc n) whole = items_left job (driver_at job n) (driver_at job n).driver.todo refl (left_whole job n whole)
+left_plain job zero plain = list_all-map (is_item job) (λ stmt. Run stmt) job.body ∙ plain_body job plain
+left_plain job (suc n) plain = items_left job (driver_at job n) (driver_at job n).driver.todo refl (left_plain job n plain)
 
 -- where nothing is asked and the machine isn't full, nothing is left to do
-stmt_finished : (job : Job) (scalars : List ℤ) (stmt : Stmt-F Stmt) (b : Bool) → is_stmt_out job stmt ≡ true → (if b then Ask.Limit else stmt_ask scalars stmt) ≡ Ask.Finished → ⊥
-stmt_finished job scalars (Stmt-F.Do block args) false whole is = cc
-stmt_finished job scalars (Stmt-F.Output var) false whole is = cc
-stmt_finished job scalars stmt false whole is = both_ways false refl whole
-stmt_finished job scalars stmt true whole is = cc
+stmt_finished : (job : Job) (scalars : List ℤ) (stmt : Stmt-F Stmt) (b : Bool) → is_plain_out job stmt ≡ true → (if b then Ask.Limit else stmt_ask scalars stmt) ≡ Ask.Finished → ⊥
+stmt_finished job scalars (Stmt-F.Do block args) false plain is = cc
+stmt_finished job scalars (Stmt-F.Output var) false plain is = cc
+stmt_finished job scalars stmt false plain is = both_ways false refl plain
+stmt_finished job scalars stmt true plain is = cc
 
 items_finished : (job : Job) (m : Machine) (items : List Item) → list_all (is_item job) items ≡ true → items_ask m items ≡ Ask.Finished → is_nil items ≡ true
-items_finished job m [] whole is = refl
-items_finished job m (Run stmt ∷ rest) whole is =
-    absurd (stmt_finished job m.driver.scalars (out-Stmt stmt) (nat_le m.steps m.driver.count) (and_parts (is_stmt job stmt) (list_all (is_item job) rest) whole).0 is)
-items_finished job m (Again turns body ∷ rest) whole is = absurd (both_ways false refl (and_parts false (list_all (is_item job) rest) whole).0)
+items_finished job m [] plain is = refl
+items_finished job m (Run stmt ∷ rest) plain is =
+    absurd (stmt_finished job m.driver.scalars (out-Stmt stmt) (nat_le m.steps m.driver.count) (and_parts (is_plain_stmt job stmt) (list_all (is_item job) rest) plain).0 is)
+items_finished job m (Again turns body ∷ rest) plain is = absurd (both_ways false refl (and_parts false (list_all (is_item job) rest) plain).0)
 
 -- The machine stands at the state after n steps and says that it is finished: the job ends well, with what is
 -- printed so far.
-pub finished_ends : (job : Job) (n : ℕ) → is_whole job ≡ true → n ≤ job.steps → length (driver_at job n).driver.output ≤ output_limit
+pub finished_ends : (job : Job) (n : ℕ) → is_plain job ≡ true → n ≤ job.steps → length (driver_at job n).driver.output ≤ output_limit
     → ask_of (machine_at job (driver_at job n)) ≡ Ask.Finished → serial_of job ≡ record { status = 0; bytes = (driver_at job n).driver.output }
-finished_ends job n whole within fits is =
-    let nil = items_finished job (machine_at job (driver_at job n)) (driver_at job n).driver.todo (left_whole job n whole) is in
+finished_ends job n plain within fits is =
+    let nil = items_finished job (machine_at job (driver_at job n)) (driver_at job n).driver.todo (left_plain job n plain) is in
     let last : job.steps ≡ job.steps - n + n = omega arith in
     let ends = ap (driver_at job) last ∙ nil_stays job n (job.steps - n) nil in
     let open_end : is_limit (driver_at job n) ≡ false =

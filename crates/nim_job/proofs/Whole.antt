@@ -1,8 +1,9 @@
 -- What a job that is whole gives: its variables, its stages, and the objects of its tasks.
-use Rattle.std.proofs.Common.{◌≡◌, ℕ, ◌+◌, ◌^◌, ◌<◌, ◌≤◌, zero, suc, Bool, true, ◌&&◌, ℤ, List, [], ◌∷◌, length, take, map, replicate, get_or, refl, ap, sym, ◌∙◌, arith, All}
-use Rattle.std.specs.Prelude.{slice_get, nat_lt, nat_le}
+use Rattle.std.proofs.Common.{◌≡◌, ℕ, ◌+◌, ◌%◌, ◌<◌, ◌≤◌, zero, suc, Bool, true, ◌&&◌, ℤ, List, [], ◌∷◌, length, take, map, replicate, get_or, refl, ap, sym, ◌∙◌, arith, All}
+use Rattle.std.specs.Prelude.{slice_get, nat_lt}
 use Rattle.std.specs.List.{list_all, range_with_len}
 use Rattle.std.specs.Option.{option_map_or}
+use Rattle.std.proofs.Math.Nat.{add-mod-mod}
 use Rattle.std.proofs.lemmas.Bool.{and_parts, and_from, ltb-true, lt-ltb, cond_both}
 use Rattle.std.proofs.lemmas.Bool.Decides.{nat_tests}
 use Rattle.std.proofs.lemmas.List.{length-append, length-replicate, length-map}
@@ -11,6 +12,7 @@ use Rattle.std.proofs.lemmas.List.Folds.{list_all-map}
 use Rattle.std.proofs.lemmas.List.Sums.{sum_by-cons, sum_by_more, sum_by-take-drop}
 use Rattle.nim_base.specs.declared.number.Shape.{Shape}
 use Rattle.nim_base.specs.declared.task.TaskForm.{TaskForm}
+use Rattle.nim_base.specs.Apply.{has_counts}
 use Rattle.nim_job.specs.declared.block.Place.{Place}
 use Rattle.nim_job.specs.declared.block.Place.TheVariants.{Fixed, Plus, Minus}
 use Rattle.nim_job.specs.declared.block.Ref.{Ref}
@@ -20,17 +22,36 @@ use Rattle.nim_job.specs.declared.job.Var.{Var}
 use Rattle.nim_job.specs.declared.job.Job.{Job}
 use Rattle.nim_job.specs.Objects.{parts_of, objects_of, first_object, shapes_of}
 use Rattle.nim_job.specs.Tasks.{part_of, object_of, form_of, turns_of, stage_forms, stages_of, task_of, block_forms_of, block_tasks_of}
-use Rattle.nim_job.specs.Whole.{has_counts, is_var, are_vars, is_place, is_ref, has_refs, is_stage, is_block, is_stmt, is_whole, is_object, is_task}
-use Rattle.nim_job.proofs.Lists.{list_all_weaker, list_all_always, list_all-flat_map}
+use Rattle.nim_job.specs.Whole.{is_var, are_vars, is_filled, is_place, is_ref, has_refs, are_distinct, has_distinct, is_stage, is_block, is_checked, is_whole, is_object, is_task, is_plain_init, is_plain_stmt, is_plain}
+use Rattle.nim_job.proofs.Lists.{list_all_weaker, list_all-flat_map}
+
+pub whole_checked : (job : Job) → is_whole job ≡ true → is_checked job ≡ true
+whole_checked job whole = (and_parts (is_checked job) (list_all is_filled job.vars) whole).0
+
+pub whole_inits : (job : Job) → is_whole job ≡ true → list_all is_filled job.vars ≡ true
+whole_inits job whole = (and_parts (is_checked job) (list_all is_filled job.vars) whole).1
+
+checked_parts : (job : Job) → is_checked job ≡ true → (are_vars job.vars ≡ true) × (list_all (is_block job.vars) job.blocks ≡ true)
+checked_parts job checked = grind (arith, nat_tests)
 
 pub whole_vars : (job : Job) → is_whole job ≡ true → are_vars job.vars ≡ true
-whole_vars job whole = grind (arith, nat_tests)
-
-pub whole_body : (job : Job) → is_whole job ≡ true → list_all (is_stmt job) job.body ≡ true
-whole_body job whole = grind (arith, nat_tests)
+whole_vars job whole = (checked_parts job (whole_checked job whole)).0
 
 pub whole_blocks : (job : Job) → is_whole job ≡ true → list_all (is_block job.vars) job.blocks ≡ true
-whole_blocks job whole = grind (arith, nat_tests)
+whole_blocks job whole = (checked_parts job (whole_checked job whole)).1
+
+plain_parts : (job : Job) → is_plain job ≡ true → (is_whole job ≡ true) × (list_all (λ v. is_plain_init v.init) job.vars ≡ true) × (list_all (is_plain_stmt job) job.body ≡ true)
+plain_parts job plain = grind (arith, nat_tests)
+
+-- a plain job is whole
+pub plain_whole : (job : Job) → is_plain job ≡ true → is_whole job ≡ true
+plain_whole job plain = (plain_parts job plain).0
+
+pub plain_inits : (job : Job) → is_plain job ≡ true → list_all (λ v. is_plain_init v.init) job.vars ≡ true
+plain_inits job plain = (plain_parts job plain).1
+
+pub plain_body : (job : Job) → is_plain job ≡ true → list_all (is_plain_stmt job) job.body ≡ true
+plain_body job plain = (plain_parts job plain).2
 
 pub var_sizes : (v : Var) → is_var v ≡ true → (1 ≤ v.parts) × (v.parts ≤ 64) × (1 ≤ v.shape.width)
 var_sizes v is = grind (arith, nat_tests)
@@ -41,31 +62,48 @@ vars_sizes vars are = grind (arith, nat_tests)
 block_stages : (vars : List Var) (block : Block) → is_block vars block ≡ true → list_all (is_stage vars block.args) block.stages ≡ true
 block_stages vars block is = grind (arith, nat_tests)
 
--- the test of a stage, apart from its parameters
-abbrev has_shape : List Var → Stage → Bool
-has_shape vars stage = has_counts stage.func (length stage.params) (length stage.reads) (length stage.writes) && has_refs vars stage
+-- what a stage that is whole gives for its tasks
+record HasShape (vars : List Var) (stage : Stage) : Type 0 where
+  pub counts : has_counts stage.func (length stage.params) (length stage.reads) (length stage.writes) ≡ true
+  pub reads : list_all (is_ref vars true) stage.reads ≡ true
+  pub writes : list_all (is_ref vars true) stage.writes ≡ true
+  pub distinct : has_distinct vars stage ≡ true
 
-place_of : (each : Bool) (place : Place) → is_place each place ≡ true → is_place true place ≡ true
-place_of each (Fixed n) is = is
-place_of each (Plus n) is = (and_parts each (nat_le n (2 ^ 63)) is).1
-place_of each (Minus n) is = (and_parts each (nat_le n (2 ^ 63)) is).1
+place_of : (place : Place) → is_place true place ≡ true
+place_of (Fixed n) = refl
+place_of (Plus n) = refl
+place_of (Minus n) = refl
 
 ref_of : (vars : List Var) (each : Bool) (ref : Ref) → is_ref vars each ref ≡ true → is_ref vars true ref ≡ true
 ref_of vars each ref is =
-    let parts = and_parts (nat_lt ref.var (length vars)) (is_place each ref.place) is in
-    and_from (nat_lt ref.var (length vars)) (is_place true ref.place) parts.0 (place_of each ref.place parts.1)
+    and_from (nat_lt ref.var (length vars)) (is_place true ref.place) (and_parts (nat_lt ref.var (length vars)) (is_place each ref.place) is).0 (place_of ref.place)
+
+-- with `each` or not, the variables are there
+pub refs_of : (vars : List Var) (each : Bool) (refs : List Ref) → list_all (is_ref vars each) refs ≡ true → list_all (is_ref vars true) refs ≡ true
+refs_of vars each refs are = list_all_weaker (is_ref vars each) (is_ref vars true) (ref_of vars each) refs are
 
 stage_parts : (vars : List Var) (args : ℕ) (stage : Stage) → is_stage vars args stage ≡ true → (has_counts stage.func (length stage.params) (length stage.reads) (length stage.writes) ≡ true)
-    × (list_all (is_ref vars stage.each) stage.reads ≡ true) × (list_all (is_ref vars stage.each) stage.writes ≡ true)
+    × (list_all (is_ref vars stage.each) stage.reads ≡ true) × (list_all (is_ref vars stage.each) stage.writes ≡ true) × (has_distinct vars stage ≡ true)
 stage_parts vars args stage is = grind (arith, nat_tests)
+
+-- the test of a stage, apart from its parameters
+abbrev has_shape : List Var → Stage → Bool
+has_shape vars stage = has_counts stage.func (length stage.params) (length stage.reads) (length stage.writes) && (has_refs vars stage && has_distinct vars stage)
+
+shape_parts : (vars : List Var) (stage : Stage) → has_shape vars stage ≡ true → HasShape vars stage
+shape_parts vars stage is =
+    let parts = and_parts (has_counts stage.func (length stage.params) (length stage.reads) (length stage.writes)) (has_refs vars stage && has_distinct vars stage) is in
+    let more = and_parts (has_refs vars stage) (has_distinct vars stage) parts.1 in
+    let refs = and_parts (list_all (is_ref vars true) stage.reads) (list_all (is_ref vars true) stage.writes) more.0 in
+    record { counts = parts.0; reads = refs.0; writes = refs.1; distinct = more.1 }
 
 stage_shape : (vars : List Var) (args : ℕ) (stage : Stage) → is_stage vars args stage ≡ true → has_shape vars stage ≡ true
 stage_shape vars args stage is =
     let parts = stage_parts vars args stage is in
-    and_from (has_counts stage.func (length stage.params) (length stage.reads) (length stage.writes)) (has_refs vars stage) parts.0
-    (and_from (list_all (is_ref vars true) stage.reads) (list_all (is_ref vars true) stage.writes)
-    (list_all_weaker (is_ref vars stage.each) (is_ref vars true) (ref_of vars stage.each) stage.reads parts.1)
-    (list_all_weaker (is_ref vars stage.each) (is_ref vars true) (ref_of vars stage.each) stage.writes parts.2))
+    and_from (has_counts stage.func (length stage.params) (length stage.reads) (length stage.writes)) (has_refs vars stage && has_distinct vars stage) parts.0
+    (and_from (has_refs vars stage) (has_distinct vars stage)
+    (and_from (list_all (is_ref vars true) stage.reads) (list_all (is_ref vars true) stage.writes) (refs_of vars stage.each stage.reads parts.1) (refs_of vars stage.each stage.writes parts.2))
+    parts.3)
 
 stages_at : (vars : List Var) (blocks : List Block) (block : ℕ) → list_all (is_block vars) blocks ≡ true → list_all (has_shape vars) (option_map_or (λ (b : Block). b.stages) (slice_get blocks block) []) ≡ true
 stages_at vars [] block all = refl
@@ -74,12 +112,15 @@ stages_at vars (b ∷ blocks) zero all =
     (block_stages vars b (and_parts (is_block vars b) (list_all (is_block vars) blocks) all).0)
 stages_at vars (b ∷ blocks) (suc block) all = stages_at vars blocks block (and_parts (is_block vars b) (list_all (is_block vars) blocks) all).1
 
+shape_refs : (vars : List Var) (stage : Stage) → has_shape vars stage ≡ true → has_refs vars stage ≡ true
+shape_refs vars stage is =
+    let shape = shape_parts vars stage is in
+    and_from (list_all (is_ref vars true) stage.reads) (list_all (is_ref vars true) stage.writes) shape.reads shape.writes
+
 -- the stages of a block name variables that are there
 pub stages_refs : (job : Job) (block : ℕ) → is_whole job ≡ true → list_all (has_refs job.vars) (stages_of job block) ≡ true
 stages_refs job block whole =
-    list_all_weaker (has_shape job.vars) (has_refs job.vars)
-    (λ stage is. (and_parts (has_counts stage.func (length stage.params) (length stage.reads) (length stage.writes)) (has_refs job.vars stage) is).1)
-    (stages_of job block) (stages_at job.vars job.blocks block (whole_blocks job whole))
+    list_all_weaker (has_shape job.vars) (has_refs job.vars) (shape_refs job.vars) (stages_of job block) (stages_at job.vars job.blocks block (whole_blocks job whole))
 
 -- the parts of a variable that is there
 pub parts_there : (vars : List Var) (var : ℕ) → list_all is_var vars ≡ true → var < length vars
@@ -92,6 +133,10 @@ parts_there (v ∷ vars) (suc var) all there =
     let rest = parts_there vars var (and_parts (is_var v) (list_all is_var vars) all).1 (omega arith) in
     (rest.0, rest.1, omega (arith, rest.2, sum_by-cons (λ (w : Var). w.parts) v vars, sum_by-cons (λ (w : Var). w.parts) v (take var vars)))
 
+-- the number may be taken modulo the parts before it is added
+pub plus_part : (i n parts : ℕ) → (i + n % parts) % parts ≡ (i + n) % parts
+plus_part i n parts = add-mod-mod i n parts
+
 pub part_below : (place : Place) (i parts : ℕ) → 1 ≤ parts → part_of place i parts < parts
 part_below (Fixed n) i parts some = omega arith
 part_below (Plus n) i parts some = omega arith
@@ -100,6 +145,14 @@ part_below (Minus n) i parts some = omega arith
 -- the variable that a reference names is there
 pub ref_there : (vars : List Var) (ref : Ref) → is_ref vars true ref ≡ true → ref.var < length vars
 ref_there vars ref is = ltb-true ref.var (length vars) (and_parts (nat_lt ref.var (length vars)) (is_place true ref.place) is).0
+
+-- the parts of the variable that a reference names, and the objects up to its last one
+pub ref_fits : (vars : List Var) (ref : Ref) → are_vars vars ≡ true → is_ref vars true ref ≡ true
+    → (1 ≤ parts_of vars ref.var) × (parts_of vars ref.var ≤ 64) × (first_object vars ref.var + parts_of vars ref.var ≤ 512)
+ref_fits vars ref are is =
+    let sizes = vars_sizes vars are in
+    let there = parts_there vars ref.var sizes.1 (ref_there vars ref is) in
+    (there.0, there.1, omega (arith, there.2, sizes.0))
 
 object_there : (vars : List Var) (i : ℕ) (ref : Ref) → list_all is_var vars ≡ true → is_ref vars true ref ≡ true → is_object (objects_of vars) (object_of vars i ref) ≡ true
 object_there vars i ref all is =
@@ -112,14 +165,14 @@ objects_there vars i refs all are =
     list_all-map (is_object (objects_of vars)) (object_of vars i) refs
     ∙ list_all_weaker (is_ref vars true) (λ ref. is_object (objects_of vars) (object_of vars i ref)) (λ ref is. object_there vars i ref all is) refs are
 
-task_there : (vars : List Var) (args : List ℤ) (stage : Stage) (i : ℕ) → list_all is_var vars ≡ true → has_shape vars stage ≡ true → is_task (objects_of vars) (task_of args (form_of vars stage i)) ≡ true
-task_there vars args stage i all is =
-    let parts = and_parts (has_counts stage.func (length stage.params) (length stage.reads) (length stage.writes)) (has_refs vars stage) is in
-    let refs = and_parts (list_all (is_ref vars true) stage.reads) (list_all (is_ref vars true) stage.writes) parts.1 in
+task_there : (vars : List Var) (args : List ℤ) (stage : Stage) (i : ℕ) → list_all is_var vars ≡ true → HasShape vars stage → are_distinct (map (object_of vars i) stage.writes) ≡ true
+    → is_task (objects_of vars) (task_of args (form_of vars stage i)) ≡ true
+task_there vars args stage i all shape distinct =
     let counts = has_counts stage.func (length stage.params) (length stage.reads) (length stage.writes) in
     let reads = list_all (is_object (objects_of vars)) (map (object_of vars i) stage.reads) in
     let writes = list_all (is_object (objects_of vars)) (map (object_of vars i) stage.writes) in
-    simp length-map (and_from (counts && reads) writes (and_from counts reads parts.0 (objects_there vars i stage.reads all refs.0)) (objects_there vars i stage.writes all refs.1))
+    simp length-map (and_from (counts && reads && writes) (are_distinct (map (object_of vars i) stage.writes))
+    (and_from (counts && reads) writes (and_from counts reads shape.counts (objects_there vars i stage.reads all shape.reads)) (objects_there vars i stage.writes all shape.writes)) distinct)
 
 -- what a `do` runs fits the job: counts and objects
 pub tasks_there : (job : Job) (block : ℕ) (args : List ℤ) → is_whole job ≡ true → list_all (is_task (objects_of job.vars)) (block_tasks_of job block args) ≡ true
@@ -129,7 +182,8 @@ tasks_there job block args whole =
     list_all-map (is_task (objects_of job.vars)) (task_of args) (block_forms_of job block)
     ∙ list_all-flat_map test (stage_forms job.vars) (has_shape job.vars)
     (λ stage is. list_all-map test (form_of job.vars stage) (range_with_len 0 (turns_of job.vars stage))
-    ∙ list_all_always (λ i. test (form_of job.vars stage i)) (λ i. task_there job.vars args stage i all is) (range_with_len 0 (turns_of job.vars stage)))
+    ∙ list_all_weaker (λ i. are_distinct (map (object_of job.vars i) stage.writes)) (λ i. test (form_of job.vars stage i))
+    (λ i. task_there job.vars args stage i all (shape_parts job.vars stage is)) (range_with_len 0 (turns_of job.vars stage)) (shape_parts job.vars stage is).distinct)
     (stages_of job block) (stages_at job.vars job.blocks block (whole_blocks job whole))
 
 -- as many shapes as objects
@@ -152,11 +206,13 @@ first_few vars (ref ∷ refs) all are =
     (parts_there vars ref.var all (ref_there vars ref (and_parts (is_ref vars true ref) (list_all (is_ref vars true) refs) are).0)).1
 
 -- a stage has at most as many tasks as a variable has parts
-pub turns_few : (vars : List Var) (stage : Stage) → are_vars vars ≡ true → has_refs vars stage ≡ true → turns_of vars stage ≤ 64
-turns_few vars stage are is =
-    let writes = (and_parts (list_all (is_ref vars true) stage.reads) (list_all (is_ref vars true) stage.writes) is).1 in
+pub writes_few : (vars : List Var) (stage : Stage) → are_vars vars ≡ true → list_all (is_ref vars true) stage.writes ≡ true → turns_of vars stage ≤ 64
+writes_few vars stage are writes =
     cond_both stage.each (option_map_or (λ (ref : Ref). parts_of vars ref.var) (slice_get stage.writes 0) 0) 1 (λ turns. turns ≤ 64)
     (λ each. first_few vars stage.writes (vars_sizes vars are).1 writes) (λ once. omega arith)
+
+pub turns_few : (vars : List Var) (stage : Stage) → are_vars vars ≡ true → has_refs vars stage ≡ true → turns_of vars stage ≤ 64
+turns_few vars stage are is = writes_few vars stage are (and_parts (list_all (is_ref vars true) stage.reads) (list_all (is_ref vars true) stage.writes) is).1
 
 -- what the table of first objects needs at one more variable
 pub objects_more : (vars : List Var) (i : ℕ) (v : Var) → i < length vars → v ≡ get_or vars i v → objects_of (take (i + 1) vars) ≡ objects_of (take i vars) + v.parts

@@ -1,10 +1,10 @@
 -- Variables as objects: one a part, numbered in order of declaration and then of part.
-use Rattle.std.specs.Prelude.{ℕ, List, [], take, drop, replicate, slice_get, slice_index_or}
-use Rattle.std.specs.List.{flat_map, sum_by}
+use Rattle.std.specs.Prelude.{ℕ, ◌*◌, pos, List, take, drop, map, replicate, slice_get, slice_index_or}
+use Rattle.std.specs.List.{flat_map, range_with_len, sum_by}
 use Rattle.std.specs.Option.{option_map_or}
 use Rattle.nim_base.specs.declared.number.Object.{Object}
 use Rattle.nim_base.specs.declared.number.Shape.{Shape}
-use Rattle.nim_base.specs.Value.{Grid, empty_grid, filled}
+use Rattle.nim_base.specs.Value.{Grid, empty_grid, filled, iota_of}
 use Rattle.nim_job.specs.declared.job.Init.{Init}
 use Rattle.nim_job.specs.declared.job.Init.TheVariants.{Fill, Iota, Loaded}
 use Rattle.nim_job.specs.declared.job.Var.{Var}
@@ -25,10 +25,14 @@ first_object vars var = objects_of (take var vars)
 abbrev pub shapes_of : List Var → List Shape
 shapes_of vars = flat_map (λ v. replicate v.parts v.shape) vars
 
+-- the number of the first cell of a part, where the cells of all parts are counted from 0, row by row
+abbrev pub first_cell : Shape → ℕ → ℕ
+first_cell shape part = part * (shape.rows * shape.width)
+
 -- what the parts of a variable hold at first
 abbrev pub initial_parts : Var → Init → List Grid
 initial_parts v (Fill number) = replicate v.parts (filled v.shape number)
-initial_parts v Iota = []
+initial_parts v Iota = map (λ part. iota_of v.shape (pos (first_cell v.shape part))) (range_with_len 0 v.parts)
 initial_parts v (Loaded values) = values
 
 -- what all objects hold at first

@@ -4,7 +4,7 @@ ghost use Rattle.nim_job.specs.declared.stmt.Stmt.{out-Stmt};
 ghost use Rattle.nim_job.specs.Driver.{atom_of};
 ghost use Rattle.nim_job.specs.Machine as spec;
 ghost use Rattle.nim_job.specs.Machine.{after_ask, answered, appended, ask_of, asked_by, IsWithin, start_machine, takes_cell};
-ghost use Rattle.nim_job.specs.Whole.{is_whole};
+ghost use Rattle.nim_job.specs.Whole.{is_plain};
 
 use crate::copies::copy_stmts;
 use crate::{Ask, Asked, Atom, Job, Stmt};
@@ -106,7 +106,7 @@ impl Model for DriverMachine {
 impl DriverMachine {
     /// A machine at the start of a job's body.
     pub fn new(alloc: Global, job: &Job) -> Result<DriverMachine, NoMemory>
-        requires whole { IsTrue (is_whole job.now) }
+        requires plain { IsTrue (is_plain job.now) }
         ensures { IfOk result (λ m. m ≡ start_machine job.now) }
     {
         Ok(DriverMachine {

@@ -3,7 +3,7 @@ ghost use Rattle.nim_job.specs.Follows.{AnswersFollow, AsksTasks, EndsAtLimit, E
 ghost use Rattle.nim_job.specs.Machine.{machine_at, start_machine};
 ghost use Rattle.nim_job.specs.Serial.{driver_at};
 ghost use Rattle.nim_job.specs.Versions.{KeepsVersions, ReadsVersions};
-ghost use Rattle.nim_job.specs.Whole.{is_whole};
+ghost use Rattle.nim_job.specs.Whole.{is_plain};
 
 use crate::Job;
 
@@ -17,7 +17,7 @@ pub fn versions_are_read(job: &Job)
 /// A `DriverMachine` that was just made stands before the first step of its job. From each state, asking and
 /// answering leads to the next one, and what it says at the end is how the job ends.
 pub fn machine_follows(job: &Job)
-    requires whole { IsTrue (is_whole job.now) }
+    requires plain { IsTrue (is_plain job.now) }
     ensures starts { start_machine job.now ≡ machine_at job.now (driver_at job.now 0) }
     ensures asks { AsksTasks job.now }
     ensures answers { AnswersFollow job.now }

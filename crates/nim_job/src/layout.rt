@@ -69,7 +69,7 @@ impl<'a> Layout<'a> {
 }
 
 /// How many tasks a stage has: one for each part of the first variable that it writes, or one.
-pub(crate) fn turns(vars: &[Var], stage: &Stage) -> u32
+pub fn turns(vars: &[Var], stage: &Stage) -> u32
     ensures { result ≡ turns_of vars.now stage.now }
 {
     if !stage.each {
@@ -79,6 +79,30 @@ pub(crate) fn turns(vars: &[Var], stage: &Stage) -> u32
         Some(reference) => parts(vars, reference.var),
         None => 0,
     }
+}
+
+/// The object that a reference means at task `turn` of its stage, without a table of the first objects.
+pub(crate) fn object(vars: &[Var], reference: Ref, turn: u32) -> Object
+    requires vars { IsTrue (are_vars vars.now) }
+    requires reference { IsTrue (is_ref vars.now true reference) }
+    requires turn { turn < 64 }
+    ensures { result ≡ object_of vars.now turn reference }
+{
+    let part = part(reference.place, turn, parts(vars, reference.var));
+    Object(first_object(vars, reference.var) + part as u16)
+}
+
+/// The object that is part 0 of a variable.
+fn first_object(vars: &[Var], var: u8) -> u16
+    requires vars { IsTrue (are_vars vars.now) }
+    requires there { var < length vars.now }
+    ensures { result ≡ first_object vars.now var }
+{
+    let mut first = 0;
+    for var in &vars[..usize::from(var)] {
+        first += var.parts as u16;
+    }
+    first
 }
 
 /// How many parts a variable has; 0 where it isn't there.
@@ -92,8 +116,8 @@ fn parts(vars: &[Var], var: u8) -> u32
 }
 
 /// The part that a place means at task `turn` of its stage.
+#[tactic(auto, using(crate::proofs::Whole::plus_part))]
 fn part(place: Place, turn: u32, parts: u32) -> u32
-    requires place { IsTrue (is_place true place) }
     requires turn { turn < 64 }
     requires parts { 1 ≤ parts }
     ensures part { result ≡ part_of place turn parts }
@@ -103,7 +127,7 @@ fn part(place: Place, turn: u32, parts: u32) -> u32
     let turn = u64::from(turn);
     let part = match place {
         Place::Fixed(number) => number % parts,
-        Place::Plus(number) => (turn + number) % parts,
+        Place::Plus(number) => (turn + number % parts) % parts,
         Place::Minus(number) => (turn + (parts - number % parts)) % parts,
     };
     part as u32

@@ -1,38 +1,9 @@
 -- Numbers counted from 0 one by one, and tests of lists.
-use Rattle.std.proofs.Common.{◌≡◌, ℕ, zero, suc, ◌+◌, ◌<◌, Bool, true, false, List, [], ◌∷◌, ◌++◌, length, map, get_or, refl, ap, ap₂, sym, ◌∙◌, arith}
+use Rattle.std.proofs.Common.{◌≡◌, ℕ, ◌+◌, Bool, true, false, List, [], ◌∷◌, ◌++◌, map, refl, ap, ap₂, sym, ◌∙◌, arith}
 use Rattle.std.specs.Prelude.{◌&&◌, ◌||◌, if◌then◌else◌}
-use Rattle.std.specs.List.{filter, list_all, list_any, range_with_len}
-use Rattle.std.proofs.lemmas.Bool.{and_from, both_ways, false_from_ne_true}
-use Rattle.std.proofs.lemmas.List.Folds.{list_all-append}
-use Rattle.std.proofs.lemmas.List.FromFn.{length-range_with_len, get_or-range_with_len, map-range_with_len_more}
-use Rattle.nim_job.proofs.Lists.{list_all_item}
-
-range_suc : (a n : ℕ) → range_with_len a (suc n) ≡ range_with_len a n ++ (a + n) ∷ []
-range_suc a zero = let same : a ≡ a + 0 = omega arith in ap (λ (x : ℕ). x ∷ []) same
-range_suc a (suc n) =
-    let same : a + 1 + n ≡ a + suc n = omega arith in
-    ap (λ (xs : List ℕ). a ∷ xs) (range_suc (a + 1) n ∙ ap (λ (x : ℕ). range_with_len (a + 1) n ++ x ∷ []) same)
-
--- one more number
-pub range_more : (n : ℕ) → range_with_len 0 (n + 1) ≡ range_with_len 0 n ++ n ∷ []
-range_more n =
-    let next : n + 1 ≡ suc n = omega arith in
-    let same : 0 + n ≡ n = omega arith in
-    ap (range_with_len 0) next ∙ range_suc 0 n ∙ ap (λ (x : ℕ). range_with_len 0 n ++ x ∷ []) same
-
-pub all_more : (p : ℕ → Bool) (n : ℕ) → list_all p (range_with_len 0 n) ≡ true → p n ≡ true → list_all p (range_with_len 0 (n + 1)) ≡ true
-all_more p n before here =
-    ap (list_all p) (range_more n) ∙ list_all-append p (range_with_len 0 n) (n ∷ [])
-    ∙ and_from (list_all p (range_with_len 0 n)) (list_all p (n ∷ [])) before (and_from (p n) true here refl)
-
--- one number fails the test
-pub all_not : (p : ℕ → Bool) (n k : ℕ) → k < n → p k ≡ false → false ≡ list_all p (range_with_len 0 n)
-all_not p n k within fails =
-    sym (false_from_ne_true (list_all p (range_with_len 0 n))
-    (λ all. let within_range : k < length (range_with_len 0 n) = omega (arith, length-range_with_len 0 n) in
-    let same : k ≡ get_or (range_with_len 0 n) k k = sym (get_or-range_with_len 0 n k k within ∙ omega arith) in
-    let passes : p k ≡ true = list_all_item p (range_with_len 0 n) k k all within_range same in
-    both_ways (p k) fails passes))
+use Rattle.std.specs.List.{filter, list_any, range_with_len}
+use Rattle.std.proofs.lemmas.List.FromFn.{map-range_with_len_more}
+pub use Rattle.nim_job.proofs.Lists.{all_more, all_not, range_more}
 
 -- one more item of a function of the numbers from 0 is pushed
 pub pushed : {A : Type 0} (f : ℕ → A) (old next : List A) (item : A) (n : ℕ) → next ≡ old ++ item ∷ [] → old ≡ map f (range_with_len 0 n) → item ≡ f n → next ≡ map f (range_with_len 0 (n + 1))

@@ -1,10 +1,10 @@
 -- What a Run of a whole job reads and leaves, where the slots have what they hold.
 use Rattle.std.proofs.Common.{◌≡◌, ℕ, ◌-◌, ◌<◌, ◌≤◌, suc, zero, Bool, true, false, ℤ, List, [], ◌∷◌, length, map, refl, ap, ap₂, sym, subst, ◌∙◌, arith, Option, None, Some}
-use Rattle.std.specs.Prelude.{◌==◌, ◌&&◌, ◌||◌, nat_lt, slice_get, slice_set, IsSomeAnd}
+use Rattle.std.specs.Prelude.{◌==◌, not, ◌||◌, nat_lt, slice_get, slice_set, IsSomeAnd}
 use Rattle.std.specs.List.{AllZip, list_all, list_any}
 use Rattle.std.specs.Option.{option_map_or}
 use Rattle.std.proofs.Math.Path.{fun_ext}
-use Rattle.std.proofs.lemmas.Bool.{and_from, and_parts, both_ways, eq-eqb, eqb-true, ltb-true, or_left, or_right}
+use Rattle.std.proofs.lemmas.Bool.{and_from, and_parts, both_ways, not-true, eq-eqb, eqb-true, ltb-true, or_left, or_right}
 use Rattle.std.proofs.lemmas.Bool.Decides.{nat_tests}
 use Rattle.std.proofs.lemmas.List.{get_or-set_same, length-map, length-set}
 use Rattle.std.proofs.lemmas.Option.{slice_get_within}
@@ -12,7 +12,7 @@ use Rattle.nim_base.specs.declared.number.Object.{Object}
 use Rattle.nim_base.specs.declared.number.Shape.{Shape}
 use Rattle.nim_base.specs.declared.number.Slot.{Slot}
 use Rattle.nim_base.specs.declared.task.Func.{Func}
-use Rattle.nim_base.specs.declared.task.Func.TheVariants.{Addc, Split}
+use Rattle.nim_base.specs.declared.task.Func.TheVariants.{Split}
 use Rattle.nim_base.specs.declared.task.Task.{Task}
 use Rattle.nim_base.specs.Apply.{apply_of, fit_all, has_counts, results_of, writes_of}
 use Rattle.nim_base.specs.Value.{Grid, empty_grid}
@@ -25,7 +25,7 @@ use Rattle.nim_job.specs.Objects.{objects_of, shape_at, shapes_of, value_at}
 use Rattle.nim_job.specs.Serial.{tasks_of}
 use Rattle.nim_job.specs.Step.{written}
 use Rattle.nim_job.specs.Versions.{is_written, read_version, values_after, version_value}
-use Rattle.nim_job.specs.Whole.{has_counts as has_task_counts, is_object, is_task, is_var, is_whole}
+use Rattle.nim_job.specs.Whole.{are_distinct, is_object, is_task, is_var, is_whole}
 use Rattle.nim_job.proofs.FewTasks.{few_tasks, tasks_fit}
 use Rattle.nim_job.proofs.TaskLeaves.{length-values, task_leaves}
 use Rattle.nim_job.proofs.Versions.{written_other}
@@ -36,11 +36,6 @@ use Rattle.nim_worker.specs.declared.held.Held.{Held}
 use Rattle.nim_worker.specs.Kept.{content_seen, fitting_shape, held_at, results_for, seen}
 use Rattle.nim_worker.specs.Right.{values_read}
 use Rattle.nim_worker.proofs.TrueSlots.{IsTrueTo, IsVersionOf, fitting_there, reads_true}
-
--- the counts of a job's task are its function's
-counts_known : (func : Func) (params reads writes : ℕ) → has_task_counts func params reads writes ≡ true → (has_counts func params reads writes ≡ true) × (writes ≡ 1)
-counts_known Addc params reads writes is = (grind (arith, nat_tests), grind (arith, nat_tests))
-counts_known func params reads writes is = absurd (both_ways false refl is)
 
 -- as many results as the function has
 length-results : (func : Func) (params : List ℤ) (reads : List Grid) (shape : Shape) → length (results_of func params reads shape) ≡ writes_of func
@@ -84,10 +79,11 @@ abbrev AreDistinct : List Object → Type 0
 AreDistinct [] = Unit {0}
 AreDistinct (object ∷ objects) = (list_any (λ (o : Object). o.0 == object.0) objects ≡ false) × AreDistinct objects
 
-one_distinct : (objects : List Object) → length objects ≡ 1 → AreDistinct objects
-one_distinct [] one = absurd cc
-one_distinct (o ∷ []) one = (refl, tt)
-one_distinct (o ∷ (p ∷ objects)) one = absurd (omega (arith, one))
+distinct_from : (objects : List Object) → are_distinct objects ≡ true → AreDistinct objects
+distinct_from [] are = tt
+distinct_from (object ∷ objects) are =
+    let parts = and_parts (not (list_any (λ (o : Object). o.0 == object.0) objects)) (are_distinct objects) are in
+    (not-true (list_any (λ (o : Object). o.0 == object.0) objects) parts.0, distinct_from objects parts.1)
 
 -- what is written into objects is right where it is what they hold then
 writes_right : (job : Job) (version : ℕ) (slots : List Slot) (grids values : List Grid) → length slots ≡ length grids → AreDistinct (map object_of slots)
@@ -151,6 +147,11 @@ values_before job position task =
     fun_ext (λ object. sym (reads_versions job position object)) in
     ap (λ (f : Object → Grid). map f task.reads) same
 
+-- what a task that fits gives
+task_parts : (objects : ℕ) (task : Task) → is_task objects task ≡ true → (has_counts task.func (length task.params) (length task.reads) (length task.writes) ≡ true)
+    × (list_all (is_object objects) task.writes ≡ true) × (are_distinct task.writes ≡ true)
+task_parts objects task fit = grind (arith, nat_tests)
+
 -- a Run of a task that is there, where the slots have what they hold
 run_of : (job : Job) (now : Slot → Option Held) (before : Slot → Content) (position : ℕ) (func : Func) (params : List ℤ) (reads writes : List Slot) (task : Task)
     → is_whole job ≡ true → ((s : Slot) → IsTrueTo job (now s) (before s)) → slice_get (tasks_of job) position ≡ Some task
@@ -159,9 +160,7 @@ run_of job now before position func params reads writes task whole are there run
     let vars = (vars_sizes job.vars (whole_vars job whole)).1 in
     let objects = objects_of job.vars in
     let fit : is_task objects task ≡ true = item_passes (is_task objects) (tasks_of job) position task (tasks_fit job whole) there in
-    let front = and_parts (has_task_counts task.func (length task.params) (length task.reads) (length task.writes) && list_all (is_object objects) task.reads) (list_all (is_object objects) task.writes) fit in
-    let known = counts_known task.func (length task.params) (length task.reads) (length task.writes)
-    (and_parts (has_task_counts task.func (length task.params) (length task.reads) (length task.writes)) (list_all (is_object objects) task.reads) front.0).0 in
+    let known = task_parts objects task fit in
     let many_reads : length task.reads ≡ length reads =
     sym (length-map task.reads _) ∙ sym (length-map (reads_at job position task) _) ∙ sym (ap length run.reads) ∙ length-map reads before in
     let many_writes : length task.writes ≡ length writes = sym (ap length run.writes) ∙ length-map writes object_of in
@@ -169,7 +168,7 @@ run_of job now before position func params reads writes task whole are there run
     ap₂ (λ (f : Func) (ps : List ℤ). has_counts f (length ps) (length reads) (length writes)) run.func run.params
     ∙ ap₂ (λ (r w : ℕ). has_counts task.func (length task.params) r w) (sym many_reads) (sym many_writes) ∙ known.0 in
     let read = reads_true job position now before reads task.reads are run.reads in
-    let written_there : list_all (is_object objects) (map object_of writes) ≡ true = ap (list_all (is_object objects)) run.writes ∙ front.1 in
+    let written_there : list_all (is_object objects) (map object_of writes) ≡ true = ap (list_all (is_object objects)) run.writes ∙ known.1 in
     let results = results_for (shapes_of job.vars) func params reads writes now in
     let many_results : length writes ≡ length results =
     sym (length-apply func params (map (λ slot. (seen now slot).value) reads) (map (fitting_shape (shapes_of job.vars)) writes)
@@ -188,7 +187,7 @@ run_of job now before position func params reads writes task whole are there run
       contents = read.0;
       values = read.1;
       left = writes_right job (version_after position) writes results (values_after job position) many_results
-          (one_distinct (map object_of writes) (ap length run.writes ∙ known.1))
+          (distinct_from (map object_of writes) (ap are_distinct run.writes ∙ known.2))
           (subst (λ (n : ℕ). list_all (is_object n) (map object_of writes) ≡ true) (sym (length-values job position whole)) written_there)
           (λ o among. version_there job position (version_after position) task o next there (among_there objects (map object_of writes) o written_there among)
           (ap (list_any (λ (p : Object). p.0 == o.0)) (sym run.writes) ∙ among))

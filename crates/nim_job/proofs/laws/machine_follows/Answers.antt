@@ -14,7 +14,7 @@ pub returns-clause-outputs : goal.returns-clause-outputs
 returns-clause-outputs c = append_follows c.args.job.now
 
 pub returns-clause-finished : goal.returns-clause-finished
-returns-clause-finished c = λ n. finished_ends c.args.job.now n c.requires.whole
+returns-clause-finished c = λ n. finished_ends c.args.job.now n c.requires.plain
 
 pub returns-clause-limit : goal.returns-clause-limit
 returns-clause-limit c = record { counted = limit_reached c.args.job.now; printed = full_ends c.args.job.now }
