@@ -6,9 +6,8 @@ mod plain;
 mod statements;
 mod vars;
 
-pub use blocks::has_distinct;
-
 use crate::Job;
+pub use blocks::has_distinct;
 
 /// Whether a job is whole but that loaded values may be missing. Its meaning is `is_checked` of `specs/Whole.antt`.
 /// Takes no memory.
