@@ -1,7 +1,6 @@
 -- Each value fits its shape, after each task: at most so many rows, none longer than the width.
 use Rattle.std.proofs.Common.{◌≡◌, ℕ, ◌≤◌, zero, suc, true, ℤ, List, [], ◌∷◌, ◌++◌, length, map, take, drop, replicate, get_or, set, sym, subst, arith}
 use Rattle.std.specs.List.{AllZip, list_all}
-use Rattle.std.proofs.lemmas.Bool.Decides.{nat_tests}
 use Rattle.std.proofs.lemmas.List.{length-map, length-replicate, length-take}
 use Rattle.std.proofs.lemmas.List.Elements.{All-map, All-replicate}
 use Rattle.nim_base.specs.declared.number.Object.{Object}
@@ -18,7 +17,7 @@ use Rattle.nim_job.specs.declared.job.Var.{Var}
 use Rattle.nim_job.specs.Objects.{initial_parts, initial_values, shape_at, shapes_of, value_at}
 use Rattle.nim_job.specs.Serial.{driver_at, tasks_before}
 use Rattle.nim_job.specs.Step.{after_task, after_tasks, written}
-use Rattle.nim_job.specs.Whole.{is_init, is_var}
+use Rattle.nim_job.specs.Whole.{is_plain_init}
 use Rattle.nim_job.proofs.Versions.{moved}
 use Rattle.nim_top.proofs.Lengths.{AreRows}
 use Rattle.nim_top.proofs.NoLimit.{and_there}
@@ -90,21 +89,18 @@ replicate_fits : (n : ℕ) (shape : Shape) (grid : Grid) (shapes : List Shape) (
 replicate_fits zero shape grid shapes values new fits = fits
 replicate_fits (suc n) shape grid shapes values new fits = (new, replicate_fits n shape grid shapes values new fits)
 
-parts_fit : (v : Var) (init : Init) (shapes : List Shape) (values : List Grid) → is_init init ≡ true → Fit shapes values
+parts_fit : (v : Var) (init : Init) (shapes : List Shape) (values : List Grid) → is_plain_init init ≡ true → Fit shapes values
     → Fit (replicate v.parts v.shape ++ shapes) (initial_parts v init ++ values)
 parts_fit v (Fill number) shapes values is fits = replicate_fits v.parts v.shape (filled v.shape number) shapes values (filled_fits v.shape number) fits
 parts_fit v Iota shapes values is fits = absurd (cc)
 parts_fit v (Loaded grids) shapes values is fits = absurd (cc)
 
-var_init : (v : Var) → is_var v ≡ true → is_init v.init ≡ true
-var_init v is = grind (arith, nat_tests)
-
 -- at first each value fits
-initial_fit : (vars : List Var) → list_all is_var vars ≡ true → Fit (shapes_of vars) (initial_values vars)
+initial_fit : (vars : List Var) → list_all (λ v. is_plain_init v.init) vars ≡ true → Fit (shapes_of vars) (initial_values vars)
 initial_fit [] all = tt
 initial_fit (v ∷ vars) all =
-    let both = and_there (is_var v) (list_all is_var vars) all in
-    parts_fit v v.init (shapes_of vars) (initial_values vars) (var_init v both.0) (initial_fit vars both.1)
+    let both = and_there (is_plain_init v.init) (list_all (λ v. is_plain_init v.init) vars) all in
+    parts_fit v v.init (shapes_of vars) (initial_values vars) both.0 (initial_fit vars both.1)
 
 -- and so do some of them
 pub take_fits : (n : ℕ) (shapes : List Shape) (values : List Grid) → Fit shapes values → Fit (take n shapes) (take n values)
@@ -122,7 +118,7 @@ drop_fits (suc n) (shape ∷ shapes) [] fits = absurd fits
 drop_fits (suc n) (shape ∷ shapes) (value ∷ values) fits = drop_fits n shapes values fits.1
 
 -- each value fits its shape after each step
-pub values_fit : (job : Job) (n : ℕ) → list_all is_var job.vars ≡ true → Fit (shapes_of job.vars) (driver_at job n).values
+pub values_fit : (job : Job) (n : ℕ) → list_all (λ v. is_plain_init v.init) job.vars ≡ true → Fit (shapes_of job.vars) (driver_at job n).values
 values_fit job n all =
     subst (λ (values : List Grid). Fit (shapes_of job.vars) values) (sym (moved job n).0)
     (tasks_fit (shapes_of job.vars) (initial_values job.vars) (tasks_before job n) (initial_fit job.vars all))

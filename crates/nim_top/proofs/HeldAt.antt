@@ -1,6 +1,6 @@
 -- What main slots hold after each order, and that the orders may be given.
-use Rattle.std.proofs.Common.{◌≡◌, ℕ, ◌+◌, ◌<◌, ◌≤◌, suc, zero, Bool, true, false, ℤ, List, [], ◌∷◌, ◌++◌, length, get_or, map, take, replicate, refl, ap, ap₂, sym, subst, ◌∙◌, arith, add-one, Option, None, Some}
-use Rattle.std.specs.Prelude.{◌==◌, ◌%◌, ◌&&◌, ◌||◌, if◌then◌else◌, slice_get, IsSomeAnd}
+use Rattle.std.proofs.Common.{◌≡◌, ◌≢◌, ℕ, ◌+◌, ◌<◌, ◌≤◌, suc, zero, Bool, true, false, ℤ, List, [], ◌∷◌, ◌++◌, length, get_or, map, take, replicate, refl, ap, ap₂, sym, subst, ◌∙◌, arith, add-one, Option, None, Some}
+use Rattle.std.specs.Prelude.{◌==◌, ◌%◌, ◌&&◌, ◌||◌, if◌then◌else◌, slice_get, IfSome, IsSomeAnd}
 use Rattle.std.specs.List.{list_all, list_any}
 use Rattle.std.specs.Option.{option_map_or}
 use Rattle.std.proofs.lemmas.Bool.{and_parts, both_ways, eqb-false, eqb-true, ltb-true}
@@ -27,10 +27,10 @@ use Rattle.nim_job.specs.Objects.{initial_parts, initial_values, objects_of, sha
 use Rattle.nim_job.specs.Serial.{tasks_of}
 use Rattle.nim_job.specs.Tasks.{block_forms_of, block_tasks_of, forms_of, task_of}
 use Rattle.nim_job.specs.Versions.{is_written, read_version, values_after, version_value}
-use Rattle.nim_job.specs.Whole.{has_counts, is_init, is_object, is_task, is_var, is_whole}
+use Rattle.nim_job.specs.Whole.{is_object, is_plain, is_plain_init, is_task, is_whole}
 use Rattle.nim_job.proofs.FewTasks.{few_tasks, tasks_fit}
 use Rattle.nim_job.proofs.Versions.{reads_versions}
-use Rattle.nim_job.proofs.Whole.{vars_sizes, whole_vars}
+use Rattle.nim_job.proofs.Whole.{plain_inits, vars_sizes, whole_vars}
 use Rattle.nim_message.specs.declared.order.ToWorker.{ToWorker}
 use Rattle.nim_message.specs.declared.report.FromWorker.{FromWorker}
 use Rattle.nim_message.specs.declared.report.FromWorker.TheVariants.{Value}
@@ -66,22 +66,19 @@ times_filled zero shape n numbers shapes values k number rest is = rest k is
 times_filled (suc p) shape n numbers shapes values zero number rest is = let same : n ≡ number = cc in ap (λ (m : ℤ). Some (filled shape m)) same
 times_filled (suc p) shape n numbers shapes values (suc k) number rest is = times_filled p shape n numbers shapes values k number rest is
 
-var_init : (v : Var) → is_var v ≡ true → is_init v.init ≡ true
-var_init v is = grind (arith, nat_tests)
-
-var_filled : (v : Var) (init : Init) (numbers : List ℤ) (shapes : List Shape) (values : List Grid) (k : ℕ) (number : ℤ) → is_init init ≡ true
+var_filled : (v : Var) (init : Init) (numbers : List ℤ) (shapes : List Shape) (values : List Grid) (k : ℕ) (number : ℤ) → is_plain_init init ≡ true
     → ((j : ℕ) → slice_get numbers j ≡ Some number → IsSomeAnd (slice_get shapes j) (λ s. slice_get values j ≡ Some (filled s number)))
     → slice_get (replicate v.parts (number_of init) ++ numbers) k ≡ Some number
     → IsSomeAnd (slice_get (replicate v.parts v.shape ++ shapes) k) (λ s. slice_get (initial_parts v init ++ values) k ≡ Some (filled s number))
 var_filled v (Fill n) numbers shapes values k number is rest at = times_filled v.parts v.shape n numbers shapes values k number rest at
 var_filled v init numbers shapes values k number is rest at = absurd (both_ways false refl is)
 
-all_filled : (vars : List Var) (k : ℕ) (number : ℤ) → list_all is_var vars ≡ true → slice_get (numbers_of vars) k ≡ Some number
+all_filled : (vars : List Var) (k : ℕ) (number : ℤ) → list_all (λ v. is_plain_init v.init) vars ≡ true → slice_get (numbers_of vars) k ≡ Some number
     → IsSomeAnd (slice_get (shapes_of vars) k) (λ s. slice_get (initial_values vars) k ≡ Some (filled s number))
 all_filled [] k number all is = let none : None ≡ Some number = sym (slice_get_past (numbers_of []) k (omega arith)) ∙ is in absurd cc
 all_filled (v ∷ vars) k number all is =
-    let parts = and_parts (is_var v) (list_all is_var vars) all in
-    var_filled v v.init (numbers_of vars) (shapes_of vars) (initial_values vars) k number (var_init v parts.0) (λ j at. all_filled vars j number parts.1 at) is
+    let parts = and_parts (is_plain_init v.init) (list_all (λ v. is_plain_init v.init) vars) all in
+    var_filled v v.init (numbers_of vars) (shapes_of vars) (initial_values vars) k number parts.0 (λ j at. all_filled vars j number parts.1 at) is
 
 -- a worker that was only told to begin
 pub begins_held : (job : Job) (core : WorkerCore) (order : ToWorker) → order ≡ reset_of (shapes_of job.vars) → Stands core None (order ∷ []) (done_after order 0) → HoldsAt job core 0 0
@@ -109,11 +106,11 @@ pub number_few : (job : Job) (k : ℕ) (number : ℤ) → is_whole job ≡ true 
 number_few job k number whole is = omega (arith, slice_get_within (numbers_of job.vars) k number is, length_numbers job.vars, objects_few job whole)
 
 -- each object may be filled by its number
-pub create_legal : (job : Job) (slots : Slot → Content) (object : Object) (number : ℤ) → is_whole job ≡ true → object.0 < 512 → slice_get (numbers_of job.vars) object.0 ≡ Some number
+pub create_legal : (job : Job) (slots : Slot → Content) (object : Object) (number : ℤ) → is_plain job ≡ true → object.0 < 512 → slice_get (numbers_of job.vars) object.0 ≡ Some number
     → IsLegalKind job slots (create_of object number)
-create_legal job slots object number whole below is =
+create_legal job slots object number plain below is =
     subst (λ (o : Object). IsSomeAnd (slice_get (shapes_of job.vars) o.0) (λ shape. slice_get (initial_values job.vars) o.0 ≡ Some (created shape false number)))
-    (sym (main_of object below)) (all_filled job.vars object.0 number (vars_sizes job.vars (whole_vars job whole)).1 is)
+    (sym (main_of object below)) (all_filled job.vars object.0 number (plain_inits job plain) is)
 
 -- one object more holds its first version
 pub create_held : (job : Job) (old new : WorkerCore) (object : Object) (number : ℤ) → object.0 < 512 → (h : HoldsAt job old object.0 0)
@@ -175,21 +172,22 @@ mains_of n (o ∷ objects) few are =
     let parts = and_parts (is_object n o) (list_all (is_object n) objects) are in
     ap₂ (λ (p : Object) (ps : List Object). p ∷ ps) (main_of o (omega (arith, few, ltb-true o.0 n parts.0))) (mains_of n objects few parts.1)
 
+task_objects : (n : ℕ) (task : Task) → is_task n task ≡ true → (list_all (is_object n) task.reads ≡ true) × (list_all (is_object n) task.writes ≡ true)
+task_objects n task fit = grind (arith, nat_tests)
+
 -- the task at the position may be run
 pub run_legal : (job : Job) (core : WorkerCore) (position : ℕ) (task : Task) → is_whole job ≡ true → slice_get (tasks_of job) position ≡ Some task → (h : WorksAt job core position)
     → IsLegalKind job h.slots (run_of position task)
 run_legal job core position task whole there h =
     let n = objects_of job.vars in
     let fit : is_task n task ≡ true = task_passes (is_task n) (tasks_of job) position task (tasks_fit job whole) there in
-    let counts = has_counts task.func (length task.params) (length task.reads) (length task.writes) in
-    let front = and_parts (counts && list_all (is_object n) task.reads) (list_all (is_object n) task.writes) fit in
-    let reads = (and_parts counts (list_all (is_object n) task.reads) front.0).1 in
+    let objects = task_objects n task fit in
     subst (λ (t : Option Task). IsSomeAnd t (IsRunOf job h.slots position task.func task.params (map main_slot task.reads) (map main_slot task.writes))) (sym there)
     (record {
       func = refl;
       params = refl;
-      reads = reads_held job core position h task.reads reads;
-      writes = mains_of n task.writes (objects_few job whole) front.1;
+      reads = reads_held job core position h task.reads objects.0;
+      writes = mains_of n task.writes (objects_few job whole) objects.1;
     })
 
 some_apart : {X : Type 0} (x : X) → Some x ≡ None → ⊥

@@ -18,7 +18,7 @@ use Rattle.nim_job.specs.Machine.{Machine, after_ask, ask_of, items_ask, items_a
 use Rattle.nim_job.specs.Serial.{is_nil}
 use Rattle.nim_job.specs.Step.{State, item_tasks, stmt_tasks}
 use Rattle.nim_job.specs.Tasks.{takes_of}
-use Rattle.nim_job.specs.Whole.{is_stmt, is_stmt_out}
+use Rattle.nim_job.specs.Whole.{is_plain_out, is_plain_stmt}
 
 -- whether something is asked for
 abbrev pub goes_on : Ask → Bool
@@ -77,48 +77,48 @@ IsAllowed job block args = (block < length job.blocks) × (length args ≡ takes
 
 block_allowed : (job : Job) (block count : ℕ) (found : Option Block) → slice_get job.blocks block ≡ found → option_map_or (λ (b : Block). count == b.args) found false ≡ true
     → (block < length job.blocks) × (count ≡ option_map_or (λ (b : Block). b.args) found 0)
-block_allowed job block count None is whole = absurd (both_ways false refl whole)
-block_allowed job block count (Some b) is whole = (slice_get_within job.blocks block b is, eqb-true count b.args whole)
+block_allowed job block count None is plain = absurd (both_ways false refl plain)
+block_allowed job block count (Some b) is plain = (slice_get_within job.blocks block b is, eqb-true count b.args plain)
 
 do_allowed : (job : Job) (block : ℕ) (count : ℕ) → option_map_or (λ (b : Block). count == b.args) (slice_get job.blocks block) false ≡ true → (block < length job.blocks) × (count ≡ takes_of job block)
-do_allowed job block count whole = block_allowed job block count (slice_get job.blocks block) refl whole
+do_allowed job block count plain = block_allowed job block count (slice_get job.blocks block) refl plain
 
-stmt_allowed : (job : Job) (scalars : List ℤ) (stmt : Stmt-F Stmt) (b : Bool) (block : ℕ) (args : List ℤ) → is_stmt_out job stmt ≡ true → (if b then Ask.Limit else stmt_ask scalars stmt) ≡ Ask.Run block args → IsAllowed job block args
-stmt_allowed job scalars (Stmt-F.Do block' args') false block args whole is =
+stmt_allowed : (job : Job) (scalars : List ℤ) (stmt : Stmt-F Stmt) (b : Bool) (block : ℕ) (args : List ℤ) → is_plain_out job stmt ≡ true → (if b then Ask.Limit else stmt_ask scalars stmt) ≡ Ask.Run block args → IsAllowed job block args
+stmt_allowed job scalars (Stmt-F.Do block' args') false block args plain is =
     let same : block' ≡ block = cc in
     let given : map (atom_of scalars) args' ≡ args = cc in
-    let there = do_allowed job block' (length args') whole in (
+    let there = do_allowed job block' (length args') plain in (
       omega (arith, there.0, same),
       sym (ap length given) ∙ length-map args' (atom_of scalars) ∙ there.1 ∙ ap (takes_of job) same,
     )
-stmt_allowed job scalars (Stmt-F.Output var) false block args whole is = absurd cc
-stmt_allowed job scalars stmt false block args whole is = absurd (both_ways false refl whole)
-stmt_allowed job scalars stmt true block args whole is = absurd cc
+stmt_allowed job scalars (Stmt-F.Output var) false block args plain is = absurd cc
+stmt_allowed job scalars stmt false block args plain is = absurd (both_ways false refl plain)
+stmt_allowed job scalars stmt true block args plain is = absurd cc
 
 -- the variable that is asked for is there
-stmt_prints : (job : Job) (scalars : List ℤ) (stmt : Stmt-F Stmt) (b : Bool) (var : ℕ) → is_stmt_out job stmt ≡ true → (if b then Ask.Limit else stmt_ask scalars stmt) ≡ Ask.Output var → var < length job.vars
-stmt_prints job scalars (Stmt-F.Output var') false var whole is =
-    let same : var' ≡ var = cc in omega (arith, ltb-true var' (length job.vars) whole, same)
-stmt_prints job scalars (Stmt-F.Do block args) false var whole is = absurd cc
-stmt_prints job scalars stmt false var whole is = absurd (both_ways false refl whole)
-stmt_prints job scalars stmt true var whole is = absurd cc
+stmt_prints : (job : Job) (scalars : List ℤ) (stmt : Stmt-F Stmt) (b : Bool) (var : ℕ) → is_plain_out job stmt ≡ true → (if b then Ask.Limit else stmt_ask scalars stmt) ≡ Ask.Output var → var < length job.vars
+stmt_prints job scalars (Stmt-F.Output var') false var plain is =
+    let same : var' ≡ var = cc in omega (arith, ltb-true var' (length job.vars) plain, same)
+stmt_prints job scalars (Stmt-F.Do block args) false var plain is = absurd cc
+stmt_prints job scalars stmt false var plain is = absurd (both_ways false refl plain)
+stmt_prints job scalars stmt true var plain is = absurd cc
 
--- whether an item is a statement that a whole job may have
+-- whether an item is a statement that a plain job may have
 abbrev pub is_item : Job → Item → Bool
-is_item job (Run stmt) = is_stmt job stmt
+is_item job (Run stmt) = is_plain_stmt job stmt
 is_item job (Again turns body) = false
 
 pub items_allowed : (job : Job) (m : Machine) (items : List Item) (block : ℕ) (args : List ℤ) → list_all (is_item job) items ≡ true → items_ask m items ≡ Ask.Run block args → IsAllowed job block args
-items_allowed job m [] block args whole is = absurd cc
-items_allowed job m (Run stmt ∷ rest) block args whole is =
-    stmt_allowed job m.driver.scalars (out-Stmt stmt) (nat_le m.steps m.driver.count) block args (and_parts (is_stmt job stmt) (list_all (is_item job) rest) whole).0 is
-items_allowed job m (Again turns body ∷ rest) block args whole is = absurd (both_ways false refl (and_parts false (list_all (is_item job) rest) whole).0)
+items_allowed job m [] block args plain is = absurd cc
+items_allowed job m (Run stmt ∷ rest) block args plain is =
+    stmt_allowed job m.driver.scalars (out-Stmt stmt) (nat_le m.steps m.driver.count) block args (and_parts (is_plain_stmt job stmt) (list_all (is_item job) rest) plain).0 is
+items_allowed job m (Again turns body ∷ rest) block args plain is = absurd (both_ways false refl (and_parts false (list_all (is_item job) rest) plain).0)
 
 pub items_var : (job : Job) (m : Machine) (items : List Item) (var : ℕ) → list_all (is_item job) items ≡ true → items_ask m items ≡ Ask.Output var → var < length job.vars
-items_var job m [] var whole is = absurd cc
-items_var job m (Run stmt ∷ rest) var whole is =
-    stmt_prints job m.driver.scalars (out-Stmt stmt) (nat_le m.steps m.driver.count) var (and_parts (is_stmt job stmt) (list_all (is_item job) rest) whole).0 is
-items_var job m (Again turns body ∷ rest) var whole is = absurd (both_ways false refl (and_parts false (list_all (is_item job) rest) whole).0)
+items_var job m [] var plain is = absurd cc
+items_var job m (Run stmt ∷ rest) var plain is =
+    stmt_prints job m.driver.scalars (out-Stmt stmt) (nat_le m.steps m.driver.count) var (and_parts (is_plain_stmt job stmt) (list_all (is_item job) rest) plain).0 is
+items_var job m (Again turns body ∷ rest) var plain is = absurd (both_ways false refl (and_parts false (list_all (is_item job) rest) plain).0)
 
 -- an output runs no task
 stmt_quiet : (job : Job) (state : State) (scalars : List ℤ) (stmt : Stmt-F Stmt) (b : Bool) (var : ℕ) → (if b then Ask.Limit else stmt_ask scalars stmt) ≡ Ask.Output var → stmt_tasks job state stmt ≡ []

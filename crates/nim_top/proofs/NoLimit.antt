@@ -13,7 +13,7 @@ use Rattle.nim_top.specs.declared.first_path.layout.Layout.{Layout}
 use Rattle.nim_top.specs.FirstPath.{all_of, are_few_cells, block_job, block_letter, body_of, built, checked, do_form, driver_job, driver_limit, is_distinct, is_laid_out, job_from, job_of, layout_of, letter_of, line_at, output_var, stage_of, var_of, vars_job}
 use Rattle.nim_job.specs.Driver.{output_limit}
 use Rattle.nim_job.specs.Serial.{driver_at, is_limit, is_nil}
-use Rattle.nim_job.specs.Whole.{is_whole}
+use Rattle.nim_job.specs.Whole.{is_plain}
 use Rattle.nim_top.proofs.Limits.{none_after}
 
 -- the parts of an answer that is there
@@ -64,15 +64,15 @@ instances_taken letter (piece ∷ pieces) e =
     let sum = sum_by-cons taken piece pieces in
     omega (arith, here, later, sum)
 
--- a job that is checked is whole and has few cells
-pub checked_is : (letter : ℕ) (made job : Job) → checked letter made ≡ Some job → (made ≡ job) × (is_whole job ≡ true) × (are_few_cells job.vars ≡ true)
+-- a job that is checked is plain and has few cells
+pub checked_is : (letter : ℕ) (made job : Job) → checked letter made ≡ Some job → (made ≡ job) × (is_plain job ≡ true) × (are_few_cells job.vars ≡ true)
 unfolding checked
 checked_is letter made job e =
-    let kept = if_there (is_whole made && are_few_cells made.vars && is_distinct (letter ∷ map letter_of made.vars)) (Some made) job e in
+    let kept = if_there (is_plain made && are_few_cells made.vars && is_distinct (letter ∷ map letter_of made.vars)) (Some made) job e in
     let same : Some made ≡ Some job = kept.1 in
     let is : made ≡ job = cc in
-    let parts = and_there (is_whole made) (are_few_cells made.vars) (and_there (is_whole made && are_few_cells made.vars) (is_distinct (letter ∷ map letter_of made.vars)) kept.0).0 in
-    (is, subst (λ (j : Job). is_whole j ≡ true) is parts.0, subst (λ (j : Job). are_few_cells j.vars ≡ true) is parts.1)
+    let parts = and_there (is_plain made) (are_few_cells made.vars) (and_there (is_plain made && are_few_cells made.vars) (is_distinct (letter ∷ map letter_of made.vars)) kept.0).0 in
+    (is, subst (λ (j : Job). is_plain j ≡ true) is parts.0, subst (λ (j : Job). are_few_cells j.vars ≡ true) is parts.1)
 
 -- the body and the steps of a job that is read
 pub record Body (job : Job) (dos : ℕ) : Type 0 where

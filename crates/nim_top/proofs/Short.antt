@@ -132,5 +132,5 @@ never_limit text job e =
     let steps : suc dos + (1000000 - suc dos) ≡ job.steps = omega (arith, few, made.steps) in
     let printed : (driver_at job job.steps).driver.output ≡ output_of job.vars (driver_at job dos).values made.var =
     subst (λ k. (driver_at job k).driver.output ≡ output_of job.vars (driver_at job dos).values made.var) steps (printed_at job (1000000 - suc dos) dos made.var made.body) in
-    let short = prints_few job.vars (driver_at job dos).values made.var known.letters known.small (values_fit job dos known.small.each) in
+    let short = prints_few job.vars (driver_at job dos).values made.var known.letters known.small (values_fit job dos known.small.inits) in
     limit_is text job e ∙ le-ltb output_limit (length (driver_at job job.steps).driver.output) (omega (arith, short, ap length printed))

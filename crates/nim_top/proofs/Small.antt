@@ -9,8 +9,8 @@ use Rattle.nim_job.specs.declared.job.Init.TheVariants.{Fill}
 use Rattle.nim_job.specs.declared.job.Job.{Job}
 use Rattle.nim_job.specs.declared.job.Var.{Var}
 use Rattle.nim_job.specs.Objects.{objects_of}
-use Rattle.nim_job.specs.Whole.{cells_in, is_var, is_whole}
-use Rattle.nim_job.proofs.Whole.{vars_sizes, whole_vars}
+use Rattle.nim_job.specs.Whole.{cells_in, is_plain, is_plain_init, is_var}
+use Rattle.nim_job.proofs.Whole.{plain_inits, plain_whole, vars_sizes, whole_vars}
 use Rattle.nim_top.specs.declared.first_path.layout.Layout.{Layout}
 use Rattle.nim_top.specs.FirstPath.{all_of, are_few_cells, block_job, block_letter, built, do_form, driver_job, driver_limit, is_laid_out, job_from, job_of, layout_of, line_at, output_var, stage_of, var_form, var_from, var_of, vars_job}
 use Rattle.nim_top.specs.Lines.{Line, has_form, int_of, lines_of, name_of, number_of, word_at}
@@ -26,10 +26,11 @@ name_short [] var all = omega arith
 name_short (v ∷ vars) zero all = All-head IsLetter v vars all
 name_short (v ∷ vars) (suc var) all = name_short vars var (All-tail IsLetter v vars all)
 
--- variables are whole and have few cells
+-- variables are whole and plain, and have few cells
 pub record AreSmall (vars : List Var) : Type 0 where
   pub objects : objects_of vars ≤ 512
   pub each : list_all is_var vars ≡ true
+  pub inits : list_all (λ v. is_plain_init v.init) vars ≡ true
   pub cells : sum_by cells_in vars ≤ 65536
 
 -- what is known of the variables of a job that is read
@@ -37,11 +38,11 @@ pub record Small (job : Job) : Type 0 where
   pub letters : All IsLetter job.vars
   pub small : AreSmall job.vars
 
--- the variables of a whole job of few cells
-sizes : (job : Job) → is_whole job ≡ true → are_few_cells job.vars ≡ true → AreSmall job.vars
-sizes job whole few =
-    let vars = vars_sizes job.vars (whole_vars job whole) in
-    record { objects = vars.0; each = vars.1; cells = leb-true (sum_by cells_in job.vars) 65536 few }
+-- the variables of a plain job of few cells
+sizes : (job : Job) → is_plain job ≡ true → are_few_cells job.vars ≡ true → AreSmall job.vars
+sizes job plain few =
+    let vars = vars_sizes job.vars (whole_vars job (plain_whole job plain)) in
+    record { objects = vars.0; each = vars.1; inits = plain_inits job plain; cells = leb-true (sum_by cells_in job.vars) 65536 few }
 
 map_there : {X Y : Type 0} (f : X → Y) (o : Option X) (y : Y) → option_map f o ≡ Some y → (x : X) × (o ≡ Some x) × (f x ≡ y)
 map_there f None y e = absurd (cc)

@@ -16,8 +16,8 @@ use Rattle.nim_job.specs.Serial.{driver_at, serial_of, tasks_before, tasks_of}
 use Rattle.nim_job.specs.Step.{State, output_of, step, tasks_next}
 use Rattle.nim_job.specs.Tasks.{block_tasks_of, takes_of}
 use Rattle.nim_job.specs.Versions.{values_after}
-use Rattle.nim_job.specs.Whole.{is_whole}
-use Rattle.nim_job.proofs.Follows.{answer_follows, append_follows, finished_ends, full_ends, left_whole, output_prints, run_tasks, starts}
+use Rattle.nim_job.specs.Whole.{is_plain}
+use Rattle.nim_job.proofs.Follows.{answer_follows, append_follows, finished_ends, full_ends, left_plain, output_prints, run_tasks, starts}
 use Rattle.nim_job.proofs.Versions.{keeps_versions, moved, step_moves, tasks_first}
 use Rattle.nim_top.specs.declared.control.Control.{Control}
 use Rattle.nim_top.specs.Runs.{Stands, StandsAt}
@@ -151,27 +151,27 @@ output_goes job m next control later var text stands is printed works stays made
     ]
 
 -- nothing is left to do: the job is done, with what is printed
-pub ends_finished : (job : Job) (m : Machine) (control : Control) → is_whole job ≡ true → Stands job m control → IsWithin m → ask_of m ≡ Ask.Finished
+pub ends_finished : (job : Job) (m : Machine) (control : Control) → is_plain job ≡ true → Stands job m control → IsWithin m → ask_of m ≡ Ask.Finished
     → serial_of job ≡ record { status = 0; bytes = (after_ask m).driver.output }
-ends_finished job m control whole stands within is =
+ends_finished job m control plain stands within is =
     let at = stands.at (finished_open m is) in
     let steps : m.steps ≡ job.steps = ap (λ (k : Machine). k.steps) at.machine in
     let output : m.driver.output ≡ (state_of job m).driver.output = ap (λ (k : Machine). k.driver.output) at.machine in
-    finished_ends job m.driver.count whole (omega (arith, within.counted, steps)) (omega (arith, within.printed, ap length output)) (here job m control Ask.Finished at is)
+    finished_ends job m.driver.count plain (omega (arith, within.counted, steps)) (omega (arith, within.printed, ap length output)) (here job m control Ask.Finished at is)
     ∙ ap (λ (bytes : List ℕ). record { status = 0; bytes = bytes }) (sym (asking_prints_nothing m ∙ output))
 
 -- the block that is asked for is there, and is given as many arguments as it takes
-pub run_allowed : (job : Job) (m : Machine) (control : Control) (block : ℕ) (args : List ℤ) → is_whole job ≡ true → Stands job m control → ask_of m ≡ Ask.Run block args
+pub run_allowed : (job : Job) (m : Machine) (control : Control) (block : ℕ) (args : List ℤ) → is_plain job ≡ true → Stands job m control → ask_of m ≡ Ask.Run block args
     → (block < length job.blocks) × (length args ≡ takes_of job block)
-run_allowed job m control block args whole stands is =
+run_allowed job m control block args plain stands is =
     let at = stands.at (passes m (ap goes_on is)).0 in
-    items_allowed job (machine_at job (state_of job m)) (state_of job m).driver.todo block args (left_whole job m.driver.count whole) (here job m control (Ask.Run block args) at is)
+    items_allowed job (machine_at job (state_of job m)) (state_of job m).driver.todo block args (left_plain job m.driver.count plain) (here job m control (Ask.Run block args) at is)
 
 -- the variable that is asked for is there
-pub output_allowed : (job : Job) (m : Machine) (control : Control) (var : ℕ) → is_whole job ≡ true → Stands job m control → ask_of m ≡ Ask.Output var → var < length job.vars
-output_allowed job m control var whole stands is =
+pub output_allowed : (job : Job) (m : Machine) (control : Control) (var : ℕ) → is_plain job ≡ true → Stands job m control → ask_of m ≡ Ask.Output var → var < length job.vars
+output_allowed job m control var plain stands is =
     let at = stands.at (passes m (ap goes_on is)).0 in
-    items_var job (machine_at job (state_of job m)) (state_of job m).driver.todo var (left_whole job m.driver.count whole) (here job m control (Ask.Output var) at is)
+    items_var job (machine_at job (state_of job m)) (state_of job m).driver.todo var (left_plain job m.driver.count plain) (here job m control (Ask.Output var) at is)
 
 first_position : (job : Job) → (driver_at job 0).position ≡ 0
 unfolding driver_at

@@ -13,7 +13,7 @@ use Rattle.nim_job.specs.declared.job.Init.TheVariants.{Fill}
 use Rattle.nim_job.specs.declared.job.Job.{Job}
 use Rattle.nim_job.specs.declared.job.Var.{Var}
 use Rattle.nim_job.specs.declared.stmt.Stmt.{Stmt, Do, Output}
-use Rattle.nim_job.specs.Whole.{cells_in, is_whole}
+use Rattle.nim_job.specs.Whole.{cells_in, is_plain}
 use Rattle.nim_top.specs.declared.first_path.layout.Layout.{Layout}
 use Rattle.nim_top.specs.Lines.{Line, lines_of, word_at, has_form, is_letter, name_of, number_of, int_of}
 
@@ -137,9 +137,9 @@ built vars letter dos stages var = record {
 abbrev pub are_few_cells : List Var → Bool
 are_few_cells vars = nat_le (sum_by cells_in vars) 65536
 
--- the job, where it is whole, has few cells, and no name stands twice
+-- the job, where it is whole and plain, has few cells, and no name stands twice
 unfoldable pub checked : ℕ → Job → Option Job
-checked letter job = if is_whole job && are_few_cells job.vars && is_distinct (letter ∷ map letter_of job.vars) then Some job else None
+checked letter job = if is_plain job && are_few_cells job.vars && is_distinct (letter ∷ map letter_of job.vars) then Some job else None
 
 -- the job of a driver's parts, where its stages and its output are there
 abbrev pub job_from : List Var → ℕ → ℕ → Option (List Stage) → Option ℕ → Option Job

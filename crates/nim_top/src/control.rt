@@ -8,7 +8,7 @@ ghost use Rattle.nim_job.specs.Serial.{tasks_of};
 ghost use Rattle.nim_job.specs.Step.{output_of};
 ghost use Rattle.nim_job.specs.Tasks.{block_tasks_of, takes_of};
 ghost use Rattle.nim_job.specs.Versions.{values_after};
-ghost use Rattle.nim_job.specs.Whole.{is_whole};
+ghost use Rattle.nim_job.specs.Whole.{is_plain, is_whole};
 ghost use Rattle.nim_message.specs.declared.order.ToWorker.{ToWorker as order_type};
 ghost use Rattle.nim_plan.specs.Legal.{IsLegalKind};
 ghost use Rattle.nim_worker.specs.Stands.{IsReleased, Stands, done_after, may_run, report_in, reports_in};
@@ -52,7 +52,7 @@ pub struct Control {
 impl Control {
     /// A worker whose slots have what all objects hold at first.
     pub fn new(alloc: Global, job: &Job, log: Option<Log>) -> Result<Control, NoMemory>
-        requires whole { IsTrue (is_whole job.now) }
+        requires plain { IsTrue (is_plain job.now) }
         ensures works { IfOk result (λ control. WorksAt job.now control.core 0) }
         ensures position { IfOk result (λ control. control.position ≡ 0) }
         ensures forms { IfOk result (λ control. HasForms job.now control) }
@@ -79,7 +79,7 @@ impl Control {
 
     // Each object's first value, in order.
     fn create_all(&mut self, job: &Job) -> Result<(), NoMemory>
-        requires whole { IsTrue (is_whole job.now) }
+        requires plain { IsTrue (is_plain job.now) }
         requires works { HoldsAt job.now self.old.core 0 0 }
         ensures works { OnOk result (WorksAt job.now self.new.core 0) }
         ensures position { OnOk result (self.new.position ≡ self.old.position) }
@@ -96,7 +96,7 @@ impl Control {
     // One object's first value.
     fn create(&mut self, object: Object, number: i64) -> Result<(), NoMemory>
         requires rests { Rests self.old.core }
-        ensures works { (job : job_type) → IsTrue (is_whole job) → HoldsAt job self.old.core object.0 0
+        ensures works { (job : job_type) → IsTrue (is_plain job) → HoldsAt job self.old.core object.0 0
             → slice_get (numbers_of job.vars) object.0 ≡ Some number → OnOk result (HoldsAt job self.new.core (object.0 + 1) 0) }
         ensures position { OnOk result (self.new.position ≡ self.old.position) }
         ensures forms { OnOk result (self.new.forms ≡ self.old.forms) }

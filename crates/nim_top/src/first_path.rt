@@ -1,5 +1,5 @@
 ghost use Rattle.std.specs.Prelude.{◌≡◌, ◌+◌, ◌≤◌, ◌<◌, length, IfOk, IfSome, IsTrue};
-ghost use Rattle.nim_job.specs.Whole.{is_whole};
+ghost use Rattle.nim_job.specs.Whole.{is_plain};
 ghost use Rattle.nim_top.specs.FirstPath.{block_job, driver_job, job_of, vars_job};
 
 mod block;
@@ -36,7 +36,7 @@ fn block_job(
     requires few { length vars.items ≤ 256 }
     requires ascii { letter < 128 }
     ensures value { IfOk result (λ job. job ≡ block_job lines.now at.now vars.items letter) }
-    ensures whole { IfOk result (λ job. IfSome job (λ j. IsTrue (is_whole j))) }
+    ensures plain { IfOk result (λ job. IfSome job (λ j. IsTrue (is_plain j))) }
 {
     let behind = 3 + at.vars + at.stages;
     if !are_instances(&lines[behind..behind + at.dos], letter) {
@@ -70,7 +70,7 @@ fn vars_job(
 ) -> Result<Option<Job>, NoMemory>
     requires laid_out { length lines.now ≡ 5 + at.now.vars + at.now.stages + at.now.dos }
     ensures value { IfOk result (λ job. job ≡ vars_job lines.now at.now vars.items) }
-    ensures whole { IfOk result (λ job. IfSome job (λ j. IsTrue (is_whole j))) }
+    ensures plain { IfOk result (λ job. IfSome job (λ j. IsTrue (is_plain j))) }
 {
     if vars.len() > 32 {
         return Ok(None);
@@ -85,7 +85,7 @@ fn vars_job(
 #[tactic(auto, unfolding(crate::specs::FirstPath::driver_job))]
 fn driver_job(alloc: Global, lines: &[Line]) -> Result<Option<Job>, NoMemory>
     ensures value { IfOk result (λ job. job ≡ driver_job lines.now) }
-    ensures whole { IfOk result (λ job. IfSome job (λ j. IsTrue (is_whole j))) }
+    ensures plain { IfOk result (λ job. IfSome job (λ j. IsTrue (is_plain j))) }
 {
     let at = lay_out(lines);
     if !is_laid_out(lines, &at) {
@@ -102,7 +102,7 @@ fn driver_job(alloc: Global, lines: &[Line]) -> Result<Option<Job>, NoMemory>
 #[tactic(auto, unfolding(crate::specs::FirstPath::job_of))]
 pub fn read_driver(alloc: Global, bytes: &[u8]) -> Result<Option<Job>, NoMemory>
     ensures job { IfOk result (λ job. job ≡ job_of bytes.now) }
-    ensures whole { IfOk result (λ job. IfSome job (λ j. IsTrue (is_whole j))) }
+    ensures plain { IfOk result (λ job. IfSome job (λ j. IsTrue (is_plain j))) }
 {
     if bytes.len() > DRIVER_LIMIT {
         return Ok(None);

@@ -1,6 +1,6 @@
 ghost use Rattle.std.specs.Prelude.{◌≡◌, ◌+◌, [], length, IfOk, IfSome, IfNone, IsTrue};
 ghost use Rattle.nim_job.specs.Serial.{serial_of};
-ghost use Rattle.nim_job.specs.Whole.{is_whole};
+ghost use Rattle.nim_job.specs.Whole.{is_plain};
 ghost use Rattle.nim_top.specs.Runs.{Stands};
 ghost use Rattle.nim_top.specs.Works.{HasForms, WorksAt};
 ghost use Rattle.nim_top.specs.declared.run.Progress.{Progress};
@@ -21,7 +21,7 @@ pub enum Progress {
 /// Has the tasks of a job run one after another, and gives the machine that stands at its end and has
 /// what the job prints; nothing where the job passes its limits.
 pub fn run(alloc: Global, job: &Job) -> Result<Option<DriverMachine>, NoMemory>
-    requires { IsTrue (is_whole job.now) }
+    requires { IsTrue (is_plain job.now) }
     ensures output { IfOk result (λ end. IfSome end (λ m. serial_of job.now ≡ record { status = 0; bytes = m.driver.output })) }
     ensures limit { IfOk result (λ end. IfNone end (serial_of job.now ≡ record { status = 4; bytes = [] })) }
 {
@@ -35,7 +35,7 @@ pub fn drive(
     job: &Job,
     control: &mut Control,
 ) -> Result<Option<DriverMachine>, NoMemory>
-    requires whole { IsTrue (is_whole job.now) }
+    requires plain { IsTrue (is_plain job.now) }
     requires works { WorksAt job.now control.old.core 0 }
     requires position { control.old.position ≡ 0 }
     requires forms { HasForms job.now control.old }
@@ -54,7 +54,7 @@ pub fn drive(
 
 // Does what the driver asks for next.
 fn turn(job: &Job, control: &mut Control, machine: &mut DriverMachine) -> Result<Progress, NoMemory>
-    requires whole { IsTrue (is_whole job.now) }
+    requires plain { IsTrue (is_plain job.now) }
     requires stands { Stands job.now machine.old control.old }
     ensures goes { IfOk result (λ turn. turn ≡ Progress.Goes → Stands job.now machine.new control.new) }
     ensures nearer { IfOk result (λ turn. turn ≡ Progress.Goes → length machine.new.driver.todo + 1 ≡ length machine.old.driver.todo) }

@@ -2,7 +2,9 @@ use crate::first_path::read_driver;
 use crate::{Status, top_replay};
 use nim_base::{Func, Object, Param, Value};
 use nim_io::{FileFail, MemFiles, MemSink};
-use nim_job::{block_forms, block_tasks, is_whole, machine_follows, versions_are_read};
+use nim_job::{
+    block_forms, block_tasks, is_checked, is_plain, is_whole, machine_follows, versions_are_read,
+};
 use std::alloc::{AllocError, Global};
 use std::test::Fail;
 
@@ -136,9 +138,13 @@ fn laws_hold_of_a_job_that_is_read(rt: HostRuntime) -> Result<(), Fail> {
     };
     versions_are_read(&job);
     machine_follows(&job);
+    assert!(rt; is_checked(&job));
     assert!(rt; is_whole(&job));
+    assert!(rt; is_plain(&job));
     job.steps = 0;
+    assert!(rt; !is_checked(&job));
     assert!(rt; !is_whole(&job));
+    assert!(rt; !is_plain(&job));
     Ok(())
 }
 

@@ -1,11 +1,11 @@
 ghost use Rattle.std.specs.Prelude.{◌≡◌, ◌==◌, ◌<◌, ◌≤◌, ◌∷◌, map, IfOk, IfSome, IsTrue, true};
 ghost use Rattle.std.specs.List.{list_all, list_any};
-ghost use Rattle.nim_job.specs.Whole.{cells_in, is_var, is_whole};
+ghost use Rattle.nim_job.specs.Whole.{cells_in, is_plain, is_var};
 ghost use Rattle.nim_top.specs.FirstPath.{are_few_cells, body_of, built, checked, is_distinct, letter_of};
 
 use super::var::{letter_of, name_of_letter};
 use nim_base::{NoMemory, Seq};
-use nim_job::{Block, Job, Stage, Stmt, Var, is_whole};
+use nim_job::{Block, Job, Stage, Stmt, Var, is_plain};
 use sqlite_items::Items;
 use std::alloc::Global;
 
@@ -106,13 +106,13 @@ fn are_few_cells(vars: &[Var]) -> bool
     true
 }
 
-/// The job again, where it is whole, has few cells, and no name stands twice.
+/// The job again, where it is whole and plain, has few cells, and no name stands twice.
 #[tactic(auto, unfolding(crate::specs::FirstPath::checked))]
 pub fn checked(alloc: Global, letter: u8, job: Job) -> Result<Option<Job>, NoMemory>
     ensures value { IfOk result (λ answer. answer ≡ checked letter job) }
-    ensures whole { IfOk result (λ answer. IfSome answer (λ j. IsTrue (is_whole j))) }
+    ensures plain { IfOk result (λ answer. IfSome answer (λ j. IsTrue (is_plain j))) }
 {
-    if !is_whole(&job) {
+    if !is_plain(&job) {
         return Ok(None);
     }
     if !are_few_cells(job.vars.as_slice()) {

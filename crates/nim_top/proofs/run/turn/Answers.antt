@@ -8,12 +8,12 @@ use Rattle.nim_top.proofs.run.turn.Goals as goal
 
 pub run_block-requires-clause-block : goal.run_block-requires-clause-block
 run_block-requires-clause-block c =
-    (run_allowed c.args.job.now c.args.machine.now c.args.control.now c.in-Run.block c.in-Run.args c.requires.whole c.requires.stands
+    (run_allowed c.args.job.now c.args.machine.now c.args.control.now c.in-Run.block c.in-Run.args c.requires.plain c.requires.stands
     (sym c.in_ok-block.ensures.ask ∙ c.in-Run.is)).0
 
 pub run_block-requires-clause-args : goal.run_block-requires-clause-args
 run_block-requires-clause-args c = ap length c.as_slice.ensures
-    ∙ (run_allowed c.args.job.now c.args.machine.now c.args.control.now c.in-Run.block c.in-Run.args c.requires.whole c.requires.stands
+    ∙ (run_allowed c.args.job.now c.args.machine.now c.args.control.now c.in-Run.block c.in-Run.args c.requires.plain c.requires.stands
     (sym c.in_ok-block.ensures.ask ∙ c.in-Run.is)).1
 
 pub run_block-requires-clause-next : goal.run_block-requires-clause-next
@@ -23,7 +23,7 @@ run_block-requires-clause-next c =
 
 pub output-requires-clause-var : goal.output-requires-clause-var
 output-requires-clause-var c =
-    output_allowed c.args.job.now c.args.machine.now c.args.control.now c.in-Output.var c.requires.whole c.requires.stands
+    output_allowed c.args.job.now c.args.machine.now c.args.control.now c.in-Output.var c.requires.plain c.requires.stands
     (sym c.in_ok-block.ensures.ask ∙ c.in-Output.is)
 
 pub returns-in_ok-run_block-in-Run-clause-goes : goal.returns-in_ok-run_block-in-Run-clause-goes
@@ -49,6 +49,6 @@ returns-in_ok-append-in-Output-clause-goes c = λ _.
 
 pub returns-in-Finished-clause-finished : goal.returns-in-Finished-clause-finished
 returns-in-Finished-clause-finished c = λ _.
-    ends_finished c.args.job.now c.args.machine.now c.args.control.now c.requires.whole c.requires.stands c.output-printed.ensures.within
+    ends_finished c.args.job.now c.args.machine.now c.args.control.now c.requires.plain c.requires.stands c.output-printed.ensures.within
     (sym c.in_ok-block.ensures.ask ∙ c.in-Finished.is)
     ∙ ap (λ (m : Machine). record { status = 0; bytes = m.driver.output }) (sym c.in_ok-block.ensures.ok)

@@ -4,6 +4,7 @@ use Rattle.std.specs.Prelude.{slice_get}
 use Rattle.std.proofs.lemmas.Int.{to_z-of_z}
 use Rattle.std.proofs.lemmas.Option.{slice_get-get_or}
 use Rattle.nim_job.specs.Objects.{objects_of}
+use Rattle.nim_job.proofs.Whole.{plain_whole}
 use Rattle.nim_top.specs.Orders.{numbers_of}
 use Rattle.nim_top.specs.Works.{HoldsAt}
 use Rattle.nim_top.proofs.HeldAt.{length_numbers, objects_few}
@@ -16,7 +17,7 @@ overflow_cast-object c = record {
     c.loop-object-test.true,
     ap length (c.as_slice-numbers.ensures.value ∙ c.in_ok-numbers.ensures ∙ ap numbers_of c.as_slice.ensures),
     length_numbers c.args.job.now.vars,
-    objects_few c.args.job.now c.requires.whole,
+    objects_few c.args.job.now (plain_whole c.args.job.now c.requires.plain),
   );
 }
 
@@ -28,7 +29,7 @@ loop-object-preserved c =
     let numbered : slice_get (numbers_of c.args.job.now.vars) c.loop-object.object ≡ Some (to_z w64 (of_z w64 number)) =
     ap (λ (numbers : List ℤ). slice_get numbers c.loop-object.object) (sym all)
     ∙ slice_get-get_or c.as_slice-numbers.result.now c.loop-object.object (pos 0) c.loop-object-test.true ∙ ap Some (sym (to_z-of_z w64 number fits)) in
-    (c.in_ok-create.ensures.works c.args.job.now c.requires.whole c.loop-object.invariant.0 numbered, c.in_ok-create.ensures.position ∙ c.loop-object.invariant.1, c.in_ok-create.ensures.forms ∙ c.loop-object.invariant.2)
+    (c.in_ok-create.ensures.works c.args.job.now c.requires.plain c.loop-object.invariant.0 numbered, c.in_ok-create.ensures.position ∙ c.loop-object.invariant.1, c.in_ok-create.ensures.forms ∙ c.loop-object.invariant.2)
 
 pub returns-clause-works : goal.returns-clause-works
 returns-clause-works c =
