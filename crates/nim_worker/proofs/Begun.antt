@@ -44,8 +44,8 @@ reads_begun job old mid works orders done whole legal st b =
     subst (λ (all : List Work). All (ReadsRight job) all) (sym b.one)
     (All-cons (ReadsRight job) b.work []
     (λ position is.
-    moved job position (slice_get (tasks_of job) position) b.work.inputs.contents.items (map (content_seen (kept (session_of orders).shapes (asked_for orders) done)) (reads_taken b.command.kind))
-    (reads_of b.work.inputs.values.items b.work.inputs.places.items) (map (λ (slot : Slot). (seen (kept (session_of orders).shapes (asked_for orders) done) slot).value) (reads_taken b.command.kind))
+    moved job position (slice_get (tasks_of job) position) b.work.inputs.value.contents.items (map (content_seen (kept (session_of orders).shapes (asked_for orders) done)) (reads_taken b.command.kind))
+    (reads_of b.work.inputs.value.values.items b.work.inputs.value.places.items) (map (λ (slot : Slot). (seen (kept (session_of orders).shapes (asked_for orders) done) slot).value) (reads_taken b.command.kind))
     (b.is.inputs.contents ∙ ap (λ (f : Slot → Option Held). map (content_seen f) (reads_taken b.command.kind)) before)
     (b.is.inputs.values ∙ ap (λ (f : Slot → Option Held). map (λ (slot : Slot). (seen f slot).value) (reads_taken b.command.kind)) before)
     (right_reads job orders done b.command position whole legal st.ran next.get (ap (λ (c : Command). position_of c.kind) (sym b.is.command) ∙ is)))

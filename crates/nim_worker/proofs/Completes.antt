@@ -1,5 +1,5 @@
 -- A work that is performed and given back leaves what its command leaves.
-use Rattle.std.proofs.Common.{◌≡◌, ℕ, Bool, true, false, ℤ, List, [], ◌∷◌, length, refl, ap, ap₂, sym, subst, ◌∙◌, Option, None, Some}
+use Rattle.std.proofs.Common.{◌≡◌, ℕ, Bool, true, false, ℤ, List, [], ◌∷◌, length, refl, ap, ap₂, sym, subst, ◌∙◌, Option, None, Some, Box, Global}
 use Rattle.std.specs.Prelude.{◌&&◌, if◌then◌else◌, IfSome}
 use Rattle.std.specs.Option.{option_or}
 use Rattle.std.proofs.lemmas.List.{length-map}
@@ -13,6 +13,7 @@ use Rattle.nim_command.specs.declared.command.Command.{Command}
 use Rattle.nim_command.specs.declared.command.Kind.{Kind}
 use Rattle.nim_command.specs.declared.command.Kind.TheVariants.{Run}
 use Rattle.nim_worker.specs.declared.batch.Work.{Work}
+use Rattle.nim_worker.specs.declared.inputs.Inputs.{Inputs}
 use Rattle.nim_worker.specs.declared.held.Held.{Held}
 use Rattle.nim_worker.specs.Inputs.{AreInputs}
 use Rattle.nim_worker.specs.Kept.{fitting_shape, kept_by, put_results, results_for}
@@ -50,23 +51,23 @@ no_results Merge params reads = and_last _
 
 -- the results that a Run's inputs have are those of the slots that they were taken from
 run_results : (shapes : List Shape) (before now : Slot → Option Held) (work : Work) (position : ℕ) (func : Func) (params : List ℤ) (reads writes : List Slot)
-    → AreInputs shapes (reads_taken (Run position func params reads writes)) (writes_taken (Run position func params reads writes)) before now work.inputs
+    → AreInputs shapes (reads_taken (Run position func params reads writes)) (writes_taken (Run position func params reads writes)) before now work.inputs.value
     → results_from work (Run position func params reads writes) ≡ results_of shapes (Run position func params reads writes) before
 run_results shapes before now work position func params reads writes are = either (has_counts func (length params) (length reads) (length writes)) refl are where
   either : (b : Bool) → has_counts func (length params) (length reads) (length writes) ≡ b
-      → AreInputs shapes (if b then reads else []) (if b then writes else []) before now work.inputs
+      → AreInputs shapes (if b then reads else []) (if b then writes else []) before now work.inputs.value
       → results_from work (Run position func params reads writes) ≡ (if b then Some (results_for shapes func params reads writes before) else None)
   either true counts are =
-      let places : length work.inputs.places.items ≡ length reads =
-      sym (length-map work.inputs.places.items _) ∙ ap length are.values ∙ length-map reads _ in
-      let fitting : length work.inputs.shapes.items ≡ length writes = ap length are.shapes ∙ length-map writes (fitting_shape shapes) in
+      let places : length work.inputs.value.places.items ≡ length reads =
+      sym (length-map work.inputs.value.places.items _) ∙ ap length are.values ∙ length-map reads _ in
+      let fitting : length work.inputs.value.shapes.items ≡ length writes = ap length are.shapes ∙ length-map writes (fitting_shape shapes) in
       rw (places, fitting, counts)
       (ap₂ (λ (grids : List Grid) (all : List Shape). Some (apply_of func params grids all)) are.values are.shapes)
   either false counts are =
-      let fitting : length work.inputs.shapes.items ≡ 0 = ap length are.shapes in
-      rw (fitting, no_results func (length params) (length work.inputs.places.items)) refl
+      let fitting : length work.inputs.value.shapes.items ≡ 0 = ap length are.shapes in
+      rw (fitting, no_results func (length params) (length work.inputs.value.places.items)) refl
 
-kind_results : (shapes : List Shape) (before now : Slot → Option Held) (work : Work) (kind : Kind) → AreInputs shapes (reads_taken kind) (writes_taken kind) before now work.inputs
+kind_results : (shapes : List Shape) (before now : Slot → Option Held) (work : Work) (kind : Kind) → AreInputs shapes (reads_taken kind) (writes_taken kind) before now work.inputs.value
     → results_from work kind ≡ results_of shapes kind before
 kind_results shapes before now work (Run position func params reads writes) are = run_results shapes before now work position func params reads writes are
 kind_results shapes before now work kind are = refl
@@ -102,7 +103,7 @@ completes shapes before now asked work new is done =
 pub performed : (shapes : List Shape) (before now : Slot → Option Held) (asked : Command) (work new : Work) → IsPerformed work new → IsWork shapes before now asked work → IsWork shapes before now asked new
 performed shapes before now asked work new done is = record {
   command = done.command ∙ is.command;
-  inputs = subst (AreInputs shapes (reads_taken asked.kind) (writes_taken asked.kind) before now) (sym done.inputs) is.inputs;
+  inputs = subst (AreInputs shapes (reads_taken asked.kind) (writes_taken asked.kind) before now) (ap (λ (inputs : Box Inputs Global). inputs.value) (sym done.inputs)) is.inputs;
   results = subst (λ (r : Option (List Grid)). IfSome r (λ results. results_of shapes asked.kind before ≡ Some results)) (sym (performed_results shapes before now asked work new is done))
       (either (results_of shapes asked.kind before));
 } where

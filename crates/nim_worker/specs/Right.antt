@@ -17,5 +17,5 @@ values_read job position task = map (λ object. version_value job object (read_v
 -- A Run reads the versions that program order names, and their values.
 abbrev pub ReadsRight : Job → Work → Type 0
 ReadsRight job work = (position : ℕ) → position_of work.command.kind ≡ Some position
-    → IsSomeAnd (slice_get (tasks_of job) position) (λ task. (work.inputs.contents.items ≡ reads_at job position task)
-    × (reads_of work.inputs.values.items work.inputs.places.items ≡ values_read job position task))
+    → IsSomeAnd (slice_get (tasks_of job) position) (λ task. (work.inputs.value.contents.items ≡ reads_at job position task)
+    × (reads_of work.inputs.value.values.items work.inputs.value.places.items ≡ values_read job position task))

@@ -41,8 +41,8 @@ results_in work = option_map (λ values. values.items) work.results
 -- the results that a work's inputs have
 abbrev pub results_from : Work → Kind → Option (List Grid)
 results_from work (Run position func params reads writes) =
-    if has_counts func (length params) (length work.inputs.places.items) (length work.inputs.shapes.items)
-    then Some (apply_of func params (reads_of work.inputs.values.items work.inputs.places.items) work.inputs.shapes.items)
+    if has_counts func (length params) (length work.inputs.value.places.items) (length work.inputs.value.shapes.items)
+    then Some (apply_of func params (reads_of work.inputs.value.values.items work.inputs.value.places.items) work.inputs.value.shapes.items)
     else None
 results_from work _ = None
 
@@ -55,5 +55,5 @@ pub record IsPerformed (old new : Work) : Type 0 where
 -- A work is that of a command, whose slots had this before it was begun and have that now; it may be performed.
 pub record IsWork (shapes : List Shape) (before now : Slot → Option Held) (asked : Command) (work : Work) : Type 0 where
   pub command : work.command ≡ asked
-  pub inputs : AreInputs shapes (reads_taken asked.kind) (writes_taken asked.kind) before now work.inputs
+  pub inputs : AreInputs shapes (reads_taken asked.kind) (writes_taken asked.kind) before now work.inputs.value
   pub results : IfSome (results_in work) (λ results. results_of shapes asked.kind before ≡ Some results)

@@ -21,7 +21,7 @@ use std::alloc::Global;
 pub struct Work {
     pub(crate) alloc: Global,
     pub(crate) command: Command,
-    pub(crate) inputs: Inputs,
+    pub(crate) inputs: Box<Inputs>,
     pub(crate) results: Option<Vec<Value>>,
 }
 
@@ -60,7 +60,7 @@ impl Work {
     {
         if self.results.is_none() {
             if let Kind::Run { func, params, .. } = &self.command.kind {
-                let inputs = &self.inputs;
+                let inputs = &*self.inputs;
                 if func.has_counts(params.len(), inputs.places.len(), inputs.shapes.len()) {
                     let results = apply(
                         self.alloc,
@@ -81,11 +81,11 @@ impl Work {
     pub(crate) fn new(
         alloc: Global,
         command: Command,
-        mut inputs: Inputs,
+        mut inputs: Box<Inputs>,
         slots: &mut Slots,
         shapes: &[Shape],
     ) -> Work
-        requires { IsIdle inputs }
+        requires { IsIdle inputs.value }
         ensures { IsWork shapes.now (slot_at slots.old) (slot_at slots.new) command result }
     {
         match &command.kind {
@@ -121,7 +121,7 @@ impl Work {
     /// For a Run whose counts are its function's, the object and version that each of its slots had when the batch
     /// was begun, in order; nothing for any other work.
     pub fn reads(&self) -> &[(Object, Version)]
-        ensures { result.now ≡ self.now.inputs.contents.items }
+        ensures { result.now ≡ self.now.inputs.value.contents.items }
     {
         self.inputs.contents.as_slice()
     }

@@ -24,14 +24,14 @@ pub(crate) fn complete(
     shapes: &[Shape],
     slots: &mut Slots,
     mut work: Work,
-) -> Result<(Option<FromWorker>, Inputs), NoMemory>
+) -> Result<(Option<FromWorker>, Box<Inputs>), NoMemory>
     ensures slots { (before : slot_number → Option held_type) (command : command_type)
         → IsWork shapes.now before (slot_at slots.old) command work
         → OnOk result (slot_at slots.new ≡ kept_by shapes.now command.kind before) }
     ensures report { (before : slot_number → Option held_type) (command : command_type)
         → IsWork shapes.now before (slot_at slots.old) command work
         → IfOk result (λ completed. option_to_list completed.0 ≡ report_of epoch command.kind before) }
-    ensures idle { IfOk result (λ completed. IsIdle completed.1) }
+    ensures idle { IfOk result (λ completed. IsIdle completed.1.value) }
 {
     work.perform()?;
     let contents = Vec::from_slice(alloc, work.inputs.contents.as_slice())?;

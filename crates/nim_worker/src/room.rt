@@ -11,17 +11,18 @@ use std::alloc::Global;
 #[derive(Drop)]
 pub(crate) struct Room {
     pub(crate) works: Vec<Work>,
-    pub(crate) inputs: Inputs,
+    /// On the heap, so that a batch that is begun or finished moves one pointer.
+    pub(crate) inputs: Box<Inputs>,
     ghost works_empty: { vec_len works ≡ 0 },
     ghost works_fit: { 0 < vec_capacity works },
-    ghost idle: { IsIdle inputs },
+    ghost idle: { IsIdle inputs.value },
 }
 
 impl Room {
     pub(crate) fn new(alloc: Global) -> Result<Room, NoMemory> {
         Ok(Room {
             works: Vec::with_capacity(alloc, 1)?,
-            inputs: Inputs::new(alloc)?,
+            inputs: Box::new(alloc, Inputs::new(alloc)?)?,
         })
     }
 }
