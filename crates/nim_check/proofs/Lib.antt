@@ -1,0 +1,14 @@
+pub mod Checked
+pub mod Counts
+pub mod Places
+pub mod Refused
+pub mod Room
+pub mod StageTests
+pub mod Loads
+pub mod SameFrame
+pub mod Filled
+pub mod PrintedWords
+pub mod PrintedLines
+pub mod PrintedData
+pub mod PrintedJob
+pub mod PrintedSize

@@ -1,0 +1,29 @@
+use Rattle.std.proofs.Common.{◌∙◌, ◌<◌, sym, [], length, rules, arith}
+use Rattle.std.proofs.lemmas.Grind.{common_steps}
+use Rattle.std.proofs.lemmas.List.{length-take}
+use Rattle.nim_check.specs.Refusals.{IsRefusal, first_refusal}
+use Rattle.nim_check.specs.Sites.{block_sites}
+use Rattle.nim_check.proofs.Refused.{blocks_here, blocks_later}
+use Rattle.nim_check.proofs.blocks.make_blocks.Goals as goal
+
+pub returns-in_err-make_block-clause-answers : goal.returns-in_err-make_block-clause-answers
+returns-in_err-make_block-clause-answers c =
+    let vars = c.args.vars.now in
+    let blocks = c.args.blocks.now in
+    let fault = c.in_err-make_block.field-0.0 in
+    let there : c.loop-at.at < length blocks = first_of (search rules, grind (arith, common_steps)) in
+    let e = blocks_here vars blocks c.loop-at.at c.index-blocks-at.result fault there c.index-blocks-at.is c.in_err-make_block.ensures.answers in
+    let f : IsRefusal (first_refusal (block_sites vars [] blocks)) fault = (rw c.loop-at.invariant.sites at e) in
+    first_of (search rules, grind (arith, common_steps))
+
+pub loop-at-preserved : goal.loop-at-preserved
+loop-at-preserved c =
+    let vars = c.args.vars.now in
+    let blocks = c.args.blocks.now in
+    let there : c.loop-at.at < length blocks = first_of (search rules, grind (arith, common_steps)) in
+    record {
+      sites = sym (blocks_later vars blocks c.loop-at.at c.index-blocks-at.result there c.index-blocks-at.is c.in_ok-make_block.ensures.answers) ∙ c.loop-at.invariant.sites;
+      made = first_of (search rules, grind (arith, common_steps));
+      whole = first_of (search rules, grind (arith, common_steps));
+      few = omega (arith, c.in_ok-make_block.ensures.number, length-take c.loop-at.at blocks);
+    }

@@ -1,0 +1,82 @@
+-- The lines of a tree in their order, each with what stands before it.
+use Rattle.std.specs.Prelude.{ℕ, ◌+◌, ◌-◌, if◌then◌else◌, List, [], ◌∷◌, ◌++◌, Option, None, Some}
+use Rattle.nim_parse.specs.declared.tree.Block.{Block}
+use Rattle.nim_parse.specs.declared.tree.Line.{Line}
+use Rattle.nim_parse.specs.declared.tree.Stage.{Stage}
+use Rattle.nim_parse.specs.declared.tree.Statement.{Statement}
+use Rattle.nim_parse.specs.declared.tree.Statement.TheVariants.{Let, Get, Loop, While, If, End}
+use Rattle.nim_parse.specs.declared.tree.Steps.{Steps}
+use Rattle.nim_parse.specs.declared.tree.Tree.{Tree}
+use Rattle.nim_parse.specs.declared.tree.Var.{Var}
+use Rattle.nim_check.specs.declared.past.Past.{Past}
+use Rattle.nim_check.specs.Names.{Word, is_in}
+
+-- what the statements before the first line did
+abbrev pub no_past : Past
+no_past = record { scalars = []; depth = 0 }
+
+abbrev pub with_scalar : List Word → Word → List Word
+with_scalar scalars name = if is_in scalars name then scalars else scalars ++ name ∷ []
+
+abbrev pub past_with : Past → Statement → Past
+past_with past (Let name value) = record past { scalars = with_scalar past.scalars name }
+past_with past (Get name variable part row column) = record past { scalars = with_scalar past.scalars name }
+past_with past (Loop turns) = record past { depth = past.depth + 1 }
+past_with past (While condition) = record past { depth = past.depth + 1 }
+past_with past (If condition) = record past { depth = past.depth + 1 }
+past_with past End = record past { depth = past.depth - 1 }
+past_with past _ = past
+
+abbrev pub past_of : Past → List Line → Past
+past_of past [] = past
+past_of past (line ∷ lines) = past_of (past_with past line.statement) lines
+
+-- the scalars of a driver, in the order of the lines that first set them; the place of one is its number
+abbrev pub scalars_of : List Line → List Word
+scalars_of lines = (past_of no_past lines).scalars
+
+-- A line with what it may refer to: a variable with those before it; a block's head with the variables and the blocks
+-- before it; a stage with the variables, its block and the stages before it; a statement with the whole tree and what
+-- the statements before it did.
+pub data Site : Type 0 where
+  at_steps : Steps → Site
+  at_var : List Var → Var → Site
+  at_block : List Var → List Block → Block → Site
+  at_stage : List Var → Block → List Stage → Stage → Site
+  at_statement : Tree → Past → Line → Site
+
+-- the number of the line
+abbrev pub line_of : Site → ℕ
+line_of (at_steps steps) = steps.line
+line_of (at_var before v) = v.line
+line_of (at_block vars before block) = block.line
+line_of (at_stage vars block before stage) = stage.line
+line_of (at_statement tree past line) = line.line
+
+abbrev pub steps_sites : Option Steps → List Site
+steps_sites None = []
+steps_sites (Some steps) = at_steps steps ∷ []
+
+abbrev pub var_sites : List Var → List Var → List Site
+var_sites before [] = []
+var_sites before (v ∷ vars) = at_var before v ∷ var_sites (before ++ v ∷ []) vars
+
+abbrev pub stage_sites : List Var → Block → List Stage → List Stage → List Site
+stage_sites vars block before [] = []
+stage_sites vars block before (stage ∷ stages) = at_stage vars block before stage ∷ stage_sites vars block (before ++ stage ∷ []) stages
+
+-- a block's head, and its stages
+abbrev pub block_site : List Var → List Block → Block → List Site
+block_site vars before block = at_block vars before block ∷ stage_sites vars block [] block.stages
+
+abbrev pub block_sites : List Var → List Block → List Block → List Site
+block_sites vars before [] = []
+block_sites vars before (block ∷ blocks) = block_site vars before block ++ block_sites vars (before ++ block ∷ []) blocks
+
+abbrev pub statement_sites : Tree → Past → List Line → List Site
+statement_sites tree past [] = []
+statement_sites tree past (line ∷ lines) = at_statement tree past line ∷ statement_sites tree (past_with past line.statement) lines
+
+-- all lines of a tree
+abbrev pub sites_of : Tree → List Site
+sites_of tree = steps_sites tree.steps ++ (var_sites [] tree.vars ++ (block_sites tree.vars [] tree.blocks ++ statement_sites tree no_past tree.statements))

@@ -1,0 +1,123 @@
+ghost use Rattle.std.specs.Prelude.{◌≡◌, ◌≤◌, [], IfErr, IfOk, IsTrue, None, Some};
+ghost use Rattle.nim_job.specs.Whole.{is_checked};
+ghost use Rattle.nim_parse.specs.Driver.{tree_of};
+ghost use Rattle.nim_parse.specs.Nesting.{open_after};
+ghost use Rattle.nim_check.specs.Made.{block_names, job_of, steps_of, var_names};
+ghost use Rattle.nim_check.specs.Refusals.{Answers, IsRefusal, driver_refusal, first_refusal, refusal_of, text_refusal};
+ghost use Rattle.nim_check.specs.Sites.{steps_sites};
+
+use crate::CheckFault;
+use crate::blocks::make_blocks;
+use crate::body::{Names, make_body};
+use crate::statements::scalars_of;
+use crate::vars::make_vars;
+use nim_base::{Copied, NoMemory, Seq};
+use nim_job::Job;
+use nim_lex::{LexFault, tokens};
+use nim_parse::{Block, ParseFault, Steps, Tree, Var, parse};
+use std::alloc::Global;
+
+/// The most statements that are counted, where the driver doesn't say.
+const MOST_STEPS: u32 = 1_000_000;
+
+/// The most statements that a run counts, or the line that a rule refuses.
+#[tactic(auto, unfolding(crate::specs::Rules::rule_of))]
+fn steps_of(steps: Option<Steps>) -> Result<u32, CheckFault>
+    ensures answers { Answers (first_refusal (steps_sites steps)) result }
+    ensures steps { IfOk result (λ most. most ≡ steps_of steps) }
+    ensures some { IfOk result (λ most. 1 ≤ most) }
+    ensures few { IfOk result (λ most. most ≤ 1000000) }
+{
+    match steps {
+        Some(Steps { line, most }) => {
+            if most < 1 || most > 1_000_000 {
+                return Err(CheckFault::At { line, rule: 40 });
+            }
+            Ok(most as u32)
+        }
+        None => Ok(MOST_STEPS),
+    }
+}
+
+fn names_of_vars(alloc: Global, vars: &[Var]) -> Result<Seq<Seq<u8>>, NoMemory>
+    ensures { IfOk result (λ names. names ≡ var_names vars.now) }
+{
+    let mut names = Seq::new(alloc);
+    for var in vars {
+        names.push(var.name.copy()?)?;
+    }
+    Ok(names)
+}
+
+fn names_of_blocks(alloc: Global, blocks: &[Block]) -> Result<Seq<Seq<u8>>, NoMemory>
+    ensures { IfOk result (λ names. names ≡ block_names blocks.now) }
+{
+    let mut names = Seq::new(alloc);
+    for block in blocks {
+        names.push(block.name.copy()?)?;
+    }
+    Ok(names)
+}
+
+/// The job that a tree stands for, or the first line that a rule refuses, with the smallest rule that does. The rules
+/// are defined in `specs/Rules.antt`, the job in `specs/Made.antt`. Loaded data are still missing in it. Want of memory
+/// may come in place of any answer.
+pub fn check(alloc: Global, tree: &Tree) -> Result<Job, CheckFault>
+    requires nests { open_after [] tree.now.statements ≡ Some [] }
+    ensures accepted { IfOk result (λ job. refusal_of tree.now ≡ None) }
+    ensures job { IfOk result (λ job. job ≡ job_of tree.now) }
+    ensures checked { IfOk result (λ job. IsTrue (is_checked job)) }
+    ensures refused { IfErr result (IsRefusal (refusal_of tree.now)) }
+{
+    let steps = steps_of(tree.steps)?;
+    let vars = make_vars(alloc, tree.vars.as_slice())?;
+    let blocks = make_blocks(
+        alloc,
+        tree.vars.as_slice(),
+        vars.as_slice(),
+        tree.blocks.as_slice(),
+    )?;
+    let scalars = scalars_of(alloc, tree)?;
+    let names = Names {
+        vars: names_of_vars(alloc, tree.vars.as_slice())?,
+        blocks: names_of_blocks(alloc, tree.blocks.as_slice())?,
+        scalars,
+    };
+    let body = make_body(alloc, &names, tree.statements.as_slice())?;
+    Ok(Job {
+        steps,
+        vars,
+        blocks,
+        body,
+    })
+}
+
+fn tree_of(alloc: Global, bytes: &[u8]) -> Result<Tree, CheckFault>
+    ensures answers { Answers (text_refusal bytes.now) result }
+    ensures tree { IfOk result (λ tree. tree ≡ tree_of bytes.now) }
+    ensures nests { IfOk result (λ tree. open_after [] tree.statements ≡ Some []) }
+{
+    let all = match tokens(alloc, bytes) {
+        Ok(all) => all,
+        Err(LexFault::At { line, rule }) => return Err(CheckFault::At { line, rule }),
+        Err(LexFault::NoMemory) => return Err(CheckFault::NoMemory),
+    };
+    match parse(alloc, bytes, all.as_slice()) {
+        Ok(tree) => Ok(tree),
+        Err(ParseFault::At { line, rule }) => Err(CheckFault::At { line, rule }),
+        Err(ParseFault::NoMemory) => Err(CheckFault::NoMemory),
+    }
+}
+
+/// The job that a driver stands for, or its first refused line, with the smallest rule that refuses it: first the rules
+/// of the text are looked at, then those of the grammar, then those of `check`. Loaded data are still missing in it.
+/// Want of memory may come in place of any answer.
+pub fn read_driver(alloc: Global, bytes: &[u8]) -> Result<Job, CheckFault>
+    ensures accepted { IfOk result (λ job. driver_refusal bytes.now ≡ None) }
+    ensures job { IfOk result (λ job. job ≡ job_of (tree_of bytes.now)) }
+    ensures checked { IfOk result (λ job. IsTrue (is_checked job)) }
+    ensures refused { IfErr result (IsRefusal (driver_refusal bytes.now)) }
+{
+    let tree = tree_of(alloc, bytes)?;
+    check(alloc, &tree)
+}

@@ -1,0 +1,21 @@
+use nim_base::NoMemory;
+
+/// Why there is no job.
+#[derive(Clone, Copy, Debug, PartialEq, Eq)]
+pub enum CheckFault {
+    /// A rule refuses this line. The rules are listed in `specs/Rules.antt`, those of data files in
+    /// `specs/Loading.antt`.
+    At { line: u32, rule: u8 },
+    NoMemory,
+}
+
+impl From<NoMemory> for CheckFault {
+    ghost use Rattle.std.specs.Prelude.{◌≡◌};
+    ghost use Rattle.nim_check.specs.declared.fault.CheckFault.TheVariants.{NoMemory};
+
+    ghost from_gives = { λ _ fault. fault ≡ NoMemory };
+
+    fn from(_refused: NoMemory) -> CheckFault {
+        CheckFault::NoMemory
+    }
+}

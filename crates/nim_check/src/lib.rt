@@ -1,0 +1,21 @@
+//! The job that a driver's tree stands for, or the first line that a rule refuses; and loaded data, put into a job.
+#![tactic(auto)]
+
+mod blocks;
+mod body;
+mod driver;
+mod fault;
+mod laws;
+mod loading;
+mod names;
+mod past;
+mod stages;
+mod statements;
+#[cfg(test)]
+mod tests;
+mod vars;
+
+pub use driver::{check, read_driver};
+pub use fault::CheckFault;
+pub use laws::printed_is_loaded;
+pub use loading::load;

@@ -1,0 +1,208 @@
+//! Names: which have a meaning of their own, and where one stands among others.
+
+ghost use Rattle.std.specs.Prelude.{◌≡◌, ◌∷◌, ◌≤◌, [], bytes_eq, encode_utf8, if◌then◌else◌, length, nat_lt, IfOk};
+ghost use Rattle.std.specs.List.{list_any};
+ghost use Rattle.nim_check.specs.Made.{block_names, text_of, var_names};
+ghost use Rattle.nim_check.specs.Names.{func_of, has_twice, is_in, place_in, reserved};
+
+use nim_base::{Func, Name, NoMemory, Seq};
+use nim_parse::{Block, Var};
+use std::alloc::Global;
+use std::collections::BTreeMap;
+
+/// Whether a word is this text.
+fn is(word: &[u8], text: &[u8]) -> bool
+    ensures { result ≡ bytes_eq text.now word.now }
+{
+    text == word
+}
+
+/// Whether a word has a meaning of its own in drivers.
+#[tactic(auto, unfolding(crate::specs::Names::reserved), using(crate::proofs::Places::is_in_any))]
+pub fn is_reserved(word: &[u8]) -> bool
+    ensures { result ≡ is_in reserved word.now }
+{
+    if is(word, b"nimbus") {
+        true
+    } else if is(word, b"steps") {
+        true
+    } else if is(word, b"var") {
+        true
+    } else if is(word, b"block") {
+        true
+    } else if is(word, b"end") {
+        true
+    } else if is(word, b"else") {
+        true
+    } else if is(word, b"do") {
+        true
+    } else if is(word, b"let") {
+        true
+    } else if is(word, b"get") {
+        true
+    } else if is(word, b"loop") {
+        true
+    } else if is(word, b"while") {
+        true
+    } else if is(word, b"if") {
+        true
+    } else if is(word, b"checkpoint") {
+        true
+    } else if is(word, b"output") {
+        true
+    } else if is(word, b"with") {
+        true
+    } else if is(word, b"each") {
+        true
+    } else if is(word, b"i") {
+        true
+    } else {
+        false
+    }
+}
+
+/// The function that has this name.
+#[tactic(auto, unfolding(crate::specs::Names::func_of, crate::specs::Names::functions))]
+pub fn func_of(word: &[u8]) -> Option<Func>
+    ensures { result ≡ func_of word.now }
+{
+    if is(word, b"set") {
+        Some(Func::Set)
+    } else if is(word, b"copy") {
+        Some(Func::Copy)
+    } else if is(word, b"addc") {
+        Some(Func::Addc)
+    } else if is(word, b"mulc") {
+        Some(Func::Mulc)
+    } else if is(word, b"add") {
+        Some(Func::Add)
+    } else if is(word, b"sub") {
+        Some(Func::Sub)
+    } else if is(word, b"max") {
+        Some(Func::Max)
+    } else if is(word, b"sum") {
+        Some(Func::Sum)
+    } else if is(word, b"total") {
+        Some(Func::Total)
+    } else if is(word, b"count") {
+        Some(Func::Count)
+    } else if is(word, b"stencil") {
+        Some(Func::Stencil)
+    } else if is(word, b"keep") {
+        Some(Func::Keep)
+    } else if is(word, b"group") {
+        Some(Func::Group)
+    } else if is(word, b"merge") {
+        Some(Func::Merge)
+    } else if is(word, b"split") {
+        Some(Func::Split)
+    } else {
+        None
+    }
+}
+
+/// The place of a word among these; their number where it isn't there.
+pub fn place_in(words: &[Seq<u8>], word: &[u8]) -> usize
+    ensures place { result ≡ place_in words.now word.now }
+    ensures within { result ≤ length words.now }
+{
+    for (at, other) in words.iter().enumerate() {
+        if is(word, other.as_slice()) {
+            return at;
+        }
+    }
+    words.len()
+}
+
+/// The place of the variable with this name; the number of the variables where there is none.
+pub fn var_place(vars: &[Var], word: &[u8]) -> usize
+    ensures place { result ≡ place_in (var_names vars.now) word.now }
+    ensures within { result ≤ length vars.now }
+{
+    for (at, var) in vars.iter().enumerate() {
+        if is(word, var.name.as_slice()) {
+            return at;
+        }
+    }
+    vars.len()
+}
+
+/// The place of the block with this name; the number of the blocks where there is none.
+pub fn block_place(blocks: &[Block], word: &[u8]) -> usize
+    ensures place { result ≡ place_in (block_names blocks.now) word.now }
+    ensures within { result ≤ length blocks.now }
+{
+    for (at, block) in blocks.iter().enumerate() {
+        if is(word, block.name.as_slice()) {
+            return at;
+        }
+    }
+    blocks.len()
+}
+
+/// Whether a word is one of these.
+pub fn is_in(words: &[Seq<u8>], word: &[u8]) -> bool
+    ensures { result ≡ is_in words.now word.now }
+{
+    place_in(words, word) < words.len()
+}
+
+/// Whether there is a variable with this name.
+#[tactic(auto, using(crate::proofs::Places::length_names))]
+pub fn is_var(vars: &[Var], word: &[u8]) -> bool
+    ensures { result ≡ is_in (var_names vars.now) word.now }
+{
+    var_place(vars, word) < vars.len()
+}
+
+/// Whether there is a block with this name.
+#[tactic(auto, using(crate::proofs::Places::length_block_names))]
+pub fn is_block(blocks: &[Block], word: &[u8]) -> bool
+    ensures { result ≡ is_in (block_names blocks.now) word.now }
+{
+    block_place(blocks, word) < blocks.len()
+}
+
+/// Whether one of these words has a meaning of its own.
+pub fn has_reserved(words: &[Seq<u8>]) -> bool
+    ensures { result ≡ list_any (is_in reserved) words.now }
+{
+    for word in words {
+        if is_reserved(word.as_slice()) {
+            return true;
+        }
+    }
+    false
+}
+
+/// Whether one of these words stands twice. There may be many of them, so they are looked at in an order.
+pub fn has_twice(alloc: Global, words: &[Seq<u8>]) -> Result<bool, NoMemory>
+    ensures { IfOk result (λ twice. twice ≡ has_twice words.now) }
+{
+    let mut later: BTreeMap<&[u8], ()> = BTreeMap::new(alloc);
+    let mut left = words.len();
+    while left > 0 {
+        left -= 1;
+        if later.insert(words[left].as_slice(), ())?.is_some() {
+            return Ok(true);
+        }
+    }
+    Ok(false)
+}
+
+fn text_byte(byte: u8) -> char
+    ensures { encode_utf8 result ≡ (if nat_lt byte 128 then byte else 63) ∷ [] }
+{
+    if byte < 128 { char::from(byte) } else { '?' }
+}
+
+/// A name as a text.
+pub fn name(alloc: Global, word: &[u8]) -> Result<Name, NoMemory>
+    ensures { IfOk result (λ name. name ≡ text_of word.now) }
+{
+    let mut text = String::new(alloc);
+    for byte in word {
+        text.push(text_byte(*byte))?;
+    }
+    Ok(Name::from_string(text))
+}

@@ -1,0 +1,4 @@
+mod jobs;
+mod limits;
+mod load;
+mod refusals;
