@@ -6,7 +6,6 @@ use Rattle.std.proofs.lemmas.List.{at_drop_more, take_more}
 use Rattle.nim_lex.specs.Source.{Refusal}
 use Rattle.nim_parse.specs.declared.tree.Block.{Block}
 use Rattle.nim_parse.specs.declared.tree.Line.{Line}
-use Rattle.nim_parse.specs.declared.tree.Stage.{Stage}
 use Rattle.nim_parse.specs.declared.tree.Tree.{Tree}
 use Rattle.nim_parse.specs.declared.tree.Var.{Var}
 use Rattle.nim_check.specs.declared.fault.CheckFault.{CheckFault}
@@ -14,12 +13,9 @@ use Rattle.nim_check.specs.declared.fault.CheckFault.TheVariants.{At, NoMemory}
 use Rattle.nim_check.specs.declared.past.Past.{Past}
 use Rattle.nim_check.specs.Refusals.{IsRefusal, first_refusal, refusal_of, refused_at}
 use Rattle.nim_check.specs.Rules.{rule_of}
-use Rattle.nim_check.specs.Sites.{Site, at_stage, at_statement, at_var, block_site, block_sites, line_of, no_past, past_of, past_with, stage_sites, statement_sites, steps_sites, var_sites}
+use Rattle.nim_check.specs.Sites.{Site, at_statement, block_site, block_sites, no_past, past_of, past_with, statement_sites, steps_sites, var_sites}
 
--- a line that a rule refuses, and one that none does
-pub here : (site : Site) (sites : List Site) (rule : ℕ) → rule_of site ≡ Some rule → first_refusal (site ∷ sites) ≡ Some (record { line = line_of site; rule = rule })
-here site sites rule broken = rw broken refl
-
+-- a line that no rule refuses
 pub later : (site : Site) (sites : List Site) → rule_of site ≡ None → first_refusal (site ∷ sites) ≡ first_refusal sites
 later site sites sound = rw sound refl
 
@@ -35,19 +31,6 @@ joined (site ∷ sites) more = ap (option_or (refused_at site)) (joined sites mo
 pub refusal_first : (o p : Option Refusal) (fault : CheckFault) → IsRefusal o fault → IsRefusal (option_or o p) fault
 refusal_first o p (At line rule) is = rw is refl
 refusal_first o p NoMemory is = tt
-
-pub vars_step : (vars : List Var) (at : ℕ) (d : Var) → at < length vars
-    → first_refusal (var_sites (take at vars) (drop at vars)) ≡ first_refusal (at_var (take at vars) (get_or vars at d) ∷ var_sites (take (at + 1) vars) (drop (at + 1) vars))
-vars_step vars at d within =
-    at_drop_more (λ rest. first_refusal (var_sites (take at vars) rest)) vars at d within
-    ∙ ap (λ before. first_refusal (at_var (take at vars) (get_or vars at d) ∷ var_sites before (drop (at + 1) vars))) (sym (take_more vars at d within))
-
-pub stages_step : (vars : List Var) (block : Block) (stages : List Stage) (at : ℕ) (d : Stage) → at < length stages
-    → first_refusal (stage_sites vars block (take at stages) (drop at stages))
-    ≡ first_refusal (at_stage vars block (take at stages) (get_or stages at d) ∷ stage_sites vars block (take (at + 1) stages) (drop (at + 1) stages))
-stages_step vars block stages at d within =
-    at_drop_more (λ rest. first_refusal (stage_sites vars block (take at stages) rest)) stages at d within
-    ∙ ap (λ before. first_refusal (at_stage vars block (take at stages) (get_or stages at d) ∷ stage_sites vars block before (drop (at + 1) stages))) (sym (take_more stages at d within))
 
 pub blocks_step : (vars : List Var) (blocks : List Block) (at : ℕ) (d : Block) → at < length blocks
     → first_refusal (block_sites vars (take at blocks) (drop at blocks))

@@ -1,0 +1,113 @@
+-- Tests joined by `and`, tests of all items of a list, and the refusals of several lines.
+use Rattle.std.proofs.Common.{◌≡◌, ℕ, ◌+◌, Bool, true, false, cond, List, [], ◌∷◌, ◌++◌, take, drop, map, refl, ap, ap₂, sym, ◌∙◌, Option, None, Some}
+use Rattle.std.specs.Prelude.{◌&&◌}
+use Rattle.std.specs.List.{list_all, list_any, sum_by}
+use Rattle.std.specs.Option.{option_map, option_or}
+use Rattle.std.proofs.lemmas.Bool.{and_parts, and_from, cond-false, or_from}
+use Rattle.std.proofs.lemmas.List.{take-append-drop}
+use Rattle.std.proofs.lemmas.List.Folds.{list_all-append}
+use Rattle.std.proofs.lemmas.List.Sums.{sum_by-cons}
+use Rattle.nim_lex.specs.Source.{Refusal}
+use Rattle.nim_check.specs.Refusals.{first_refusal, refused_at}
+use Rattle.nim_check.specs.Rules.{rule_of}
+use Rattle.nim_check.specs.Sites.{Site, line_of}
+
+pub parts3 : (a b c : Bool) → (a && b && c) ≡ true → (a ≡ true) × (b ≡ true) × (c ≡ true)
+parts3 a b c is =
+    let p = and_parts (a && b) c is in
+    let q = and_parts a b p.0 in
+    (q.0, q.1, p.1)
+
+pub parts4 : (a b c d : Bool) → (a && b && c && d) ≡ true → (a ≡ true) × (b ≡ true) × (c ≡ true) × (d ≡ true)
+parts4 a b c d is =
+    let p = and_parts (a && b && c) d is in
+    let q = parts3 a b c p.0 in
+    (q.0, q.1, q.2, p.1)
+
+pub parts5 : (a b c d e : Bool) → (a && b && c && d && e) ≡ true → (a ≡ true) × (b ≡ true) × (c ≡ true) × (d ≡ true) × (e ≡ true)
+parts5 a b c d e is =
+    let p = and_parts (a && b && c && d) e is in
+    let q = parts4 a b c d p.0 in
+    (q.0, q.1, q.2, q.3, p.1)
+
+pub from3 : (a b c : Bool) → a ≡ true → b ≡ true → c ≡ true → (a && b && c) ≡ true
+from3 a b c x y z = and_from (a && b) c (and_from a b x y) z
+
+pub from4 : (a b c d : Bool) → a ≡ true → b ≡ true → c ≡ true → d ≡ true → (a && b && c && d) ≡ true
+from4 a b c d x y z w = and_from (a && b && c) d (from3 a b c x y z) w
+
+pub from5 : (a b c d e : Bool) → a ≡ true → b ≡ true → c ≡ true → d ≡ true → e ≡ true → (a && b && c && d && e) ≡ true
+from5 a b c d e x y z w v = and_from (a && b && c && d) e (from4 a b c d x y z w) v
+
+-- ---- lists
+
+pub all_parts : {X : Type 0} (p : X → Bool) (xs ys : List X) → list_all p (xs ++ ys) ≡ true → (list_all p xs ≡ true) × (list_all p ys ≡ true)
+all_parts p xs ys all = and_parts (list_all p xs) (list_all p ys) (sym (list_all-append p xs ys) ∙ all)
+
+pub all_both : {X : Type 0} (p : X → Bool) (xs ys : List X) → list_all p xs ≡ true → list_all p ys ≡ true → list_all p (xs ++ ys) ≡ true
+all_both p xs ys all more = list_all-append p xs ys ∙ and_from (list_all p xs) (list_all p ys) all more
+
+pub all_taken : {X : Type 0} (p : X → Bool) (k : ℕ) (xs : List X) → list_all p xs ≡ true → list_all p (take k xs) ≡ true
+all_taken p k xs all = (all_parts p (take k xs) (drop k xs) (ap (list_all p) (take-append-drop k xs) ∙ all)).0
+
+pub all_mapped : {X Y : Type 0} (p : Y → Bool) (f : X → Y) (q : X → Bool) → ((x : X) → q x ≡ true → p (f x) ≡ true) → (xs : List X) → list_all q xs ≡ true → list_all p (map f xs) ≡ true
+all_mapped p f q each [] all = refl
+all_mapped p f q each (x ∷ xs) all =
+    let parts = and_parts (q x) (list_all q xs) all in
+    and_from (p (f x)) (list_all p (map f xs)) (each x parts.0) (all_mapped p f q each xs parts.1)
+
+-- two tests together
+pub all_of_both : {X : Type 0} (p q r : X → Bool) → ((x : X) → p x ≡ true → q x ≡ true → r x ≡ true) → (xs : List X) → list_all p xs ≡ true → list_all q xs ≡ true → list_all r xs ≡ true
+all_of_both p q r each [] all more = refl
+all_of_both p q r each (x ∷ xs) all more =
+    let here = and_parts (p x) (list_all p xs) all in
+    let also = and_parts (q x) (list_all q xs) more in
+    and_from (r x) (list_all r xs) (each x here.0 also.0) (all_of_both p q r each xs here.1 also.1)
+
+pub none_mapped : {X Y : Type 0} (p : Y → Bool) (f : X → Y) (q : X → Bool) → ((x : X) → q x ≡ true → p (f x) ≡ false) → (xs : List X) → list_all q xs ≡ true → list_any p (map f xs) ≡ false
+none_mapped p f q each [] all = refl
+none_mapped p f q each (x ∷ xs) all =
+    let parts = and_parts (q x) (list_all q xs) all in
+    or_from (p (f x)) (list_any p (map f xs)) (each x parts.0) (none_mapped p f q each xs parts.1)
+
+pub all_same : {X : Type 0} (p q : X → Bool) → ((x : X) → p x ≡ q x) → (xs : List X) → list_all p xs ≡ list_all q xs
+all_same p q same [] = refl
+all_same p q same (x ∷ xs) = ap₂ (λ (a b : Bool). a && b) (same x) (all_same p q same xs)
+
+pub map_same : {X Y : Type 0} (f g : X → Y) → ((x : X) → f x ≡ g x) → (xs : List X) → map f xs ≡ map g xs
+map_same {X} {Y} f g same [] = refl
+map_same {X} {Y} f g same (x ∷ xs) = ap₂ (λ (y : Y) (ys : List Y). y ∷ ys) (same x) (map_same f g same xs)
+
+pub sum_same : {X : Type 0} (f g : X → ℕ) → ((x : X) → f x ≡ g x) → (xs : List X) → sum_by f xs ≡ sum_by g xs
+sum_same f g same [] = refl
+sum_same f g same (x ∷ xs) = sum_by-cons f x xs ∙ ap₂ (λ (n m : ℕ). n + m) (same x) (sum_same f g same xs) ∙ sym (sum_by-cons g x xs)
+
+-- what is read back item by item
+pub map_back : {X Y : Type 0} (f : X → Y) (g : Y → X) (q : X → Bool) → ((x : X) → q x ≡ true → g (f x) ≡ x) → (xs : List X) → list_all q xs ≡ true → map g (map f xs) ≡ xs
+map_back {X} f g q each [] all = refl
+map_back {X} f g q each (x ∷ xs) all =
+    let parts = and_parts (q x) (list_all q xs) all in
+    ap₂ (λ (y : X) (ys : List X). y ∷ ys) (each x parts.0) (map_back f g q each xs parts.1)
+
+-- ---- refusals
+
+pub no_rule : (refuses : Bool) (number : ℕ) (rest : Option ℕ) → refuses ≡ false → rest ≡ None → cond refuses (Some number) rest ≡ None
+no_rule refuses number rest passes none = cond-false refuses (Some number) rest passes ∙ none
+
+abbrev refused_by : Site → Option ℕ → Option Refusal
+refused_by site rule = option_map (λ (number : ℕ). let refusal : Refusal = record { line = line_of site; rule = number } in refusal) rule
+
+-- a line that no rule refuses, before others that none refuses
+pub passes_on : (site : Site) (sites : List Site) → rule_of site ≡ None → first_refusal sites ≡ None → first_refusal (site ∷ sites) ≡ None
+passes_on site sites none rest = ap (λ (rule : Option ℕ). option_or (refused_by site rule) (first_refusal sites)) none ∙ rest
+
+or_assoc : {X : Type 0} (a b c : Option X) → option_or a (option_or b c) ≡ option_or (option_or a b) c
+or_assoc None b c = refl
+or_assoc (Some x) b c = refl
+
+refusal_append : (xs ys : List Site) → first_refusal (xs ++ ys) ≡ option_or (first_refusal xs) (first_refusal ys)
+refusal_append [] ys = refl
+refusal_append (x ∷ xs) ys = ap (option_or (refused_at x)) (refusal_append xs ys) ∙ or_assoc (refused_at x) (first_refusal xs) (first_refusal ys)
+
+pub passes_both : (xs ys : List Site) → first_refusal xs ≡ None → first_refusal ys ≡ None → first_refusal (xs ++ ys) ≡ None
+passes_both xs ys first second = refusal_append xs ys ∙ ap₂ option_or first second

@@ -1,0 +1,95 @@
+-- Which trees and jobs a printer can print: their names are names, and their numbers are in the ranges of the language.
+use Rattle.std.specs.Prelude.{ℕ, Bool, true, not, ◌&&◌, nat_le, ℤ, pos, negsuc, List, [], ◌++◌, map, Option, None, Some}
+use Rattle.std.specs.List.{list_all}
+use Rattle.nim_base.specs.declared.task.Param.{Param}
+use Rattle.nim_base.specs.declared.task.Param.TheVariants as param
+use Rattle.nim_job.specs.declared.block.Block.{Block as job_block}
+use Rattle.nim_job.specs.declared.block.Place.{Place}
+use Rattle.nim_job.specs.declared.block.Place.TheVariants.{Fixed, Plus, Minus}
+use Rattle.nim_job.specs.declared.block.Ref.{Ref as job_ref}
+use Rattle.nim_job.specs.declared.block.Stage.{Stage as job_stage}
+use Rattle.nim_job.specs.declared.job.Init.{Init as job_init}
+use Rattle.nim_job.specs.declared.job.Init.TheVariants as init
+use Rattle.nim_job.specs.declared.job.Job.{Job}
+use Rattle.nim_job.specs.declared.job.Var.{Var as job_var}
+use Rattle.nim_job.specs.declared.stmt.Arith.{Arith}
+use Rattle.nim_job.specs.declared.stmt.Atom.{Atom as job_atom}
+use Rattle.nim_job.specs.declared.stmt.Atom.TheVariants as atom
+use Rattle.nim_job.specs.declared.stmt.Cond.{Cond}
+use Rattle.nim_job.specs.declared.stmt.Stmt.{Stmt, fold-Stmt}
+use Rattle.nim_job.specs.declared.stmt.Stmt.TheOpen.{Stmt-F}
+use Rattle.nim_check.specs.Names.{has_twice, is_in, reserved}
+use Rattle.nim_printed.specs.Words.{Word, is_short_name}
+
+-- a name that isn't a reserved word
+abbrev pub is_free : Word → Bool
+is_free word = is_short_name word && not (is_in reserved word)
+
+-- a number that the language can write
+abbrev pub is_small : ℕ → Bool
+is_small n = nat_le n 9223372036854775808
+
+-- a number of 64 bits with its sign
+abbrev pub is_int : ℤ → Bool
+is_int (pos n) = nat_le n 9223372036854775807
+is_int (negsuc n) = nat_le n 9223372036854775807
+
+-- ---- jobs
+
+abbrev pub is_init : job_init → Bool
+is_init (init.Fill number) = is_int number
+is_init _ = true
+
+abbrev pub is_place : Place → Bool
+is_place (Fixed n) = is_small n
+is_place (Plus n) = is_small n
+is_place (Minus n) = is_small n
+
+abbrev pub is_param : Param → Bool
+is_param (param.Const number) = is_int number
+is_param (param.Arg arg) = true
+
+abbrev pub is_stage : job_stage → Bool
+is_stage stage = list_all (λ (ref : job_ref). is_place ref.place) (stage.reads ++ stage.writes) && list_all is_param stage.params
+
+abbrev pub is_atom : job_atom → Bool
+is_atom (atom.Const number) = is_int number
+is_atom (atom.Scalar scalar) = true
+
+abbrev pub is_rest : Option (Arith × job_atom) → Bool
+is_rest None = true
+is_rest (Some rest) = is_atom rest.1
+
+abbrev pub is_cond : Cond → Bool
+is_cond cond = is_atom cond.left && is_atom cond.right
+
+abbrev pub all_true : List Bool → Bool
+all_true parts = list_all (λ part. part) parts
+
+abbrev pub is_stmt : Stmt-F Bool → Bool
+is_stmt (Stmt-F.Do block args) = list_all is_atom args
+is_stmt (Stmt-F.Let scalar first rest) = is_atom first && is_rest rest
+is_stmt (Stmt-F.Get scalar var part row cell) = is_small part && is_small row && is_small cell
+is_stmt (Stmt-F.Loop turns body) = is_atom turns && all_true body
+is_stmt (Stmt-F.While cond body) = is_cond cond && all_true body
+is_stmt (Stmt-F.If cond first second) = is_cond cond && all_true first && all_true second
+is_stmt Stmt-F.Checkpoint = true
+is_stmt (Stmt-F.Output var) = true
+
+abbrev pub names_in : Job → List Word
+names_in job = map (λ v. v.name) job.vars ++ map (λ b. b.name) job.blocks
+
+-- Variables and blocks have names of their own that aren't reserved, and each number can be written.
+abbrev pub is_spelled : Job → Bool
+is_spelled job = list_all is_free (names_in job) && not (has_twice (names_in job))
+    && list_all (λ (v : job_var). is_init v.init) job.vars
+    && list_all (λ (b : job_block). list_all is_stage b.stages) job.blocks
+    && list_all (λ (stmt : Stmt). fold-Stmt Bool is_stmt stmt) job.body
+
+-- the same job, loaded data not yet there
+abbrev pub without_data : job_init → job_init
+without_data (init.Loaded values) = init.Loaded []
+without_data i = i
+
+abbrev pub unloaded : Job → Job
+unloaded job = record job { vars = map (λ (v : job_var). record v { init = without_data v.init }) job.vars }

@@ -1,0 +1,89 @@
+-- Which trees a printer can print: names are names that aren't reserved, numbers are in the ranges of the language, each
+-- stage writes something, and statements nest.
+use Rattle.std.specs.Prelude.{Bool, true, false, ◌&&◌, List, [], ◌∷◌, Option, None, Some}
+use Rattle.std.specs.List.{list_all}
+use Rattle.nim_parse.specs.declared.nest.Open.{Open}
+use Rattle.nim_parse.specs.declared.tree.Atom.{Atom}
+use Rattle.nim_parse.specs.declared.tree.Atom.TheVariants.{Number, Name}
+use Rattle.nim_parse.specs.declared.tree.Block.{Block}
+use Rattle.nim_parse.specs.declared.tree.Condition.{Condition}
+use Rattle.nim_parse.specs.declared.tree.Condition.TheVariants.{NotZero, Holds}
+use Rattle.nim_parse.specs.declared.tree.Expression.{Expression}
+use Rattle.nim_parse.specs.declared.tree.Expression.TheVariants.{Alone, Two}
+use Rattle.nim_parse.specs.declared.tree.Index.{Index}
+use Rattle.nim_parse.specs.declared.tree.Index.TheVariants.{Part, Own, After, Before}
+use Rattle.nim_parse.specs.declared.tree.Init.{Init}
+use Rattle.nim_parse.specs.declared.tree.Init.TheVariants.{Fill}
+use Rattle.nim_parse.specs.declared.tree.Line.{Line}
+use Rattle.nim_parse.specs.declared.tree.Ref.{Ref}
+use Rattle.nim_parse.specs.declared.tree.Stage.{Stage}
+use Rattle.nim_parse.specs.declared.tree.Statement.{Statement}
+use Rattle.nim_parse.specs.declared.tree.Statement.TheVariants.{Do, Let, Get, Loop, While, If, Else, End, Checkpoint, Output}
+use Rattle.nim_parse.specs.declared.tree.Steps.{Steps}
+use Rattle.nim_parse.specs.declared.tree.Tree.{Tree}
+use Rattle.nim_parse.specs.declared.tree.Var.{Var}
+use Rattle.nim_parse.specs.Nesting.{is_empty, open_after}
+use Rattle.nim_printed.specs.Spelled.{is_free, is_int, is_small}
+
+abbrev pub is_atom : Atom → Bool
+is_atom (Number number) = is_int number
+is_atom (Name name) = is_free name
+
+abbrev pub is_index : Index → Bool
+is_index (Part number) = is_small number
+is_index Own = true
+is_index (After number) = is_small number
+is_index (Before number) = is_small number
+
+abbrev pub is_ref : Ref → Bool
+is_ref ref = is_free ref.name && is_index ref.index
+
+abbrev pub is_init : Init → Bool
+is_init (Fill number) = is_int number
+is_init _ = true
+
+abbrev pub is_steps : Option Steps → Bool
+is_steps None = true
+is_steps (Some steps) = is_small steps.most
+
+abbrev pub is_var : Var → Bool
+is_var v = is_free v.name && is_small v.parts && is_small v.width && is_small v.rows && is_init v.init
+
+abbrev pub is_some_refs : List Ref → Bool
+is_some_refs [] = false
+is_some_refs (ref ∷ refs) = list_all is_ref (ref ∷ refs)
+
+abbrev pub is_stage : Stage → Bool
+is_stage stage = is_free stage.function && list_all is_ref stage.reads && is_some_refs stage.writes && list_all is_atom stage.parameters
+
+abbrev pub is_block : Block → Bool
+is_block block = is_free block.name && list_all is_free block.arguments && list_all is_stage block.stages
+
+abbrev pub is_value : Expression → Bool
+is_value (Alone atom) = is_atom atom
+is_value (Two left operator right) = is_atom left && is_atom right
+
+abbrev pub is_condition : Condition → Bool
+is_condition (NotZero atom) = is_atom atom
+is_condition (Holds left relation right) = is_atom left && is_atom right
+
+abbrev pub is_statement : Statement → Bool
+is_statement (Do block arguments) = is_free block && list_all is_atom arguments
+is_statement (Let name value) = is_free name && is_value value
+is_statement (Get name variable part row column) = is_free name && is_free variable && is_small part && is_small row && is_small column
+is_statement (Loop turns) = is_atom turns
+is_statement (While condition) = is_condition condition
+is_statement (If condition) = is_condition condition
+is_statement Else = true
+is_statement End = true
+is_statement Checkpoint = true
+is_statement (Output variable) = is_free variable
+
+-- nothing is open behind the statements
+abbrev pub is_closed : Option (List Open) → Bool
+is_closed None = false
+is_closed (Some opened) = is_empty opened
+
+abbrev pub is_printable : Tree → Bool
+is_printable tree = is_steps tree.steps && list_all is_var tree.vars && list_all is_block tree.blocks
+    && list_all (λ (line : Line). is_statement line.statement) tree.statements && is_closed (open_after [] tree.statements)
