@@ -2,7 +2,9 @@
 
 ghost use Rattle.std.specs.Prelude.{◌≡◌, map, reverse, IfOk, OnOk};
 ghost use Rattle.nim_check.specs.Body as spec;
-ghost use Rattle.nim_check.specs.Body.{AreFew, bodies_in, body_of, onto, with_line};
+ghost use Rattle.nim_job.specs.declared.stmt.Stmt.TheVariants as stmt;
+ghost use Rattle.nim_check.specs.Body.{AreFew, bodies_in, body_of, onto, opened, parted, with_line};
+ghost use Rattle.nim_check.specs.Names.{place_in as spec_place};
 
 use crate::names::place_in;
 use nim_base::{NoMemory, Seq};
@@ -139,6 +141,92 @@ fn put(bodies: &mut Vec<Held>, made: Stmt) -> Result<(), NoMemory>
     Ok(())
 }
 
+fn do_of(alloc: Global, names: &Names, block: &[u8], arguments: &[Atom]) -> Result<Stmt, NoMemory>
+    requires { AreFew names.now }
+    ensures { IfOk result (λ made. made ≡ stmt.Do (spec_place names.now.blocks block.now) (map (spec.atom_of names.now) arguments.now)) }
+{
+    Ok(Stmt::Do {
+        block: place_in(names.blocks.as_slice(), block) as u8,
+        args: atoms_of(alloc, names, arguments)?,
+    })
+}
+
+fn let_of(names: &Names, name: &[u8], value: &Expression) -> Stmt
+    requires { AreFew names.now }
+    ensures { result ≡ stmt.Let (spec_place names.now.scalars name.now) (spec.first_of names.now value.now) (spec.rest_of names.now value.now) }
+{
+    Stmt::Let {
+        scalar: place_in(names.scalars.as_slice(), name) as u8,
+        first: first_of(names, value),
+        rest: rest_of(names, value),
+    }
+}
+
+/// A loop takes the innermost body in.
+fn open_loop(names: &Names, turns: &Atom, bodies: &mut Vec<Held>) -> Result<(), NoMemory>
+    requires { AreFew names.now }
+    ensures { OnOk result (bodies_in bodies.new.items ≡ opened (λ body. stmt.Loop (spec.atom_of names.now turns.now) body.first) (bodies_in bodies.old.items)) }
+{
+    match bodies.pop() {
+        Some(Held { first, .. }) => {
+            let made = Stmt::Loop {
+                turns: atom_of(names, turns),
+                body: in_order(first),
+            };
+            put(bodies, made)
+        }
+        None => Ok(()),
+    }
+}
+
+/// A while takes the innermost body in.
+fn open_while(names: &Names, condition: &Condition, bodies: &mut Vec<Held>) -> Result<(), NoMemory>
+    requires { AreFew names.now }
+    ensures { OnOk result (bodies_in bodies.new.items ≡ opened (λ body. stmt.While (spec.cond_of names.now condition.now) body.first) (bodies_in bodies.old.items)) }
+{
+    match bodies.pop() {
+        Some(Held { first, .. }) => {
+            let made = Stmt::While {
+                cond: cond_of(names, condition),
+                body: in_order(first),
+            };
+            put(bodies, made)
+        }
+        None => Ok(()),
+    }
+}
+
+/// An if takes both parts of the innermost body in.
+fn open_if(names: &Names, condition: &Condition, bodies: &mut Vec<Held>) -> Result<(), NoMemory>
+    requires { AreFew names.now }
+    ensures { OnOk result (bodies_in bodies.new.items ≡ opened (λ body. stmt.If (spec.cond_of names.now condition.now) body.first body.second) (bodies_in bodies.old.items)) }
+{
+    match bodies.pop() {
+        Some(Held { first, second }) => {
+            let made = Stmt::If {
+                cond: cond_of(names, condition),
+                first: in_order(first),
+                second: in_order(second),
+            };
+            put(bodies, made)
+        }
+        None => Ok(()),
+    }
+}
+
+/// What is behind an `else` becomes the second part of the innermost body.
+fn part(alloc: Global, bodies: &mut Vec<Held>) -> Result<(), NoMemory>
+    ensures { OnOk result (bodies_in bodies.new.items ≡ parted (bodies_in bodies.old.items)) }
+{
+    if let Some(Held { first, .. }) = bodies.pop() {
+        bodies.push(Held {
+            first: Vec::new(alloc),
+            second: first,
+        })?;
+    }
+    Ok(())
+}
+
 /// Takes the line before those that made the bodies.
 fn take_line(
     alloc: Global,
@@ -151,20 +239,10 @@ fn take_line(
 {
     match statement {
         Statement::Do { block, arguments } => {
-            let made = Stmt::Do {
-                block: place_in(names.blocks.as_slice(), block.as_slice()) as u8,
-                args: atoms_of(alloc, names, arguments.as_slice())?,
-            };
+            let made = do_of(alloc, names, block.as_slice(), arguments.as_slice())?;
             put(bodies, made)
         }
-        Statement::Let { name, value } => {
-            let made = Stmt::Let {
-                scalar: place_in(names.scalars.as_slice(), name.as_slice()) as u8,
-                first: first_of(names, value),
-                rest: rest_of(names, value),
-            };
-            put(bodies, made)
-        }
+        Statement::Let { name, value } => put(bodies, let_of(names, name.as_slice(), value)),
         Statement::Get {
             name,
             variable,
@@ -181,54 +259,14 @@ fn take_line(
             };
             put(bodies, made)
         }
-        Statement::Loop { turns } => match bodies.pop() {
-            Some(body) => {
-                let made = Stmt::Loop {
-                    turns: atom_of(names, turns),
-                    body: in_order(body.first),
-                };
-                put(bodies, made)
-            }
-            None => Ok(()),
-        },
-        Statement::While { condition } => match bodies.pop() {
-            Some(body) => {
-                let made = Stmt::While {
-                    cond: cond_of(names, condition),
-                    body: in_order(body.first),
-                };
-                put(bodies, made)
-            }
-            None => Ok(()),
-        },
-        Statement::If { condition } => match bodies.pop() {
-            Some(Held { first, second }) => {
-                let made = Stmt::If {
-                    cond: cond_of(names, condition),
-                    first: in_order(first),
-                    second: in_order(second),
-                };
-                put(bodies, made)
-            }
-            None => Ok(()),
-        },
-        Statement::Else => match bodies.pop() {
-            Some(body) => {
-                bodies.push(Held {
-                    first: Vec::new(alloc),
-                    second: body.first,
-                })?;
-                Ok(())
-            }
-            None => Ok(()),
-        },
-        Statement::End => {
-            bodies.push(Held {
-                first: Vec::new(alloc),
-                second: Vec::new(alloc),
-            })?;
-            Ok(())
-        }
+        Statement::Loop { turns } => open_loop(names, turns, bodies),
+        Statement::While { condition } => open_while(names, condition, bodies),
+        Statement::If { condition } => open_if(names, condition, bodies),
+        Statement::Else => part(alloc, bodies),
+        Statement::End => Ok(bodies.push(Held {
+            first: Vec::new(alloc),
+            second: Vec::new(alloc),
+        })?),
         Statement::Checkpoint => put(bodies, Stmt::Checkpoint),
         Statement::Output { variable } => {
             let made = Stmt::Output {
