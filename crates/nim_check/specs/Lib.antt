@@ -1,4 +1,5 @@
 pub mod Body
+pub mod Faults
 pub mod Loading
 pub mod Made
 pub mod Names

@@ -1,16 +1,17 @@
 ghost use Rattle.std.specs.Prelude.{◌≡◌, ◌≤◌, [], IfErr, IfOk, IsTrue, None, Some};
-ghost use Rattle.nim_job.specs.Whole.{is_checked};
+ghost use Rattle.nim_job.specs.Whole.{is_checked, is_whole};
 ghost use Rattle.nim_parse.specs.Driver.{tree_of};
 ghost use Rattle.nim_parse.specs.Nesting.{open_after};
 ghost use Rattle.nim_check.specs.Made.{block_names, job_of, steps_of, var_names};
-ghost use Rattle.nim_check.specs.Refusals.{Answers, IsRefusal, driver_refusal, first_refusal, refusal_of, text_refusal};
+ghost use Rattle.nim_check.specs.Refusals.{Answers, IsFileRefusal, IsRefusal, driver_refusal, first_refusal, job_from, refusal_of, refused, text_refusal};
 ghost use Rattle.nim_check.specs.Sites.{steps_sites};
 
-use crate::CheckFault;
 use crate::blocks::make_blocks;
 use crate::body::{Names, make_body};
+use crate::loading::load;
 use crate::statements::scalars_of;
 use crate::vars::make_vars;
+use crate::{CheckFault, Input, ReadFault};
 use nim_base::{Copied, NoMemory, Seq};
 use nim_job::Job;
 use nim_lex::{LexFault, tokens};
@@ -120,4 +121,23 @@ pub fn read_driver(alloc: Global, bytes: &[u8]) -> Result<Job, CheckFault>
 {
     let tree = tree_of(alloc, bytes)?;
     check(alloc, &tree)
+}
+
+/// The whole job that a driver and its data stand for, or the first refused line of the first file that has one, with
+/// the smallest rule that refuses it. A driver without loaded variables takes data without parts. Want of memory may
+/// come in place of any answer.
+pub fn read_job(alloc: Global, driver: &[u8], data_file: &[u8]) -> Result<Job, ReadFault>
+    ensures accepted { IfOk result (λ job. refused driver.now data_file.now ≡ None) }
+    ensures job { IfOk result (λ job. job ≡ job_from driver.now data_file.now) }
+    ensures whole { IfOk result (λ job. IsTrue (is_whole job)) }
+    ensures refused { IfErr result (IsFileRefusal (refused driver.now data_file.now)) }
+{
+    let mut job = match read_driver(alloc, driver) {
+        Ok(job) => job,
+        Err(fault) => return Err(fault.within(Input::Driver)),
+    };
+    match load(alloc, &mut job, data_file) {
+        Ok(()) => Ok(job),
+        Err(fault) => Err(fault.within(Input::Data)),
+    }
 }

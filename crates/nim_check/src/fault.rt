@@ -1,3 +1,6 @@
+ghost use Rattle.std.specs.Prelude.{◌≡◌};
+ghost use Rattle.nim_check.specs.Faults.{within};
+
 use nim_base::NoMemory;
 
 /// Why there is no job.
@@ -17,5 +20,32 @@ impl From<NoMemory> for CheckFault {
 
     fn from(_refused: NoMemory) -> CheckFault {
         CheckFault::NoMemory
+    }
+}
+
+/// One of the two files that a job is read from.
+#[derive(Clone, Copy, Debug, PartialEq, Eq)]
+pub enum Input {
+    Driver,
+    Data,
+}
+
+/// Why a driver and its data give no job.
+#[derive(Clone, Copy, Debug, PartialEq, Eq)]
+pub enum ReadFault {
+    /// A rule refuses this line of this file.
+    At { input: Input, line: u32, rule: u8 },
+    NoMemory,
+}
+
+impl CheckFault {
+    /// The same of a file.
+    pub(crate) fn within(self, input: Input) -> ReadFault
+        ensures { result ≡ within input self }
+    {
+        match self {
+            CheckFault::At { line, rule } => ReadFault::At { input, line, rule },
+            CheckFault::NoMemory => ReadFault::NoMemory,
+        }
     }
 }

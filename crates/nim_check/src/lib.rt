@@ -15,7 +15,7 @@ mod statements;
 mod tests;
 mod vars;
 
-pub use driver::{check, read_driver};
-pub use fault::CheckFault;
+pub use driver::{check, read_driver, read_job};
+pub use fault::{CheckFault, Input, ReadFault};
 pub use laws::printed_is_loaded;
 pub use loading::load;

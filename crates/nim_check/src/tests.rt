@@ -1,3 +1,4 @@
+mod files;
 mod jobs;
 mod limits;
 mod load;
