@@ -1,9 +1,13 @@
+ghost use Rattle.std.specs.Prelude.{◌≡◌};
+ghost use Rattle.nim_job.specs.Tasks.{takes_of};
+
 use crate::first_path::read_driver;
 use crate::{Status, top_replay};
 use nim_base::{Func, Object, Param, Value};
 use nim_io::{FileFail, MemFiles, MemSink};
 use nim_job::{
-    block_forms, block_tasks, is_checked, is_plain, is_whole, machine_follows, versions_are_read,
+    Job, block_forms, block_tasks, is_checked, is_plain, is_whole, machine_follows,
+    versions_are_read,
 };
 use std::alloc::{AllocError, Global};
 use std::test::Fail;
@@ -125,9 +129,32 @@ fn a_block_has_a_form_for_each_part(rt: HostRuntime) -> Result<(), Fail> {
             "{part}"
         );
     }
-    let tasks = block_tasks(alloc, &job, 0, &[])?;
+    Ok(())
+}
+
+/// How many arguments a block takes.
+fn takes(job: &Job, block: u8) -> u8
+    ensures { result ≡ takes_of job.now block }
+{
+    match job.blocks.as_slice().get(usize::from(block)) {
+        Some(found) => found.args,
+        None => 0,
+    }
+}
+
+#[test]
+fn a_block_without_arguments_has_its_tasks(rt: HostRuntime) -> Result<(), Fail> {
+    let Some(job) = read_driver(rt.alloc(), PAIR.as_bytes())? else {
+        return Err(Fail::from("it isn't read"));
+    };
+    if job.blocks.len() == 0 || takes(&job, 0) != 0 {
+        return Err(Fail::from("there is no such block"));
+    }
+    let tasks = block_tasks(rt.alloc(), &job, 0, &[])?;
     assert_eq!(rt; tasks.len(), 2);
-    assert_eq!(rt; tasks[1].params.as_slice(), [4].as_slice());
+    for task in &tasks {
+        assert_eq!(rt; task.params.as_slice(), [4].as_slice());
+    }
     Ok(())
 }
 
