@@ -17,48 +17,44 @@ fn is(word: &[u8], text: &[u8]) -> bool
     text == word
 }
 
+/// The words that have a meaning of their own in drivers.
+const RESERVED: [&[u8]; 17] = [
+    b"nimbus",
+    b"steps",
+    b"var",
+    b"block",
+    b"end",
+    b"else",
+    b"do",
+    b"let",
+    b"get",
+    b"loop",
+    b"while",
+    b"if",
+    b"checkpoint",
+    b"output",
+    b"with",
+    b"each",
+    b"i",
+];
+
+/// Whether a word is one of these.
+fn stands_in(texts: &[&[u8]], word: &[u8]) -> bool
+    ensures { result ≡ list_any (λ text. bytes_eq text.now word.now) texts.now }
+{
+    for text in texts {
+        if is(word, text) {
+            return true;
+        }
+    }
+    false
+}
+
 /// Whether a word has a meaning of its own in drivers.
-#[tactic(auto, unfolding(crate::specs::Names::reserved), using(crate::proofs::Places::is_in_any))]
 pub fn is_reserved(word: &[u8]) -> bool
     ensures { result ≡ is_in reserved word.now }
 {
-    if is(word, b"nimbus") {
-        true
-    } else if is(word, b"steps") {
-        true
-    } else if is(word, b"var") {
-        true
-    } else if is(word, b"block") {
-        true
-    } else if is(word, b"end") {
-        true
-    } else if is(word, b"else") {
-        true
-    } else if is(word, b"do") {
-        true
-    } else if is(word, b"let") {
-        true
-    } else if is(word, b"get") {
-        true
-    } else if is(word, b"loop") {
-        true
-    } else if is(word, b"while") {
-        true
-    } else if is(word, b"if") {
-        true
-    } else if is(word, b"checkpoint") {
-        true
-    } else if is(word, b"output") {
-        true
-    } else if is(word, b"with") {
-        true
-    } else if is(word, b"each") {
-        true
-    } else if is(word, b"i") {
-        true
-    } else {
-        false
-    }
+    stands_in(&RESERVED, word)
 }
 
 /// The function that has this name.
