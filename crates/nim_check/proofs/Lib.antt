@@ -12,3 +12,4 @@ pub mod PrintedLines
 pub mod PrintedData
 pub mod PrintedJob
 pub mod PrintedSize
+pub mod Scanned

@@ -42,7 +42,17 @@ const HEADS: [Refused; 19] = [
     (b"nimbus 1\nvar i parts 0 width 1 rows 1 load\n", 2, 41),
 ];
 
-const STAGES: [Refused; 14] = [
+const STAGES: [Refused; 16] = [
+    (
+        b"nimbus 1\nvar a parts 2 width 1 rows 1 fill 3\nblock b()\naddc c[0] -> a[0] with 1\nend\n",
+        4,
+        47,
+    ),
+    (
+        b"nimbus 1\nvar a parts 2 width 1 rows 1 fill 3\nblock b()\nsplit a[0] -> a[0] a[2] with 0 5\nend\n",
+        4,
+        49,
+    ),
     (b"nimbus 1\nblock b()\nnope -> a[0]\nend\n", 3, 45),
     (b"nimbus 1\nblock b()\nset -> a[0]\nend\n", 3, 46),
     (b"nimbus 1\nblock b()\nadd a[0] -> a[0]\nend\n", 3, 46),
@@ -145,6 +155,8 @@ fn each_rule_refuses_its_lines(rt: HostRuntime) {
 fn what_no_rule_refuses(rt: HostRuntime) {
     for text in [
         b"nimbus 1".as_slice(),
+        b"nimbus 1\nvar a parts 2 width 1 rows 1 fill 3\nblock b()\naddc a[i] -> a[i] with 4 each i\nend\ndo b()\noutput a\n",
+        b"nimbus 1\nvar z parts 1 width 1 rows 1 fill 0\nvar a parts 15 width 256 rows 256 fill 1\nblock b()\ntotal a[0] a[1] a[2] a[3] a[4] a[5] a[6] a[7] -> z[0]\nend\ndo b()\noutput z\n",
         b"nimbus 1\nsteps 1\n",
         b"nimbus 1\nsteps 1000000\n",
         b"nimbus 1\nvar a parts 16 width 1 rows 65536 load\n",
