@@ -4,6 +4,7 @@ use Rattle.std.proofs.Common.{◌≡◌, ◌∙◌, ℕ, ◌≤◌, cond, Bool, 
 use Rattle.std.specs.Prelude.{Option, nat_le, nat_lt, not, ◌&&◌, ◌==◌, is_some, slice_get}
 use Rattle.std.specs.List.{list_all}
 use Rattle.std.specs.Option.{option_and_then, option_map, option_map_or, option_or}
+use Rattle.std.proofs.lemmas.Bool.{and_from}
 use Rattle.std.proofs.lemmas.Bool.Decides.{nat_tests}
 use Rattle.std.proofs.lemmas.List.{length-map}
 use Rattle.std.proofs.lemmas.Option.{slice_get-map}
@@ -31,7 +32,6 @@ use Rattle.nim_check.specs.Refusals.{first_refusal}
 use Rattle.nim_check.specs.Rules.{has_block, has_variable, is_known, opens, read_by, rule_41, rule_44, rule_47, rule_52, rule_53, rule_54, rule_of}
 use Rattle.nim_check.specs.Sites.{at_statement, no_past, past_of, past_with, statement_sites}
 use Rattle.nim_check.proofs.Counts.{Begins, known_atoms, known_cond, known_value, one_known, read_begins, set_begins, sets}
-use Rattle.nim_check.proofs.StageTests.{and_from}
 use Rattle.nim_check.proofs.Scanned.{Fits, checkpoint_scan, do_scan, else_fits, else_scan, end_fits, get_scan, if_bodies, if_scan, let_scan, loop_scan, no_second, opened_fits, output_scan, put_fits, put_scan, scan_bodies, turns_scan, while_scan}
 
 -- ---- one line

@@ -2,6 +2,7 @@
 use Rattle.std.proofs.Common.{◌≡◌, ◌∙◌, ℕ, suc, ◌+◌, cond, Bool, true, false, List, [], ◌∷◌, ◌++◌, length, map, refl, ap, sym, subst, arith, append_assoc, append-nil, Some}
 use Rattle.std.specs.Prelude.{bytes_eq, nat_lt, not, ◌&&◌, ◌==◌}
 use Rattle.std.specs.List.{list_all}
+use Rattle.std.proofs.lemmas.Bool.{and_from, and_parts}
 use Rattle.std.proofs.lemmas.Bool.Decides.{Decides-eqb, nat_tests}
 use Rattle.std.proofs.lemmas.List.{length_push}
 use Rattle.std.proofs.lemmas.Slice.Eq.{bytes_eq-Decides}
@@ -21,13 +22,7 @@ use Rattle.nim_check.specs.Body.{atom_of, cond_of, first_of, rest_of}
 use Rattle.nim_check.specs.Names.{Word, is_in, place_in}
 use Rattle.nim_check.specs.Rules.{condition_reads, is_known, value_reads}
 use Rattle.nim_check.specs.Sites.{past_of, past_with, with_scalar}
-use Rattle.nim_check.proofs.StageTests.{and_from, and_parts}
-
-zero_below : (n : ℕ) → nat_lt 0 (suc n) ≡ true
-zero_below n = grind (arith, nat_tests)
-
-one_below : (k n : ℕ) → nat_lt (1 + k) (suc n) ≡ nat_lt k n
-one_below k n = grind (arith, nat_tests)
+use Rattle.nim_check.proofs.Places.{lt_suc, lt_zero}
 
 -- more words behind change no place
 pub place_front : (xs ys : List Word) (w : Word) → is_in xs w ≡ true → place_in (xs ++ ys) w ≡ place_in xs w
@@ -36,7 +31,7 @@ place_front (x ∷ xs) ys w is =
     elim (bytes_eq x w) as (λ (b : Bool). nat_lt (cond (not b) (1 + place_in xs w) 0) (suc (length xs)) ≡ true
     → cond (not b) (1 + place_in (xs ++ ys) w) 0 ≡ cond (not b) (1 + place_in xs w) 0) [
       | true ↦ λ h. refl
-      | false ↦ λ h. ap (λ n. 1 + n) (place_front xs ys w (sym (one_below (place_in xs w) (length xs)) ∙ h))
+      | false ↦ λ h. ap (λ n. 1 + n) (place_front xs ys w (sym (lt_suc (place_in xs w) (length xs)) ∙ h))
     ] is
 
 same : (w : Word) → bytes_eq w w ≡ true
@@ -51,8 +46,8 @@ place_end [] ys w is = at_front w ys (bytes_eq w w) (same w)
 place_end (x ∷ xs) ys w is =
     elim (bytes_eq x w) as (λ (b : Bool). nat_lt (cond (not b) (1 + place_in xs w) 0) (suc (length xs)) ≡ false
     → cond (not b) (1 + place_in (xs ++ w ∷ ys) w) 0 ≡ suc (length xs)) [
-      | true ↦ λ h. let t : nat_lt 0 (suc (length xs)) ≡ true = zero_below (length xs) in cc
-      | false ↦ λ h. let e : place_in (xs ++ w ∷ ys) w ≡ length xs = place_end xs ys w (sym (one_below (place_in xs w) (length xs)) ∙ h) in omega arith
+      | true ↦ λ h. let t : nat_lt 0 (suc (length xs)) ≡ true = lt_zero (length xs) in cc
+      | false ↦ λ h. let e : place_in (xs ++ w ∷ ys) w ≡ length xs = place_end xs ys w (sym (lt_suc (place_in xs w) (length xs)) ∙ h) in omega arith
     ] is
 
 -- ---- the scalars only grow

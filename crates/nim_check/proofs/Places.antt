@@ -9,10 +9,10 @@ use Rattle.nim_parse.specs.declared.tree.Var.{Var}
 use Rattle.nim_check.specs.Made.{block_names, var_names}
 use Rattle.nim_check.specs.Names.{Word, has_twice, is_in, place_in}
 
-lt_suc : (k n : ℕ) → nat_lt (1 + k) (suc n) ≡ nat_lt k n
+pub lt_suc : (k n : ℕ) → nat_lt (1 + k) (suc n) ≡ nat_lt k n
 lt_suc k n = grind (arith, nat_tests)
 
-lt_zero : (n : ℕ) → nat_lt 0 (suc n) ≡ true
+pub lt_zero : (n : ℕ) → nat_lt 0 (suc n) ≡ true
 lt_zero n = grind (arith, nat_tests)
 
 pub is_in_any : (words : List Word) (word : Word) → is_in words word ≡ list_any (λ w. bytes_eq w word) words

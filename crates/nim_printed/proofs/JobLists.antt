@@ -11,6 +11,7 @@ use Rattle.nim_lex.specs.Source.{Refusal}
 use Rattle.nim_check.specs.Refusals.{first_refusal, refused_at}
 use Rattle.nim_check.specs.Rules.{rule_of}
 use Rattle.nim_check.specs.Sites.{Site, line_of}
+use Rattle.nim_check.proofs.Refused as refusals
 
 pub parts3 : (a b c : Bool) → (a && b && c) ≡ true → (a ≡ true) × (b ≡ true) × (c ≡ true)
 parts3 a b c is =
@@ -101,13 +102,5 @@ refused_by site rule = option_map (λ (number : ℕ). let refusal : Refusal = re
 pub passes_on : (site : Site) (sites : List Site) → rule_of site ≡ None → first_refusal sites ≡ None → first_refusal (site ∷ sites) ≡ None
 passes_on site sites none rest = ap (λ (rule : Option ℕ). option_or (refused_by site rule) (first_refusal sites)) none ∙ rest
 
-or_assoc : {X : Type 0} (a b c : Option X) → option_or a (option_or b c) ≡ option_or (option_or a b) c
-or_assoc None b c = refl
-or_assoc (Some x) b c = refl
-
-refusal_append : (xs ys : List Site) → first_refusal (xs ++ ys) ≡ option_or (first_refusal xs) (first_refusal ys)
-refusal_append [] ys = refl
-refusal_append (x ∷ xs) ys = ap (option_or (refused_at x)) (refusal_append xs ys) ∙ or_assoc (refused_at x) (first_refusal xs) (first_refusal ys)
-
 pub passes_both : (xs ys : List Site) → first_refusal xs ≡ None → first_refusal ys ≡ None → first_refusal (xs ++ ys) ≡ None
-passes_both xs ys first second = refusal_append xs ys ∙ ap₂ option_or first second
+passes_both xs ys first second = refusals.joined xs ys ∙ ap₂ option_or first second

@@ -19,24 +19,16 @@ use Rattle.nim_check.specs.Names.{func_of, functions, has_twice, is_in, place_in
 use Rattle.nim_printed.specs.Printer.{argument_name, func_name, scalar_name}
 use Rattle.nim_printed.specs.Spelled.{is_free}
 use Rattle.nim_printed.specs.Words.{Word, is_short_name}
-
-bytes_same : (word : Word) → bytes_eq word word ≡ true
-bytes_same word = (bytes_eq-Decides word word).1 refl
+use Rattle.nim_check.proofs.Places.{lt_suc}
+use Rattle.nim_printed.proofs.TreeWordKinds.{bytes_same}
 
 bytes_back : (v w : Word) → bytes_eq v w ≡ false → bytes_eq w v ≡ false
 bytes_back v w differ =
     false_from_ne_true (bytes_eq w v) (λ same. both_ways (bytes_eq v w) differ ((bytes_eq-Decides v w).1 (sym ((bytes_eq-Decides w v).0 same))))
 
-more_below : (place names : ℕ) → nat_lt (1 + place) (suc names) ≡ nat_lt place names
-more_below place names =
-    elim (cases_lt place names) [
-      | inl below ↦ lt-ltb (1 + place) (suc names) (omega arith) ∙ sym (lt-ltb place names below)
-      | inr behind ↦ le-ltb (1 + place) (suc names) (omega arith) ∙ sym (le-ltb place names behind)
-    ]
-
 in_step : (same : Bool) (place names : ℕ) → nat_lt (cond (not same) (1 + place) 0) (suc names) ≡ (same || nat_lt place names)
 in_step true place names = lt-ltb 0 (suc names) (omega arith)
-in_step false place names = more_below place names
+in_step false place names = lt_suc place names
 
 in_cons : (name word : Word) (names : List Word) → is_in (name ∷ names) word ≡ (bytes_eq name word || is_in names word)
 in_cons name word names = in_step (bytes_eq name word) (place_in names word) (length names)

@@ -32,15 +32,13 @@ use Rattle.nim_printed.specs.Spelled.{is_free, is_int, is_small}
 use Rattle.nim_printed.specs.Trees.{is_atom, is_block, is_condition, is_index, is_init, is_printable, is_ref, is_some_refs, is_stage, is_statement, is_steps, is_value, is_var}
 use Rattle.nim_printed.specs.Words.{Word, is_short_name, is_sign, is_small_numeral, is_word}
 use Rattle.nim_printed.proofs.TreeWordKinds.{decimal_is_small, free_short, one_more_small, small_enough}
+use Rattle.nim_printed.proofs.JobLists.{all_both}
 
 abbrev AreWords : List Word → Type 0
 AreWords words = list_all is_word words ≡ true
 
 abbrev AreLines : List (List Word) → Type 0
 AreLines lines = list_all (list_all is_word) lines ≡ true
-
-joined : {A : Type 0} (test : A → Bool) (xs ys : List A) → list_all test xs ≡ true → list_all test ys ≡ true → list_all test (xs ++ ys) ≡ true
-joined test xs ys first second = list_all-append test xs ys ∙ and_from (list_all test xs) (list_all test ys) first second
 
 or_first : (a b c : Bool) → a ≡ true → ((a || b) || c) ≡ true
 or_first true b c h = refl
@@ -63,21 +61,21 @@ each_of : {A : Type 0} (words_of : A → List Word) (passes : A → Bool) → ((
 each_of words_of passes one [] are = refl
 each_of words_of passes one (x ∷ xs) are =
     let both = and_parts (passes x) (list_all passes xs) are in
-    joined is_word (words_of x) (flat_map words_of xs) (one x both.0) (each_of words_of passes one xs both.1)
+    all_both is_word (words_of x) (flat_map words_of xs) (one x both.0) (each_of words_of passes one xs both.1)
 
 more_of : {A : Type 0} (words_of : A → List Word) (passes : A → Bool) → ((x : A) → passes x ≡ true → AreWords (words_of x))
     → (xs : List A) → list_all passes xs ≡ true → AreWords (more_words (map words_of xs))
 more_of words_of passes one [] are = refl
 more_of words_of passes one (x ∷ xs) are =
     let both = and_parts (passes x) (list_all passes xs) are in
-    joined is_word (words_of x) (more_words (map words_of xs)) (one x both.0) (more_of words_of passes one xs both.1)
+    all_both is_word (words_of x) (more_words (map words_of xs)) (one x both.0) (more_of words_of passes one xs both.1)
 
 listed_of : {A : Type 0} (words_of : A → List Word) (passes : A → Bool) → ((x : A) → passes x ≡ true → AreWords (words_of x))
     → (xs : List A) → list_all passes xs ≡ true → AreWords (listed_words (map words_of xs))
 listed_of words_of passes one [] are = refl
 listed_of words_of passes one (x ∷ xs) are =
     let both = and_parts (passes x) (list_all passes xs) are in
-    joined is_word (words_of x) (more_words (map words_of xs)) (one x both.0) (more_of words_of passes one xs both.1)
+    all_both is_word (words_of x) (more_words (map words_of xs)) (one x both.0) (more_of words_of passes one xs both.1)
 
 lines_of : {A : Type 0} (words_of : A → List Word) (passes : A → Bool) → ((x : A) → passes x ≡ true → AreWords (words_of x))
     → (xs : List A) → list_all passes xs ≡ true → AreLines (map words_of xs)
@@ -111,7 +109,7 @@ index_words_are (Before n) small = number_words_are n small
 ref_words_are : (ref : Ref) → is_ref ref ≡ true → AreWords (ref_words ref)
 ref_words_are ref are =
     let both = and_parts (is_free ref.name) (is_index ref.index) are in
-    and_from _ _ (name_word ref.name both.0) (joined is_word (index_words ref.index) (codes "]" ∷ []) (index_words_are ref.index both.1) refl)
+    and_from _ _ (name_word ref.name both.0) (all_both is_word (index_words ref.index) (codes "]" ∷ []) (index_words_are ref.index both.1) refl)
 
 init_words_are : (x : Init) → is_init x ≡ true → AreWords (init_words x)
 init_words_are (Fill number) small = int_words_are number small
@@ -143,7 +141,7 @@ relation_is_word AtLeast = refl
 
 two_atoms : (first second : Atom) (sign : Word) → is_atom first ≡ true → is_atom second ≡ true → is_word sign ≡ true → AreWords (atom_words first ++ sign ∷ atom_words second)
 two_atoms first second sign are also word =
-    joined is_word (atom_words first) (sign ∷ atom_words second) (atom_words_are first are)
+    all_both is_word (atom_words first) (sign ∷ atom_words second) (atom_words_are first are)
     (and_from (is_word sign) (list_all is_word (atom_words second)) word (atom_words_are second also))
 
 value_words_are : (value : Expression) → is_value value ≡ true → AreWords (value_words value)
@@ -187,9 +185,9 @@ stage_words_are s are =
     let written : List Word = flat_map ref_words s.writes in
     let given : List Word = with_words s.parameters in
     and_from _ _ (name_word s.function d.0)
-    (joined is_word ((read ++ codes "->" ∷ written) ++ given) (each_words s.each)
-    (joined is_word (read ++ codes "->" ∷ written) given
-    (joined is_word read (codes "->" ∷ written) (each_of ref_words is_ref ref_words_are s.reads d.1) (each_of ref_words is_ref ref_words_are s.writes (some_refs s.writes b.1)))
+    (all_both is_word ((read ++ codes "->" ∷ written) ++ given) (each_words s.each)
+    (all_both is_word (read ++ codes "->" ∷ written) given
+    (all_both is_word read (codes "->" ∷ written) (each_of ref_words is_ref ref_words_are s.reads d.1) (each_of ref_words is_ref ref_words_are s.writes (some_refs s.writes b.1)))
     (with_words_are s.parameters a.1))
     (each_words_are s.each))
 
@@ -198,13 +196,13 @@ block_lines_are b are =
     let both = and_parts _ (list_all is_stage b.stages) are in
     let front = and_parts (is_free b.name) (list_all is_free b.arguments) both.0 in
     and_from _ _ (and_from _ _ (name_word b.name front.0) (listed_of (λ (word : Word). word ∷ []) is_free name_words_are b.arguments front.1))
-    (joined (list_all is_word) (map stage_words b.stages) ((codes "end" ∷ []) ∷ []) (lines_of stage_words is_stage stage_words_are b.stages both.1) refl)
+    (all_both (list_all is_word) (map stage_words b.stages) ((codes "end" ∷ []) ∷ []) (lines_of stage_words is_stage stage_words_are b.stages both.1) refl)
 
 blocks_lines_are : (blocks : List Block) → list_all is_block blocks ≡ true → AreLines (flat_map block_words blocks)
 blocks_lines_are [] are = refl
 blocks_lines_are (b ∷ blocks) are =
     let both = and_parts (is_block b) (list_all is_block blocks) are in
-    joined (list_all is_word) (block_words b) (flat_map block_words blocks) (block_lines_are b both.0) (blocks_lines_are blocks both.1)
+    all_both (list_all is_word) (block_words b) (flat_map block_words blocks) (block_lines_are b both.0) (blocks_lines_are blocks both.1)
 
 statement_words_are : (s : Statement) → is_statement s ≡ true → AreWords (statement_words s)
 statement_words_are (Do called arguments) are =
@@ -240,8 +238,8 @@ tree_words_are tree printable =
     let vars : List (List Word) = map var_words tree.vars in
     let blocks : List (List Word) = flat_map block_words tree.blocks in
     let statements : List (List Word) = map (λ (line : Line). statement_words line.statement) tree.statements in
-    joined (list_all is_word) ((steps ++ vars) ++ blocks) statements
-    (joined (list_all is_word) (steps ++ vars) blocks
-    (joined (list_all is_word) steps vars (steps_lines_are tree.steps e.0) (lines_of var_words is_var var_words_are tree.vars e.1))
+    all_both (list_all is_word) ((steps ++ vars) ++ blocks) statements
+    (all_both (list_all is_word) (steps ++ vars) blocks
+    (all_both (list_all is_word) steps vars (steps_lines_are tree.steps e.0) (lines_of var_words is_var var_words_are tree.vars e.1))
     (blocks_lines_are tree.blocks d.1))
     (lines_of (λ (line : Line). statement_words line.statement) (λ (line : Line). is_statement line.statement) (λ line are. statement_words_are line.statement are) tree.statements b.1)

@@ -74,7 +74,7 @@ decimal_number n small = let bound = small_bound n small in (decimal_numeral n (
 pub decimal_is_small : (n : ℕ) → is_small n ≡ true → is_small_numeral (decimal n) ≡ true
 decimal_is_small n small = rw (decimal_is_numeral n small, decimal_number n small) small
 
-digit_no_letter : (b : ℕ) → is_ascii_digit b ≡ true → is_ascii_alphabetic b ≡ false
+pub digit_no_letter : (b : ℕ) → is_ascii_digit b ≡ true → is_ascii_alphabetic b ≡ false
 digit_no_letter b digit = grind (arith, nat_tests)
 
 pub numeral_no_name : (word : Word) → is_numeral word ≡ true → is_name word ≡ false

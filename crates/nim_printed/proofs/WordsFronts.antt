@@ -16,6 +16,7 @@ use Rattle.nim_lex.specs.Rules.{broken_by}
 use Rattle.nim_lex.specs.Texts.{is_name, is_numeral}
 use Rattle.nim_printed.specs.Words.{Word, is_short_name, is_sign, is_small_numeral, is_word, kind_of}
 use Rattle.nim_printed.proofs.TreeWordKinds.{kind_name, numeral_no_name}
+use Rattle.nim_printed.proofs.TreeWordKinds.{digit_no_letter}
 
 -- a token that is a whole word
 abbrev pub front_at : Word → TokenKind → Front
@@ -68,9 +69,6 @@ or_more false false false o h = cc
 
 letter_is_name_byte : (b : ℕ) → is_ascii_alphabetic b ≡ true → is_name_byte b ≡ true
 letter_is_name_byte b h = or_more (is_in_range 48 57 b) (is_in_range 65 90 b) (is_in_range 97 122 b) (b == 95) h
-
-digit_no_letter : (b : ℕ) → is_ascii_digit b ≡ true → is_ascii_alphabetic b ≡ false
-digit_no_letter b digit = grind (arith, nat_tests)
 
 -- ---- names and numerals
 
