@@ -1,9 +1,8 @@
 -- The words of a printed tree are words: names, numerals and signs.
-use Rattle.std.proofs.Common.{◌≡◌, ℕ, suc, Bool, true, false, ◌||◌, List, [], ◌∷◌, ◌++◌, map, refl, ◌∙◌, Option, Some, None}
+use Rattle.std.proofs.Common.{◌≡◌, ℕ, suc, Bool, true, false, ◌||◌, List, [], ◌∷◌, ◌++◌, map, refl, Option, Some, None}
 use Rattle.std.specs.Prelude.{ℤ, pos, negsuc, codes, decimal}
 use Rattle.std.specs.List.{flat_map, list_all}
 use Rattle.std.proofs.lemmas.Bool.{and_from, and_parts, false≢true}
-use Rattle.std.proofs.lemmas.List.Folds.{list_all-append}
 use Rattle.nim_parse.specs.declared.tree.Atom.{Atom}
 use Rattle.nim_parse.specs.declared.tree.Atom.TheVariants.{Number, Name}
 use Rattle.nim_parse.specs.declared.tree.Block.{Block}
