@@ -15,12 +15,6 @@ flat_rows-step does n i width cells more =
     let left : n - i ≡ suc (n - (i + 1)) = omega arith in
     ap (λ k. flat_map does (rows_of k width cells)) left
 
--- and at the end
-pub flat_rows-end : {X : Type 0} (does : List ℤ → List X) (n i width : ℕ) (cells : List ℤ) → n ≤ i → flat_map does (rows_of (n - i) width cells) ≡ []
-flat_rows-end does n i width cells done =
-    let left : n - i ≡ 0 = omega arith in
-    ap (λ k. flat_map does (rows_of k width cells)) left
-
 -- what holds of each row, at the next row and at the end
 pub fit_rows-step : (P : ℤ → Type 0) (n i width : ℕ) (cells : List ℤ) → i < n → All P (take width cells) → All (All P) (rows_of (n - (i + 1)) width (drop width cells)) → All (All P) (rows_of (n - i) width cells)
 fit_rows-step P n i width cells more first others =

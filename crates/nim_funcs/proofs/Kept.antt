@@ -1,23 +1,13 @@
 -- The rows among the first ones that pass a test.
-use Rattle.std.proofs.Common.{◌≡◌, ℕ, ◌+◌, ◌<◌, ◌≤◌, Bool, cond, ℤ, List, [], ◌∷◌, ◌++◌, length, take, filter, sym, ◌∙◌, ap, arith}
+use Rattle.std.proofs.Common.{◌≡◌, ℕ, ◌<◌, ◌≤◌, Bool, ℤ, List, length, take, filter, ap, arith}
 use Rattle.std.proofs.lemmas.List.{length-take, take_all}
-use Rattle.std.proofs.lemmas.List.Elements.{filter_more}
 use Rattle.std.proofs.lemmas.List.Sums.{length-filter, count_by-le-length}
 use Rattle.nim_base.specs.Value.{Grid}
-use Rattle.nim_base.specs.Functions.{kept, line_of}
+use Rattle.nim_base.specs.Functions.{kept}
 
 -- the first rows of a value that pass
 abbrev pub kept_to : (List ℤ → Bool) → Grid → ℕ → Grid
 kept_to test grid n = record grid { rows = filter test (take n grid.rows) }
-
--- one more row, which is kept where it passes
-pub kept_step : (test : List ℤ → Bool) (grid : Grid) (n : ℕ) (old new : Grid) (row : List ℤ) (passes : Bool) → n < length grid.rows → old ≡ kept_to test grid n → row ≡ line_of grid n → passes ≡ test row → new ≡ record old { rows = old.rows ++ cond passes (row ∷ []) [] } → new ≡ kept_to test grid (n + 1)
-kept_step test grid n old new row passes lt is_old is_row is_passes is_new =
-    is_new
-    ∙ ap (λ (g : Grid). record g { rows = g.rows ++ cond passes (row ∷ []) [] }) is_old
-    ∙ ap (λ b. record grid { rows = filter test (take n grid.rows) ++ cond b (row ∷ []) [] }) is_passes
-    ∙ ap (λ (r : List ℤ). record grid { rows = filter test (take n grid.rows) ++ cond (test r) (r ∷ []) [] }) is_row
-    ∙ ap (λ (rows : List (List ℤ)). record grid { rows = rows }) (sym (filter_more test grid.rows n [] lt))
 
 -- all rows that pass
 pub kept_all : (test : List ℤ → Bool) (grid : Grid) (n : ℕ) → length grid.rows ≤ n → kept_to test grid n ≡ kept test grid

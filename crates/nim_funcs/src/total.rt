@@ -22,8 +22,8 @@ fn sum_from(start: i64, cells: &[i64]) -> i64
         .fold(start, |sum, cell| sum.wrapping_add(*cell))
 }
 
-#[tactic(auto, using(crate::proofs::SoFar::total_more))]
 /// The sum of all cells of all reads.
+#[tactic(auto, using(crate::proofs::SoFar::total_more))]
 pub fn total(alloc: Global, values: &[Value], reads: &[usize]) -> Result<Value, NoMemory>
     requires { All (λ index. index < length values.now) reads.now }
     ensures { IfOk result (λ value. value ≡ total_of (reads_of values.now reads.now)) }
@@ -35,8 +35,8 @@ pub fn total(alloc: Global, values: &[Value], reads: &[usize]) -> Result<Value, 
     one_cell(alloc, sum)
 }
 
-#[tactic(auto, using(crate::proofs::SoFar::count_more))]
 /// The number of rows of all reads.
+#[tactic(auto, using(crate::proofs::SoFar::count_more))]
 pub fn count(alloc: Global, values: &[Value], reads: &[usize]) -> Result<Value, NoMemory>
     requires few { length reads.now ≤ 8 }
     requires inside { All (λ index. index < length values.now) reads.now }
