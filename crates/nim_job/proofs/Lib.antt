@@ -1,6 +1,4 @@
-pub mod Asks
 pub mod FewTasks
-pub mod Follows
 pub mod Lists
 pub mod Scans
 pub mod TaskLeaves
