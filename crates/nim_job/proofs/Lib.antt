@@ -1,6 +1,13 @@
+pub mod Depths
 pub mod FewTasks
+pub mod Follows
 pub mod Lists
+pub mod Paths
 pub mod Scans
+pub mod Settles
+pub mod Sound
+pub mod Spans
+pub mod Steps
 pub mod TaskLeaves
 pub mod Versions
 pub mod Whole

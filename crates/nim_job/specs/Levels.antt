@@ -1,5 +1,5 @@
 -- Where a driver stands in the tree of its body: a path of levels, outermost first.
-use Rattle.std.specs.Prelude.{◌≡◌, ℕ, ◌+◌, ◌≤◌, zero, suc, Bool, true, false, ◌&&◌, ◌||◌, nat_le, nat_lt, max, Option, None, Some, List, [], ◌∷◌, ◌++◌, drop, fold, length, map, slice_get}
+use Rattle.std.specs.Prelude.{◌≡◌, ℕ, ◌+◌, ◌≤◌, zero, suc, Bool, true, false, ◌&&◌, ◌||◌, nat_le, nat_lt, max, Option, None, Some, List, [], ◌∷◌, ◌++◌, drop, length, map, slice_get}
 use Rattle.std.specs.Option.{option_map_or}
 use Rattle.nim_job.specs.declared.item.Item.{Item}
 use Rattle.nim_job.specs.declared.item.Item.TheVariants.{Run, Again}
@@ -103,7 +103,8 @@ is_path whole (level ∷ levels) = is_driver level.kind && nat_le level.next (le
 -- ---- how deep a tree nests
 
 abbrev pub greatest : List ℕ → ℕ
-greatest depths = fold max 0 depths
+greatest [] = 0
+greatest (depth ∷ depths) = max depth (greatest depths)
 
 -- how many bodies lie inside each other in a statement, of its parts
 abbrev pub stmt_depth : Stmt-F ℕ → ℕ

@@ -9,7 +9,7 @@ ghost use Rattle.nim_job.specs.Whole.{is_whole};
 
 use crate::arith::atoms;
 use crate::copies::copy_stmts;
-use crate::path::{close, pass, set, skip_first};
+use crate::path::{close, next_stmt, pass, replace, set, skip_first};
 use crate::span::{object_of_part, spans};
 use crate::wholeness::scalar_count;
 use crate::{Ask, Asked, DriverState, Job, Level, LevelKind, Span, Stmt};
@@ -160,10 +160,7 @@ impl DriverMachine {
     {
         let scalars = state.scalars.as_slice().to_vec(self.alloc)?;
         let output = state.output.as_slice().to_vec(self.alloc)?;
-        self.levels.clear();
-        for level in state.levels.as_slice() {
-            self.levels.push_reserved(*level);
-        }
+        replace(self.body.as_slice(), &mut self.levels, state.levels.as_slice());
         self.scalars = scalars;
         self.count = state.count;
         self.output = output;
@@ -216,20 +213,23 @@ impl DriverMachine {
         ensures err { OnErr result (self.new ≡ self.old) }
     {
         let body = close(self.body.as_slice(), &mut self.levels);
-        let Some(last) = self.levels.last() else {
+        if self.levels.is_empty() {
             return Ok(Ask::Finished);
-        };
+        }
         if self.steps <= self.count {
             return Ok(Ask::Limit);
         }
-        let Some(stmt) = body.get(last.next as usize) else {
-            return Ok(Ask::Finished);
-        };
-        let ask = stmt_ask(self.alloc, self.scalars.as_slice(), self.spans.as_slice(), stmt)?;
-        self.asked = stmt_asked(stmt);
-        self.count += 1;
-        skip_first(self.body.as_slice(), &mut self.levels, stmt);
-        Ok(ask)
+        match next_stmt(self.body.as_slice(), self.levels.as_slice(), body) {
+            None => Ok(Ask::Finished), // further turns of a loop, which were taken
+            Some(stmt) => {
+                let scalars = self.scalars.as_slice();
+                let ask = stmt_ask(self.alloc, scalars, self.spans.as_slice(), stmt)?;
+                self.asked = stmt_asked(stmt);
+                self.count += 1;
+                skip_first(self.body.as_slice(), &mut self.levels, body, stmt);
+                Ok(ask)
+            }
+        }
     }
 }
 

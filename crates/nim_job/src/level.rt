@@ -19,7 +19,7 @@ pub enum LevelKind {
 #[derive(Clone, Copy, Debug, PartialEq, Eq)]
 pub struct Level {
     /// Which statement of the body is next; the one before it holds the body of the level further in.
-    pub next: u32,
+    pub next: u64,
     pub kind: LevelKind,
     /// How many further turns a loop has; 0 in another body.
     pub turns: u64,

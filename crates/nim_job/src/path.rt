@@ -2,7 +2,7 @@ ghost use Rattle.std.specs.Prelude.{◌≡◌, ◌+◌, ◌<◌, ◌≤◌, ◌�
 ghost use Rattle.std.specs.Vec.{vec_capacity};
 ghost use Rattle.nim_job.specs.declared.item.Item.TheVariants.{Run};
 ghost use Rattle.nim_job.specs.declared.stmt.Stmt.{out-Stmt};
-ghost use Rattle.nim_job.specs.Levels.{body_entered, body_in, closing_of, holds_kind, is_loop, is_settled, IsOpen, moved_on, spot_of, stmt_before, stmt_behind, stmt_next, todo_of};
+ghost use Rattle.nim_job.specs.Levels.{body_entered, body_in, closing_of, holds_kind, is_loop, is_path, is_settled, IsOpen, moved_on, spot_of, stmt_before, stmt_behind, stmt_next, todo_of};
 ghost use Rattle.nim_job.specs.Quiet.{again, is_quiet, is_quiet_stmt, items_left, items_scalars, stmt_left, stmt_scalars};
 
 use crate::arith::{atom, is_met, value};
@@ -20,7 +20,7 @@ pub(crate) fn pass(whole: &[Stmt], levels: &mut Vec<Level>, scalars: &mut [i64])
     match levels.pop() {
         None => false,
         Some(last) => match body.get(last.next as usize) {
-            Some(stmt) => pass_stmt(whole, levels, last, stmt, scalars),
+            Some(stmt) => pass_stmt(whole, levels, last, body, stmt, scalars),
             None => {
                 turn(whole, levels, last);
                 true
@@ -34,10 +34,12 @@ fn pass_stmt(
     whole: &[Stmt],
     levels: &mut Vec<Level>,
     last: Level,
+    body: &[Stmt],
     stmt: &Stmt,
     scalars: &mut [i64],
 ) -> bool
     requires open { IsOpen whole.now (vec_capacity levels.old) (levels.old.items ++ last ∷ []) }
+    requires body { body.now ≡ (spot_of whole.now (levels.old.items ++ last ∷ [])).body }
     requires next { stmt_next (spot_of whole.now (levels.old.items ++ last ∷ [])) ≡ Some stmt.now }
     ensures open { IsOpen whole.now (vec_capacity levels.new) levels.new.items }
     ensures quiet { result ≡ is_quiet_stmt (out-Stmt stmt.now) }
@@ -51,7 +53,7 @@ fn pass_stmt(
         put(whole, levels, last);
         return false;
     }
-    skip(whole, levels, last, stmt);
+    skip(whole, levels, last, body, stmt);
     take(whole, levels, stmt, scalars);
     true
 }
@@ -156,7 +158,7 @@ fn turn(whole: &[Stmt], levels: &mut Vec<Level>, last: Level)
     if last.turns > 0 {
         let level = Level {
             next: 0,
-            kind: LevelKind::Loop,
+            kind: last.kind,
             turns: last.turns - 1,
         };
         put(whole, levels, level);
@@ -193,14 +195,21 @@ fn leave(whole: &[Stmt], levels: &mut Vec<Level>, body: &[Stmt]) -> bool
     match levels.pop() {
         None => false,
         Some(last) => {
-            if last.kind == LevelKind::Loop || (last.next as usize) < body.len() {
+            if (last.next as usize) < body.len() {
                 put(whole, levels, last);
                 return false;
             }
-            if last.kind == LevelKind::While {
-                step_back(whole, levels, last);
+            match last.kind {
+                LevelKind::Loop => {
+                    put(whole, levels, last);
+                    false
+                }
+                LevelKind::While => {
+                    step_back(whole, levels, last);
+                    true
+                }
+                LevelKind::Driver | LevelKind::First | LevelKind::Second => true,
             }
-            true
         }
     }
 }
@@ -228,8 +237,9 @@ fn step_back(whole: &[Stmt], levels: &mut Vec<Level>, last: Level)
 }
 
 /// Goes behind the statement that comes next in a level.
-fn skip(whole: &[Stmt], levels: &mut Vec<Level>, last: Level, stmt: &Stmt)
+fn skip(whole: &[Stmt], levels: &mut Vec<Level>, last: Level, body: &[Stmt], stmt: &Stmt)
     requires open { IsOpen whole.now (vec_capacity levels.old) (levels.old.items ++ last ∷ []) }
+    requires body { body.now ≡ (spot_of whole.now (levels.old.items ++ last ∷ [])).body }
     requires next { stmt_next (spot_of whole.now (levels.old.items ++ last ∷ [])) ≡ Some stmt.now }
     ensures open { IsOpen whole.now (vec_capacity levels.new) levels.new.items }
     ensures items { levels.new.items ≡ levels.old.items ++ moved_on last ∷ [] }
@@ -243,14 +253,39 @@ fn skip(whole: &[Stmt], levels: &mut Vec<Level>, last: Level, stmt: &Stmt)
 }
 
 /// Goes behind the statement that comes next.
-pub(crate) fn skip_first(whole: &[Stmt], levels: &mut Vec<Level>, stmt: &Stmt)
+pub(crate) fn skip_first(whole: &[Stmt], levels: &mut Vec<Level>, body: &[Stmt], stmt: &Stmt)
     requires open { IsOpen whole.now (vec_capacity levels.old) levels.old.items }
+    requires body { body.now ≡ (spot_of whole.now levels.old.items).body }
     requires next { stmt_next (spot_of whole.now levels.old.items) ≡ Some stmt.now }
     ensures open { IsOpen whole.now (vec_capacity levels.new) levels.new.items }
     ensures todo { Run stmt.now ∷ todo_of whole.now levels.new.items ≡ todo_of whole.now levels.old.items }
 {
     if let Some(last) = levels.pop() {
-        skip(whole, levels, last, stmt);
+        skip(whole, levels, last, body, stmt);
+    }
+}
+
+/// The statement that comes next in the innermost body.
+pub(crate) fn next_stmt<'a>(whole: &[Stmt], levels: &[Level], body: &'a [Stmt]) -> Option<&'a Stmt>
+    requires { body.now ≡ (spot_of whole.now levels.now).body }
+    ensures { option_copied result ≡ stmt_next (spot_of whole.now levels.now) }
+{
+    match levels.last() {
+        Some(last) => body.get(last.next as usize),
+        None => None,
+    }
+}
+
+/// Puts other levels in place of these.
+pub(crate) fn replace(whole: &[Stmt], levels: &mut Vec<Level>, others: &[Level])
+    requires open { IsOpen whole.now (vec_capacity levels.old) levels.old.items }
+    requires path { is_path whole.now others.now ≡ true }
+    ensures open { IsOpen whole.now (vec_capacity levels.new) levels.new.items }
+    ensures items { levels.new.items ≡ others.now }
+{
+    levels.clear();
+    for level in others {
+        levels.push_reserved(*level);
     }
 }
 
@@ -268,7 +303,7 @@ fn body_at<'a>(whole: &'a [Stmt], levels: &[Level]) -> &'a [Stmt]
 }
 
 /// The statement before the one with this number.
-fn before<'a>(body: &'a [Stmt], next: u32) -> Option<&'a Stmt>
+fn before<'a>(body: &'a [Stmt], next: u64) -> Option<&'a Stmt>
     ensures { option_copied result ≡ stmt_before body.now next }
 {
     match next.checked_sub(1) {
