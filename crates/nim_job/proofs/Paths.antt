@@ -1,10 +1,11 @@
 -- What is to do at a path of levels, and which paths are of a tree, one level more or less at its end.
-use Rattle.std.proofs.Common.{◌≡◌, ℕ, ◌+◌, ◌-◌, ◌<◌, ◌≤◌, zero, suc, Bool, true, false, List, [], ◌∷◌, ◌++◌, length, drop, map, refl, ap, sym, subst, ◌∙◌, arith, add-one, inl, inr, Option, None, Some}
+use Rattle.std.proofs.Common.{◌≡◌, ℕ, ◌+◌, ◌-◌, ◌<◌, ◌≤◌, zero, suc, Bool, true, false, List, [], ◌∷◌, ◌++◌, get_or, length, drop, map, take, refl, ap, sym, subst, ◌∙◌, arith, add-one, inl, inr, Option, None, Some}
 use Rattle.std.specs.Prelude.{◌&&◌, ◌||◌, nat_le, nat_lt, slice_get}
 use Rattle.std.specs.Option.{option_map_or}
-use Rattle.std.proofs.lemmas.Bool.{and_parts, and_from, both_ways, le-leb, ltb-true, or_cases}
+use Rattle.std.proofs.lemmas.Bool.{and_parts, and_from, both_ways, le-leb, lt-ltb, ltb-true, or_cases, or_left, or_right}
 use Rattle.std.proofs.lemmas.Bool.Decides.{leb_tells}
 use Rattle.std.proofs.Math.Seq.{drop-nil}
+use Rattle.std.proofs.lemmas.List.{length-append, take_more}
 use Rattle.nim_job.specs.declared.item.Item.{Item}
 use Rattle.nim_job.specs.declared.item.Item.TheVariants.{Run, Again}
 use Rattle.nim_job.specs.declared.level.Level.{Level}
@@ -361,3 +362,78 @@ pub front : (whole : List Stmt) (levels : List Level) → 0 < length levels → 
 front whole levels some settled =
     let parts = snoc_of levels some in
     subst (Front whole) (sym parts.2) (front_last whole parts.0 parts.1 (sym (ap (λ (ls : List Level). is_settled (spot_of whole ls)) parts.2) ∙ settled))
+
+-- the same path in the same room
+pub same_open : (whole : List Stmt) (room other : ℕ) (old new : List Level) → IsOpen whole room old → other ≡ room → new ≡ old → IsOpen whole other new
+same_open whole room other old new is rooms paths =
+    record { path = ap (is_path whole) paths ∙ is.path; shallow = is.shallow; roomy = (let roomy = is.roomy in omega (arith, roomy, rooms)) }
+
+-- the next statement of the innermost body is one of it
+pub next_within : (whole : List Stmt) (outer : List Level) (last : Level) (stmt : Stmt) → stmt_next (spot_of whole (outer ++ last ∷ [])) ≡ Some stmt
+    → last.next < length (spot_of whole (outer ++ last ∷ [])).body
+next_within whole outer last stmt is =
+    let spot = spot_of whole (outer ++ last ∷ []) in
+    let next : spot.level.next ≡ last.next = ap (λ (s : Spot). s.level.next) (spot_last whole outer last) in
+    let within = stmt_within spot.body spot.level.next stmt is in
+    omega (arith, within, next)
+
+-- where one level more leads
+pub spot_more : (whole : List Stmt) (levels : List Level) (i : ℕ) (d : Level) → i < length levels → spot_of whole (take (i + 1) levels) ≡ enter whole (spot_of whole (take i levels)) (get_or levels i d)
+spot_more whole levels i d within = ap (spot_of whole) (take_more levels i d within) ∙ spot_last whole (take i levels) (get_or levels i d)
+
+innermost_from : (whole : List Stmt) (spot : Spot) (levels : List Level) (last : Level) → Some last ≡ slice_get levels (length levels - 1) → (spot_from whole spot levels).level ≡ last
+innermost_from whole spot [] last is = absurd cc
+innermost_from whole spot (x ∷ []) last is = let same : last ≡ x = cc in sym same
+innermost_from whole spot (x ∷ y ∷ levels) last is =
+    let later : length (x ∷ y ∷ levels) - 1 ≡ suc (length (y ∷ levels) - 1) = omega arith in
+    innermost_from whole (enter whole spot x) (y ∷ levels) last (is ∙ ap (slice_get (x ∷ y ∷ levels)) later)
+
+-- the last level is the innermost
+pub innermost : (whole : List Stmt) (levels : List Level) (last : Level) → Some last ≡ slice_get levels (length levels - 1) → (spot_of whole levels).level ≡ last
+innermost whole levels last is = innermost_from whole no_spot levels last is
+
+-- whether the innermost level has more to do
+pub settled_more : (whole : List Stmt) (outer : List Level) (last : Level) → last.next < length (spot_of whole (outer ++ last ∷ [])).body → is_settled (spot_of whole (outer ++ last ∷ [])) ≡ true
+settled_more whole outer last more =
+    let spot = spot_of whole (outer ++ last ∷ []) in
+    let next : spot.level.next ≡ last.next = ap (λ (s : Spot). s.level.next) (spot_last whole outer last) in
+    or_right (is_loop spot.level.kind) (nat_lt spot.level.next (length spot.body)) (lt-ltb spot.level.next (length spot.body) (omega (arith, more, next)))
+
+pub settled_loop : (whole : List Stmt) (outer : List Level) (last : Level) → last.kind ≡ kind.Loop → is_settled (spot_of whole (outer ++ last ∷ [])) ≡ true
+settled_loop whole outer last is =
+    let spot = spot_of whole (outer ++ last ∷ []) in
+    or_left (is_loop spot.level.kind) (nat_lt spot.level.next (length spot.body)) (ap (λ (s : Spot). is_loop s.level.kind) (spot_last whole outer last) ∙ ap is_loop is)
+
+pub not_loop : (k : LevelKind) → (k ≡ kind.Loop → ⊥) → is_loop k ≡ false
+not_loop kind.Loop other = absurd (other refl)
+not_loop k other = refl
+
+pub not_while : (k : LevelKind) → (k ≡ kind.While → ⊥) → is_while k ≡ false
+not_while kind.While other = absurd (other refl)
+not_while k other = refl
+
+-- the next statement by its number
+pub next_at : (whole : List Stmt) (outer : List Level) (last : Level) (stmt : Stmt) → Some stmt ≡ slice_get (spot_of whole (outer ++ last ∷ [])).body last.next → stmt_next (spot_of whole (outer ++ last ∷ [])) ≡ Some stmt
+next_at whole outer last stmt is =
+    let spot = spot_of whole (outer ++ last ∷ []) in
+    let next : spot.level.next ≡ last.next = ap (λ (s : Spot). s.level.next) (spot_last whole outer last) in
+    ap (slice_get spot.body) next ∙ sym is
+
+get_none : {X : Type 0} (xs : List X) (i : ℕ) → None ≡ slice_get xs i → length xs ≤ i
+get_none [] i is = omega arith
+get_none (x ∷ xs) zero is = absurd cc
+get_none (x ∷ xs) (suc i) is = let rest = get_none xs i is in omega (arith, rest)
+
+pub next_none : (whole : List Stmt) (outer : List Level) (last : Level) → None ≡ slice_get (spot_of whole (outer ++ last ∷ [])).body last.next → length (spot_of whole (outer ++ last ∷ [])).body ≤ last.next
+next_none whole outer last is = get_none (spot_of whole (outer ++ last ∷ [])).body last.next is
+
+-- a settled path whose innermost body is done is in a loop's
+pub loop_left : (whole : List Stmt) (outer : List Level) (last : Level) → (0 < length (outer ++ last ∷ []) → is_settled (spot_of whole (outer ++ last ∷ [])) ≡ true)
+    → None ≡ slice_get (spot_of whole (outer ++ last ∷ [])).body last.next → is_loop last.kind ≡ true
+loop_left whole outer last settled none =
+    let spot = spot_of whole (outer ++ last ∷ []) in
+    let level : spot.level ≡ last = ap (λ (s : Spot). s.level) (spot_last whole outer last) in
+    let done = next_none whole outer last none in
+    ap (λ (l : Level). is_loop l.kind) (sym level)
+    ∙ loop_there spot.level.kind spot.level.next (length spot.body) (settled (omega (arith, length-append outer (last ∷ []))))
+    (omega (arith, done, ap (λ (l : Level). l.next) level))

@@ -1,4 +1,4 @@
-ghost use Rattle.std.specs.Prelude.{◌≡◌, ◌+◌, ◌<◌, ◌≤◌, ◌∷◌, ◌++◌, [], true, false, length, map, slice_set, Some, option_copied, if◌then◌else◌};
+ghost use Rattle.std.specs.Prelude.{◌≡◌, ◌+◌, ◌<◌, ◌≤◌, ◌∷◌, ◌++◌, [], true, false, length, map, slice_get, slice_set, Some, option_copied, if◌then◌else◌};
 ghost use Rattle.std.specs.Vec.{vec_capacity};
 ghost use Rattle.nim_job.specs.declared.item.Item.TheVariants.{Run};
 ghost use Rattle.nim_job.specs.declared.stmt.Stmt.{out-Stmt};
@@ -19,7 +19,7 @@ pub(crate) fn pass(whole: &[Stmt], levels: &mut Vec<Level>, scalars: &mut [i64])
     let body = close(whole, levels);
     match levels.pop() {
         None => false,
-        Some(last) => match body.get(last.next as usize) {
+        Some(last) => match stmt_at(body, last.next) {
             Some(stmt) => pass_stmt(whole, levels, last, body, stmt, scalars),
             None => {
                 turn(whole, levels, last);
@@ -138,9 +138,9 @@ fn enter(whole: &[Stmt], levels: &mut Vec<Level>, stmt: &Stmt, kind: LevelKind, 
 
 /// Puts a level behind the others.
 fn put(whole: &[Stmt], levels: &mut Vec<Level>, level: Level)
-    requires open { IsOpen whole.now (vec_capacity levels.old) (levels.old.items ++ level ∷ []) }
+    requires { IsOpen whole.now (vec_capacity levels.old) (levels.old.items ++ level ∷ []) }
     ensures items { levels.new.items ≡ levels.old.items ++ level ∷ [] }
-    ensures room { vec_capacity levels.new ≡ vec_capacity levels.old }
+    ensures open { IsOpen whole.now (vec_capacity levels.new) levels.new.items }
 {
     levels.push_reserved(level);
 }
@@ -208,7 +208,7 @@ fn leave(whole: &[Stmt], levels: &mut Vec<Level>, body: &[Stmt]) -> bool
                     step_back(whole, levels, last);
                     true
                 }
-                LevelKind::Driver | LevelKind::First | LevelKind::Second => true,
+                _ => true,
             }
         }
     }
@@ -244,6 +244,7 @@ fn skip(whole: &[Stmt], levels: &mut Vec<Level>, last: Level, body: &[Stmt], stm
     ensures open { IsOpen whole.now (vec_capacity levels.new) levels.new.items }
     ensures items { levels.new.items ≡ levels.old.items ++ moved_on last ∷ [] }
 {
+    let _within = body.len(); // it fits 64 bits, and so does the number of any statement
     let level = Level {
         next: last.next + 1,
         kind: last.kind,
@@ -271,7 +272,7 @@ pub(crate) fn next_stmt<'a>(whole: &[Stmt], levels: &[Level], body: &'a [Stmt]) 
     ensures { option_copied result ≡ stmt_next (spot_of whole.now levels.now) }
 {
     match levels.last() {
-        Some(last) => body.get(last.next as usize),
+        Some(last) => stmt_at(body, last.next),
         None => None,
     }
 }
@@ -300,6 +301,13 @@ fn body_at<'a>(whole: &'a [Stmt], levels: &[Level]) -> &'a [Stmt]
         next = level.next;
     }
     body
+}
+
+/// The statement with this number.
+fn stmt_at<'a>(body: &'a [Stmt], next: u64) -> Option<&'a Stmt>
+    ensures { option_copied result ≡ slice_get body.now next }
+{
+    body.get(next as usize)
 }
 
 /// The statement before the one with this number.

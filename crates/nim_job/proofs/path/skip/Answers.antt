@@ -1,14 +1,12 @@
-use Rattle.std.proofs.Common.{◌≡◌, ◌∙◌, ◌<◌, length, ap, subst, sym, arith}
-use Rattle.nim_job.proofs.Paths.{moved_open, stmt_within}
+use Rattle.std.proofs.Common.{ap, arith, length}
+use Rattle.std.specs.Vec.{vec_capacity}
+use Rattle.nim_job.proofs.Paths.{moved_open, next_within}
 use Rattle.nim_job.proofs.path.skip.Goals as goal
 
 pub overflow_add-level : goal.overflow_add-level
 overflow_add-level c =
-    let within = stmt_within _ c.args.last.next c.args.stmt.now c.requires.next in
-    let same = ap length c.requires.body in ?
+    let within = next_within c.args.whole.now c.args.levels.now.items c.args.last c.args.stmt.now c.requires.next in
+    omega (arith, within, ap length c.requires.body, c.len-_within.ensures)
 
 pub put-requires : goal.put-requires
-put-requires c = moved_open c.args.whole.now _ c.args.levels.now.items c.args.last c.args.stmt.now c.requires.open c.requires.next
-
-pub returns-clause-open : goal.returns-clause-open
-returns-clause-open c = ?
+put-requires c = moved_open c.args.whole.now (vec_capacity c.args.levels.now) c.args.levels.now.items c.args.last c.args.stmt.now c.requires.open c.requires.next
