@@ -1,3 +1,4 @@
+pub mod Asks
 pub mod Depths
 pub mod FewTasks
 pub mod Follows

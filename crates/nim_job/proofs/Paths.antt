@@ -437,3 +437,20 @@ loop_left whole outer last settled none =
     ap (λ (l : Level). is_loop l.kind) (sym level)
     ∙ loop_there spot.level.kind spot.level.next (length spot.body) (settled (omega (arith, length-append outer (last ∷ []))))
     (omega (arith, done, ap (λ (l : Level). l.next) level))
+
+-- what was to do before the last level of a settled path was taken away, where a statement comes next
+pub taken_front : (whole : List Stmt) (old between outer : List Level) (last : Level) (stmt : Stmt) (body : List Stmt) → todo_of whole between ≡ todo_of whole old → between ≡ outer ++ last ∷ []
+    → body ≡ (spot_of whole between).body → Some stmt ≡ slice_get body last.next → todo_of whole old ≡ Run stmt ∷ todo_of whole (outer ++ moved_on last ∷ [])
+taken_front whole old between outer last stmt body todo items at is =
+    sym todo ∙ ap (todo_of whole) items
+    ∙ todo_taken whole outer last stmt
+    (next_at whole outer last stmt (is ∙ ap (λ (stmts : List Stmt). slice_get stmts last.next) (at ∙ ap (λ (levels : List Level). (spot_of whole levels).body) items)))
+
+-- and where none does
+pub turns_front : (whole : List Stmt) (old between outer : List Level) (last : Level) (body : List Stmt) → todo_of whole between ≡ todo_of whole old → between ≡ outer ++ last ∷ []
+    → body ≡ (spot_of whole between).body → (0 < length between → is_settled (spot_of whole between) ≡ true) → None ≡ slice_get body last.next
+    → todo_of whole old ≡ Again last.turns (spot_of whole (outer ++ last ∷ [])).body ∷ todo_of whole outer
+turns_front whole old between outer last body todo items at settled is =
+    let none = is ∙ ap (λ (stmts : List Stmt). slice_get stmts last.next) (at ∙ ap (λ (levels : List Level). (spot_of whole levels).body) items) in
+    let loop = loop_left whole outer last (subst (λ (levels : List Level). 0 < length levels → is_settled (spot_of whole levels) ≡ true) items settled) none in
+    sym todo ∙ ap (todo_of whole) items ∙ todo_turns whole outer last (next_none whole outer last none) loop

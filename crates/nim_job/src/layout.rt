@@ -8,6 +8,33 @@ use crate::{Place, Ref, Stage, Var};
 use nim_base::{NoMemory, Object, Seq};
 use std::alloc::Global;
 
+/// How many tasks a stage has: one for each part of the first variable that it writes, or one. Its meaning is
+/// `task_count` of `specs/Tasks.antt`.
+pub fn task_count(vars: &[Var], stage: &Stage) -> u32
+    ensures { result ≡ task_count vars.now stage.now }
+{
+    if !stage.each {
+        return 1;
+    }
+    match stage.writes.as_slice().first() {
+        Some(reference) => parts(vars, reference.var),
+        None => 0,
+    }
+}
+
+/// The object that is part 0 of a variable. Its meaning is `first_object` of `specs/Objects.antt`.
+pub fn first_object(vars: &[Var], var: u8) -> u16
+    requires vars { IsTrue (are_vars vars.now) }
+    requires there { var < length vars.now }
+    ensures { result ≡ first_object vars.now var }
+{
+    let mut first = 0;
+    for var in &vars[..usize::from(var)] {
+        first += var.parts as u16;
+    }
+    first
+}
+
 /// The variables, and for each the object that is its part 0.
 #[derive(Drop)]
 pub(crate) struct Layout<'a> {
@@ -68,19 +95,6 @@ impl<'a> Layout<'a> {
     }
 }
 
-/// How many tasks a stage has: one for each part of the first variable that it writes, or one.
-pub fn task_count(vars: &[Var], stage: &Stage) -> u32
-    ensures { result ≡ task_count vars.now stage.now }
-{
-    if !stage.each {
-        return 1;
-    }
-    match stage.writes.as_slice().first() {
-        Some(reference) => parts(vars, reference.var),
-        None => 0,
-    }
-}
-
 /// The object that a reference means at task `index` of its stage, without a table of the first objects.
 pub(crate) fn object(vars: &[Var], reference: Ref, index: u32) -> Object
     requires vars { IsTrue (are_vars vars.now) }
@@ -90,19 +104,6 @@ pub(crate) fn object(vars: &[Var], reference: Ref, index: u32) -> Object
 {
     let part = part(reference.place, index, parts(vars, reference.var));
     Object(first_object(vars, reference.var) + part as u16)
-}
-
-/// The object that is part 0 of a variable.
-fn first_object(vars: &[Var], var: u8) -> u16
-    requires vars { IsTrue (are_vars vars.now) }
-    requires there { var < length vars.now }
-    ensures { result ≡ first_object vars.now var }
-{
-    let mut first = 0;
-    for var in &vars[..usize::from(var)] {
-        first += var.parts as u16;
-    }
-    first
 }
 
 /// How many parts a variable has; 0 where it isn't there.

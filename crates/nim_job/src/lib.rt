@@ -28,7 +28,7 @@ pub use forms::block_forms;
 pub use item::Item;
 pub use job::{Init, Job, Var};
 pub use laws::{machine_follows, versions_are_read};
-pub use layout::task_count;
+pub use layout::{first_object, task_count};
 pub use level::{Level, LevelKind};
 pub use objects::shapes;
 pub use span::Span;

@@ -244,7 +244,8 @@ fn skip(whole: &[Stmt], levels: &mut Vec<Level>, last: Level, body: &[Stmt], stm
     ensures open { IsOpen whole.now (vec_capacity levels.new) levels.new.items }
     ensures items { levels.new.items ≡ levels.old.items ++ moved_on last ∷ [] }
 {
-    let _within = body.len(); // it fits 64 bits, and so does the number of any statement
+    let within = last.next < body.len() as u64;
+    prove!(within);
     let level = Level {
         next: last.next + 1,
         kind: last.kind,
