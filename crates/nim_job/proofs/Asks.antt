@@ -1,6 +1,6 @@
 -- What a machine that has taken the items in front that ask nothing asks by its first item.
-use Rattle.std.proofs.Common.{◌≡◌, ℕ, ◌+◌, ◌<◌, ◌≤◌, Bool, true, false, ℤ, List, [], ◌∷◌, refl, ap, sym, subst, ◌∙◌, arith, Option, None}
-use Rattle.std.specs.Prelude.{nat_le}
+use Rattle.std.proofs.Common.{◌≡◌, ℕ, ◌+◌, ◌<◌, ◌≤◌, zero, suc, Bool, true, false, ℤ, List, [], ◌∷◌, refl, ap, sym, subst, ◌∙◌, arith, Option, None}
+use Rattle.std.specs.Prelude.{◌==◌, nat_le}
 use Rattle.std.proofs.lemmas.Bool.{both_ways, cond-false, cond-true, le-leb, lt-leb}
 use Rattle.nim_job.specs.declared.ask.Ask.{Ask}
 use Rattle.nim_job.specs.declared.ask.Asked.{Asked}
@@ -52,3 +52,8 @@ stmt_wants scalars spans (Stmt-F.Get s var part row cell) = record { cell = refl
 stmt_wants scalars spans Stmt-F.Checkpoint = record { cell = refl; text = refl; nothing = λ cell text. absurd (both_ways true cell refl) }
 stmt_wants scalars spans (Stmt-F.Output var) = record { cell = refl; text = refl; nothing = λ cell text. absurd (both_ways true text refl) }
 stmt_wants scalars spans stmt = record { cell = refl; text = refl; nothing = λ cell text. refl }
+
+-- a list whose length isn't 0 has an item
+pub some_left : (n : ℕ) → (n == 0) ≡ false → 0 < n
+some_left zero left = absurd (both_ways true left refl)
+some_left (suc n) left = omega arith

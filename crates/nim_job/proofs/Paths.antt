@@ -454,3 +454,7 @@ turns_front whole old between outer last body todo items at settled is =
     let none = is ∙ ap (λ (stmts : List Stmt). slice_get stmts last.next) (at ∙ ap (λ (levels : List Level). (spot_of whole levels).body) items) in
     let loop = loop_left whole outer last (subst (λ (levels : List Level). 0 < length levels → is_settled (spot_of whole levels) ≡ true) items settled) none in
     sym todo ∙ ap (todo_of whole) items ∙ todo_turns whole outer last (next_none whole outer last none) loop
+
+-- a driver that stands before its body is on a path of it
+pub start_path : (body : List Stmt) → is_path body (first_level kind.Driver 0 ∷ []) ≡ true
+start_path body = and_from (nat_le 0 (length body)) true (le-leb 0 (length body) (omega arith)) refl

@@ -17,10 +17,8 @@ pub fn block_tasks(alloc: Global, job: &Job, block: u8, args: &[i64]) -> Result<
     ensures tasks { IfOk result (λ tasks. tasks.items ≡ block_tasks_of job.now block args.now) }
     ensures fits { IfOk result (λ tasks. IsTrue (list_all (is_task (objects_of job.now.vars)) tasks.items)) }
 {
-    let mut tasks = Vec::new(alloc);
-    for form in block_forms(alloc, job, block)? {
-        tasks.push(task(alloc, args, form)?)?;
-    }
+    let forms = block_forms(alloc, job, block)?;
+    let tasks = with_arguments(alloc, args, forms)?;
     Ok(tasks)
 }
 
@@ -33,6 +31,17 @@ pub fn put_in(alloc: Global, args: &[i64], params: &[Param]) -> Result<Seq<i64>,
         numbers.push(number(args, *param))?;
     }
     Ok(numbers)
+}
+
+/// Tasks with the arguments put in, in order.
+fn with_arguments(alloc: Global, args: &[i64], forms: Vec<TaskForm>) -> Result<Vec<Task>, NoMemory>
+    ensures { IfOk result (λ tasks. tasks.items ≡ map (task_of args.now) forms.items) }
+{
+    let mut tasks = Vec::new(alloc);
+    for form in forms {
+        tasks.push(task(alloc, args, form)?)?;
+    }
+    Ok(tasks)
 }
 
 /// A task with the arguments put in.
