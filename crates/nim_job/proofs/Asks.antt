@@ -1,19 +1,15 @@
 -- What a machine that has taken the items in front that ask nothing asks by its first item.
-use Rattle.std.proofs.Common.{◌≡◌, ℕ, ◌+◌, ◌<◌, ◌≤◌, zero, suc, Bool, true, false, ℤ, List, [], ◌∷◌, refl, ap, sym, subst, ◌∙◌, arith, Option, None}
+use Rattle.std.proofs.Common.{◌≡◌, ℕ, ◌<◌, ◌≤◌, zero, suc, true, false, ℤ, List, [], ◌∷◌, refl, ap, sym, ◌∙◌, arith}
 use Rattle.std.specs.Prelude.{◌==◌, nat_le}
 use Rattle.std.proofs.lemmas.Bool.{both_ways, cond-false, cond-true, le-leb, lt-leb}
 use Rattle.nim_job.specs.declared.ask.Ask.{Ask}
-use Rattle.nim_job.specs.declared.ask.Asked.{Asked}
 use Rattle.nim_job.specs.declared.item.Item.{Item}
 use Rattle.nim_job.specs.declared.item.Item.TheVariants.{Run}
-use Rattle.nim_job.specs.declared.level.Level.{Level}
 use Rattle.nim_job.specs.declared.span.Span.{Span}
 use Rattle.nim_job.specs.declared.stmt.Stmt.{Stmt, out-Stmt}
 use Rattle.nim_job.specs.declared.stmt.Stmt.TheOpen.{Stmt-F}
-use Rattle.nim_job.specs.Driver.{Driver}
-use Rattle.nim_job.specs.Levels.{todo_of}
 use Rattle.nim_job.specs.Machine.{Machine, Wants, ask_now, asked_now, item_ask, items_ask, items_asked, stmt_ask, stmt_asked}
-use Rattle.nim_job.specs.Quiet.{is_quiet, is_quiet_stmt, quiet_step}
+use Rattle.nim_job.specs.Quiet.{quiet_step}
 use Rattle.nim_job.specs.Serial.{is_nil}
 
 asks_open : (m : Machine) → m.full ≡ false → ask_now m ≡ items_ask m m.driver.todo

@@ -1,15 +1,15 @@
 -- A path of a tree has at most one level more than the tree nests deep.
-use Rattle.std.proofs.Common.{◌≡◌, ℕ, ◌+◌, ◌<◌, ◌≤◌, zero, suc, true, false, List, [], ◌∷◌, ◌++◌, length, map, refl, ap, sym, ◌∙◌, arith, Option, None, Some}
-use Rattle.std.specs.Prelude.{◌&&◌, max, nat_le, slice_get}
+use Rattle.std.proofs.Common.{◌≡◌, ℕ, ◌+◌, ◌<◌, ◌≤◌, zero, suc, true, false, List, [], ◌∷◌, ◌++◌, length, ap, ◌∙◌, arith, None, Some}
+use Rattle.std.specs.Prelude.{◌&&◌, nat_le, slice_get}
 use Rattle.std.specs.Option.{option_map_or}
-use Rattle.std.proofs.lemmas.Bool.{and_parts, both_ways}
+use Rattle.std.proofs.lemmas.Bool.{and_parts}
 use Rattle.std.proofs.lemmas.List.{length-append}
 use Rattle.nim_job.specs.declared.level.Level.{Level}
 use Rattle.nim_job.specs.declared.level.LevelKind.{LevelKind}
 use Rattle.nim_job.specs.declared.level.LevelKind.TheVariants as kind
 use Rattle.nim_job.specs.declared.stmt.Stmt.{Stmt, fold_out-Stmt, map-Stmt, out-Stmt}
 use Rattle.nim_job.specs.declared.stmt.Stmt.TheOpen.{Stmt-F}
-use Rattle.nim_job.specs.Levels.{IsOpen, Spot, are_levels, body_entered, body_in, depth_in, depth_of, enter, fits_level, greatest, holds_kind, is_driver, is_path, no_spot, stmt_before, stmt_depth}
+use Rattle.nim_job.specs.Levels.{IsOpen, Spot, are_levels, body_entered, body_in, depth_in, depth_of, enter, fits_level, holds_kind, is_driver, is_path, no_spot, stmt_before, stmt_depth}
 use Rattle.nim_job.proofs.Paths.{driver_whole, entered_holds, holder}
 
 depth_at : (body : List Stmt) (i : ℕ) (stmt : Stmt) → slice_get body i ≡ Some stmt → depth_of stmt ≤ depth_in body

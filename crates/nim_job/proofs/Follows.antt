@@ -1,9 +1,9 @@
 -- How a machine follows the steps of a job, from any state at which it stands.
-use Rattle.std.proofs.Common.{◌≡◌, ℕ, ◌+◌, ◌-◌, ◌<◌, ◌≤◌, zero, suc, Bool, true, false, not, add-one, ℤ, List, [], ◌∷◌, ◌++◌, length, map, refl, ap, ap₂, sym, subst, ◌∙◌, arith, append-nil, None}
+use Rattle.std.proofs.Common.{◌≡◌, ℕ, ◌+◌, ◌-◌, ◌<◌, ◌≤◌, zero, suc, Bool, true, false, not, add-one, ℤ, List, [], ◌∷◌, ◌++◌, length, refl, ap, sym, subst, ◌∙◌, arith, append-nil}
 use Rattle.std.specs.Prelude.{◌==◌, if◌then◌else◌, nat_le, nat_lt, slice_get}
 use Rattle.std.specs.List.{list_all}
 use Rattle.std.specs.Option.{option_map_or}
-use Rattle.std.proofs.lemmas.Bool.{and_parts, both_ways, cond-false, cond-true, cond_both, eqb-true, false_from_ne_true, le-leb, le-ltb, leb-false, leb-true, lt-ltb, ltb-true, or_from, or_left, or_right}
+use Rattle.std.proofs.lemmas.Bool.{and_parts, both_ways, cond-false, cond-true, eqb-true, le-leb, le-ltb, leb-false, leb-true, lt-ltb, ltb-true, or_from, or_left, or_right}
 use Rattle.std.proofs.lemmas.List.{length-append, length-map}
 use Rattle.nim_base.specs.declared.number.Object.{Object}
 use Rattle.nim_base.specs.declared.task.Task.{Task}
@@ -16,14 +16,14 @@ use Rattle.nim_job.specs.declared.job.Job.{Job}
 use Rattle.nim_job.specs.declared.stmt.Stmt.{Stmt, fold_out-Stmt, map-Stmt, out-Stmt}
 use Rattle.nim_job.specs.declared.stmt.Stmt.TheOpen.{Stmt-F}
 use Rattle.nim_job.specs.Driver.{Driver, atom_of, output_limit}
-use Rattle.nim_job.specs.Follows.{Asks, GoesFurther, GoesOn, Follows, IsThere, Prints, Runs, StandsAt, state_at}
-use Rattle.nim_job.specs.Machine.{IsWithin, Machine, after_ask, answered, appended, ask_now, ask_of, asked_now, before_ask, item_ask, items_ask, items_asked, machine_at, quiet_steps, span_object, spans_of, start_machine, stmt_ask, stmt_asked}
-use Rattle.nim_job.specs.Objects.{objects_of, shapes_of, value_at}
+use Rattle.nim_job.specs.Follows.{GoesFurther, GoesOn, Follows, IsThere, StandsAt, state_at}
+use Rattle.nim_job.specs.Machine.{Machine, after_ask, answered, appended, ask_now, ask_of, asked_now, before_ask, items_ask, items_asked, machine_at, quiet_steps, spans_of, start_machine, stmt_ask, stmt_asked}
+use Rattle.nim_job.specs.Objects.{shapes_of, value_at}
 use Rattle.nim_job.specs.Quiet.{is_quiet, is_quiet_stmt, quiet_step}
 use Rattle.nim_job.specs.Serial.{driver_at, ending_of, is_limit, is_nil, serial_of}
-use Rattle.nim_job.specs.Step.{State, after_tasks, items_step, items_tasks, object_of_part, output_of, step, stmt_tasks, stmt_told, tasks_next}
-use Rattle.nim_job.specs.Tasks.{block_tasks_of, takes_of}
-use Rattle.nim_job.specs.Whole.{is_call, is_whole}
+use Rattle.nim_job.specs.Step.{State, after_tasks, items_step, items_tasks, output_of, step, stmt_tasks, stmt_told, tasks_next}
+use Rattle.nim_job.specs.Tasks.{block_tasks_of}
+use Rattle.nim_job.specs.Whole.{is_whole}
 use Rattle.nim_job.proofs.Sound.{is_sound, sound_stmt}
 use Rattle.nim_job.proofs.Spans.{meant_there, span_meant}
 use Rattle.nim_job.proofs.Steps.{Later, is_item, nil_last, over_last, passes_all, quiet_end, step_open, tasks_open, todo_sound}
@@ -130,12 +130,15 @@ stmt_follows job state (Stmt-F.Do block args) room whole sound =
 stmt_follows job state (Stmt-F.Get s var part row cell) room whole sound =
     let meant = span_meant job.vars var part (ltb-true var (length job.vars) sound) in
     let next = stmt_next job state [] (Stmt-F.Get s var part row cell) in
-    let asked = record (machine_at job state) { driver = quiet_step state.driver; asked = stmt_asked (Stmt-F.Get s var part row cell) } in
-    (room, refl, record {
-      machine = ap (λ (object : Object). answered asked (cell_of (value_at state.values object) row cell)) meant;
-      counted = refl;
-      printed = no_more state.driver.output;
-    })
+    let asked = record (machine_at job state) { driver = quiet_step state.driver; asked = stmt_asked (Stmt-F.Get s var part row cell) } in (
+      room,
+      refl,
+      record {
+        machine = ap (λ (object : Object). answered asked (cell_of (value_at state.values object) row cell)) meant;
+        counted = refl;
+        printed = no_more state.driver.output;
+      },
+    )
 stmt_follows job state Stmt-F.Checkpoint room whole sound =
     (room, refl, λ cell. record { machine = refl; counted = refl; printed = no_more state.driver.output })
 stmt_follows job state (Stmt-F.Output var) room whole sound =
@@ -348,12 +351,12 @@ prints_at job m b var text at from is told =
     ap length told.2 ∙ ap (λ (t : List ℕ). length (state.driver.output ++ t)) (sym is) ∙ length-append state.driver.output text in
     let room = told.0 in (
       λ fits. let next : appended (asked_now b) text ≡ machine_at job (step job state) = ap (appended (asked_now b)) is ∙ told.4 (omega (arith, fits, output, size)) in
-      goes_from job m b (appended (asked_now b) text) [] from
-      (steps_on job b (appended (asked_now b) text) [] at room told.1 next told.3
-      (omega (arith, ap (λ (k : Machine). length k.driver.output) next, sum, fits, output))),
+          goes_from job m b (appended (asked_now b) text) [] from
+          (steps_on job b (appended (asked_now b) text) [] at room told.1 next told.3
+          (omega (arith, ap (λ (k : Machine). length k.driver.output) next, sum, fits, output))),
       λ past. let there : driver_at job (b.driver.count + 1) ≡ step job state = one_more job b.driver.count (b.driver.count + 1) refl in
-      full_ends job (b.driver.count + 1) (omega (arith, room, count))
-      (omega (arith, ap (λ (s : State). length s.driver.output) there, sum, past, output)),
+          full_ends job (b.driver.count + 1) (omega (arith, room, count))
+          (omega (arith, ap (λ (s : State). length s.driver.output) there, sum, past, output)),
     )
 
 -- at its end

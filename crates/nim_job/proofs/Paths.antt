@@ -12,7 +12,6 @@ use Rattle.nim_job.specs.declared.level.Level.{Level}
 use Rattle.nim_job.specs.declared.level.LevelKind.{LevelKind}
 use Rattle.nim_job.specs.declared.level.LevelKind.TheVariants as kind
 use Rattle.nim_job.specs.declared.stmt.Stmt.{Stmt, out-Stmt}
-use Rattle.nim_job.specs.declared.stmt.Stmt.TheOpen.{Stmt-F}
 use Rattle.nim_job.specs.Quiet.{again, is_quiet}
 use Rattle.nim_job.specs.Serial.{is_nil}
 use Rattle.nim_job.specs.Levels.{IsOpen, Spot, is_loop, is_settled, stmt_behind, stmt_next, are_levels, body_entered, body_in, closing_of, enter, fits_level, holds_kind, is_driver, is_path, level_todo, moved_on, no_spot, spot_from, spot_of, stmt_before, todo_from, todo_of}

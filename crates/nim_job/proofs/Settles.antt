@@ -1,6 +1,6 @@
 -- A machine takes the items in front that ask nothing, one after another.
-use Rattle.std.proofs.Common.{◌≡◌, ℕ, ◌+◌, ◌-◌, ◌<◌, ◌≤◌, zero, suc, Bool, true, false, refl, ap, sym, subst, ◌∙◌, arith}
-use Rattle.std.proofs.lemmas.Bool.{both_ways, cond-false, cond-true, cond_both, false_from_ne_true}
+use Rattle.std.proofs.Common.{◌≡◌, ℕ, ◌+◌, ◌-◌, ◌<◌, ◌≤◌, zero, suc, true, false, refl, ap, sym, ◌∙◌, arith}
+use Rattle.std.proofs.lemmas.Bool.{cond-false, cond-true, cond_both, false_from_ne_true}
 use Rattle.nim_job.specs.Driver.{Driver}
 use Rattle.nim_job.specs.Machine.{Machine, before_ask, quiet_steps}
 use Rattle.nim_job.specs.Quiet.{is_quiet, quiet_step}

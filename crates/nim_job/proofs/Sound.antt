@@ -1,6 +1,6 @@
 -- What a whole job's statements name is there, and they nest at most 16 deep.
-use Rattle.std.proofs.Common.{◌≡◌, ℕ, ◌+◌, ◌≤◌, zero, suc, Bool, true, false, List, [], ◌∷◌, length, map, refl, ap, sym, subst, ◌∙◌, arith, Option, None, Some}
-use Rattle.std.specs.Prelude.{◌&&◌, if◌then◌else◌, is_some, max, nat_lt}
+use Rattle.std.proofs.Common.{◌≡◌, ℕ, ◌+◌, ◌≤◌, Bool, true, false, List, [], ◌∷◌, length, map, refl, ap, sym, subst, ◌∙◌, arith, Option, None, Some}
+use Rattle.std.specs.Prelude.{◌&&◌, if◌then◌else◌, is_some, nat_lt}
 use Rattle.std.specs.List.{list_all}
 use Rattle.std.specs.Option.{option_and_then}
 use Rattle.std.proofs.lemmas.Bool.{and_from, and_parts, ltb-true}
@@ -11,7 +11,7 @@ use Rattle.nim_job.specs.declared.job.Job.{Job}
 use Rattle.nim_job.specs.declared.stmt.Stmt.{Stmt, fold-Stmt, fold-roll-Stmt, ind-Stmt, map-Stmt, roll-Stmt}
 use Rattle.nim_job.specs.declared.stmt.Stmt.TheOpen.{Stmt-F}
 use Rattle.nim_job.specs.Levels.{depth_in, depth_of, greatest, stmt_depth}
-use Rattle.nim_job.specs.Whole.{Scan, is_atom, is_call, is_checked, is_cond, is_rest, is_whole, scalars_of, scan_all, scan_body, scan_of, scan_stmt, set_at}
+use Rattle.nim_job.specs.Whole.{Scan, is_atom, is_call, is_checked, is_cond, is_whole, scalars_of, scan_all, scan_body, scan_of, scan_stmt, set_at}
 use Rattle.nim_job.proofs.Whole.{whole_checked}
 
 -- whether what a statement names is there, of its parts

@@ -5,7 +5,6 @@ use Rattle.std.specs.List.{list_all, range_with_len}
 use Rattle.std.proofs.lemmas.Bool.{and_from, le-leb}
 use Rattle.std.proofs.lemmas.List.Folds.{list_all-map}
 use Rattle.std.specs.Option.{option_map_or}
-use Rattle.nim_base.specs.declared.number.Object.{Object}
 use Rattle.nim_job.specs.declared.block.Place.TheVariants.{Fixed}
 use Rattle.nim_job.specs.declared.job.Var.{Var}
 use Rattle.nim_job.specs.declared.span.Span.{Span}

@@ -1,9 +1,7 @@
 -- What the steps of a driver keep: counts, outputs, ends, and statements that name what is there.
 use Rattle.std.proofs.Common.{◌≡◌, ℕ, ◌+◌, ◌-◌, ◌<◌, ◌≤◌, zero, suc, Bool, true, false, ℤ, List, [], ◌∷◌, ◌++◌, length, map, refl, ap, sym, subst, ◌∙◌, arith}
-use Rattle.std.specs.Prelude.{◌&&◌, if◌then◌else◌, nat_lt}
 use Rattle.std.specs.List.{list_all}
-use Rattle.std.proofs.lemmas.Bool.{and_from, and_parts, both_ways, cond-false, cond-true, cond_both, false_from_ne_true, le-ltb, lt-ltb, ltb-true}
-use Rattle.std.proofs.lemmas.List.{length-append}
+use Rattle.std.proofs.lemmas.Bool.{and_from, and_parts, both_ways, cond-false, cond-true, cond_both, le-ltb, lt-ltb}
 use Rattle.std.proofs.lemmas.List.Folds.{list_all-append, list_all-map}
 use Rattle.nim_job.specs.declared.item.Item.{Item}
 use Rattle.nim_job.specs.declared.item.Item.TheVariants.{Run, Again}
@@ -15,7 +13,7 @@ use Rattle.nim_job.specs.Machine.{quiet_steps}
 use Rattle.nim_job.specs.Objects.{shapes_of}
 use Rattle.nim_job.specs.Quiet.{again, is_quiet, is_quiet_stmt, items_left, quiet_step, stmt_left, turns_in}
 use Rattle.nim_job.specs.Serial.{driver_at, is_nil}
-use Rattle.nim_job.specs.Step.{State, after_tasks, is_over, items_step, items_tasks, items_told, output_of, step, stmt_tasks, stmt_told, tasks_next}
+use Rattle.nim_job.specs.Step.{State, after_tasks, is_over, items_step, items_tasks, items_told, step, stmt_tasks, stmt_told, tasks_next}
 use Rattle.nim_job.specs.Whole.{is_whole}
 use Rattle.nim_job.proofs.Sound.{body_sound, is_sound, sound_stmt}
 use Rattle.nim_job.proofs.Versions.{step_moves}

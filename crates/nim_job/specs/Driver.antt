@@ -1,5 +1,5 @@
 -- Where a driver stands, apart from what the objects hold.
-use Rattle.std.specs.Prelude.{ℕ, ◌+◌, Bool, ℤ, pos, Option, None, Some, List, [], map, replicate, slice_index_or}
+use Rattle.std.specs.Prelude.{ℕ, Bool, ℤ, pos, Option, None, Some, List, [], map, replicate, slice_index_or}
 use Rattle.std.specs.Option.{option_map_or}
 use Rattle.nim_job.specs.declared.item.Item.{Item}
 use Rattle.nim_job.specs.declared.item.Item.TheVariants.{Run}

@@ -15,14 +15,14 @@ use Rattle.nim_job.specs.declared.block.Ref.{Ref}
 use Rattle.nim_job.specs.declared.block.Stage.{Stage}
 use Rattle.nim_job.specs.declared.block.Block.{Block}
 use Rattle.nim_job.specs.declared.job.Init.{Init}
-use Rattle.nim_job.specs.declared.job.Init.TheVariants.{Fill, Loaded}
+use Rattle.nim_job.specs.declared.job.Init.TheVariants.{Loaded}
 use Rattle.nim_job.specs.declared.job.Var.{Var}
 use Rattle.nim_job.specs.declared.job.Job.{Job}
 use Rattle.nim_job.specs.declared.stmt.Arith.{Arith}
 use Rattle.nim_job.specs.declared.stmt.Atom.{Atom}
 use Rattle.nim_job.specs.declared.stmt.Atom.TheVariants as atom
 use Rattle.nim_job.specs.declared.stmt.Cond.{Cond}
-use Rattle.nim_job.specs.declared.stmt.Stmt.{Stmt, out-Stmt, fold-Stmt}
+use Rattle.nim_job.specs.declared.stmt.Stmt.{Stmt, fold-Stmt}
 use Rattle.nim_job.specs.declared.stmt.Stmt.TheOpen.{Stmt-F}
 use Rattle.nim_job.specs.Objects.{objects_of}
 use Rattle.nim_job.specs.Tasks.{object_meant, task_count}

@@ -21,11 +21,7 @@ pub(crate) fn atom(scalars: &[i64], atom: Atom) -> i64
 }
 
 /// What atoms stand for, in order.
-pub(crate) fn atoms(
-    alloc: Global,
-    scalars: &[i64],
-    atoms: &[Atom],
-) -> Result<Seq<i64>, NoMemory>
+pub(crate) fn atoms(alloc: Global, scalars: &[i64], atoms: &[Atom]) -> Result<Seq<i64>, NoMemory>
     ensures { IfOk result (λ numbers. numbers ≡ map (atom_of scalars.now) atoms.now) }
 {
     let mut numbers = Seq::new(alloc);
@@ -50,7 +46,11 @@ pub(crate) fn value(scalars: &[i64], first: Atom, rest: Option<(Arith, Atom)>) -
 pub(crate) fn is_met(scalars: &[i64], cond: Cond) -> bool
     ensures { result ≡ is_met scalars.now cond }
 {
-    compare(cond.cmp, atom(scalars, cond.left), atom(scalars, cond.right))
+    compare(
+        cond.cmp,
+        atom(scalars, cond.left),
+        atom(scalars, cond.right),
+    )
 }
 
 /// What two numbers give.

@@ -21,9 +21,7 @@ pub enum Ask {
 pub enum Asked {
     Run,
     /// A cell, for this scalar.
-    Get {
-        scalar: u8,
-    },
+    Get { scalar: u8 },
     Checkpoint,
     Output,
 }

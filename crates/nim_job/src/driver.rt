@@ -160,7 +160,11 @@ impl DriverMachine {
     {
         let scalars = state.scalars.as_slice().to_vec(self.alloc)?;
         let output = state.output.as_slice().to_vec(self.alloc)?;
-        replace(self.body.as_slice(), &mut self.levels, state.levels.as_slice());
+        replace(
+            self.body.as_slice(),
+            &mut self.levels,
+            state.levels.as_slice(),
+        );
         self.scalars = scalars;
         self.count = state.count;
         self.output = output;
@@ -195,7 +199,11 @@ impl DriverMachine {
         ensures quiet { result ≡ is_quiet self.old.driver.todo }
         ensures passed { self.new ≡ (if result then record self.old { driver = quiet_step self.old.driver } else self.old) }
     {
-        let passed = pass(self.body.as_slice(), &mut self.levels, self.scalars.as_mut_slice());
+        let passed = pass(
+            self.body.as_slice(),
+            &mut self.levels,
+            self.scalars.as_mut_slice(),
+        );
         if passed {
             self.count += 1;
         }

@@ -43,10 +43,8 @@ fn pass_stmt(
     requires next { stmt_next (spot_of whole.now (levels.old.items ++ last ∷ [])) ≡ Some stmt.now }
     ensures open { IsOpen whole.now (vec_capacity levels.new) levels.new.items }
     ensures quiet { result ≡ is_quiet_stmt (out-Stmt stmt.now) }
-    ensures todo {
-        let rest = todo_of whole.now (levels.old.items ++ moved_on last ∷ []) in
-        todo_of whole.now levels.new.items ≡ (if result then stmt_left scalars.old stmt.now (out-Stmt stmt.now) rest else Run stmt.now ∷ rest)
-    }
+    ensures todo { let rest = todo_of whole.now (levels.old.items ++ moved_on last ∷ []) in
+        todo_of whole.now levels.new.items ≡ (if result then stmt_left scalars.old stmt.now (out-Stmt stmt.now) rest else Run stmt.now ∷ rest) }
     ensures scalars { scalars.new ≡ (if result then stmt_scalars scalars.old (out-Stmt stmt.now) else scalars.old) }
 {
     if !is_quiet(stmt) {
@@ -123,10 +121,8 @@ fn enter(whole: &[Stmt], levels: &mut Vec<Level>, stmt: &Stmt, kind: LevelKind, 
     requires behind { stmt_behind (spot_of whole.now levels.old.items) ≡ Some stmt.now }
     requires holds { holds_kind kind (out-Stmt stmt.now) ≡ true }
     ensures open { IsOpen whole.now (vec_capacity levels.new) levels.new.items }
-    ensures todo {
-        let body = body_in kind (out-Stmt stmt.now) in
-        todo_of whole.now levels.new.items ≡ map Run body ++ (closing_of kind turns body (Some stmt.now) ++ todo_of whole.now levels.old.items)
-    }
+    ensures todo { let body = body_in kind (out-Stmt stmt.now) in
+        todo_of whole.now levels.new.items ≡ map Run body ++ (closing_of kind turns body (Some stmt.now) ++ todo_of whole.now levels.old.items) }
 {
     let level = Level {
         next: 0,
@@ -150,10 +146,8 @@ fn turn(whole: &[Stmt], levels: &mut Vec<Level>, last: Level)
     requires open { IsOpen whole.now (vec_capacity levels.old) (levels.old.items ++ last ∷ []) }
     requires kind { is_loop last.kind ≡ true }
     ensures open { IsOpen whole.now (vec_capacity levels.new) levels.new.items }
-    ensures todo {
-        let body = (spot_of whole.now (levels.old.items ++ last ∷ [])).body in
-        todo_of whole.now levels.new.items ≡ again last.turns body (todo_of whole.now levels.old.items)
-    }
+    ensures todo { let body = (spot_of whole.now (levels.old.items ++ last ∷ [])).body in
+        todo_of whole.now levels.new.items ≡ again last.turns body (todo_of whole.now levels.old.items) }
 {
     if last.turns > 0 {
         let level = Level {

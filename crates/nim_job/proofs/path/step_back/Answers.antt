@@ -1,4 +1,4 @@
-use Rattle.std.proofs.Common.{◌≡◌, ◌≤◌, ◌∙◌, ◌++◌, ◌∷◌, [], List, ap, sym, subst, length, refl, true}
+use Rattle.std.proofs.Common.{◌≡◌, ◌≤◌, ◌∙◌, ◌++◌, ◌∷◌, [], List, ap, sym, subst, length, true}
 use Rattle.std.specs.Vec.{vec_capacity}
 use Rattle.nim_job.specs.declared.level.Level.{Level}
 use Rattle.nim_job.specs.Levels.{is_path, spot_of, todo_of}

@@ -1,4 +1,4 @@
-use Rattle.std.proofs.Common.{◌≡◌, ◌<◌, ◌≤◌, ◌∙◌, ◌∷◌, ℤ, List, ap, ap₂, sym, arith, length, false, true}
+use Rattle.std.proofs.Common.{◌≡◌, ◌<◌, ◌∙◌, ◌∷◌, ℤ, List, ap, ap₂, sym, arith, length}
 use Rattle.std.proofs.lemmas.Bool.{both_ways}
 use Rattle.nim_job.specs.declared.item.Item.TheVariants.{Run}
 use Rattle.nim_job.specs.declared.level.Level.{Level}
