@@ -1,5 +1,6 @@
 pub mod Asks
 pub mod Depths
+pub mod Division
 pub mod FewTasks
 pub mod Follows
 pub mod Lists

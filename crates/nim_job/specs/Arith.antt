@@ -1,5 +1,5 @@
 -- What a driver's arithmetic gives, on 64-bit numbers.
-use Rattle.std.specs.Prelude.{Bool, not, if◌then◌else◌, ℤ, pos, int_le, int_lt}
+use Rattle.std.specs.Prelude.{◌≡◌, ℕ, Bool, not, if◌then◌else◌, ℤ, pos, negsuc, int_le, int_lt}
 use Rattle.std.specs.Int.{int_rem_euclid, int_wrapping_add, int_wrapping_mul, int_wrapping_sub, w64}
 use Rattle.std.specs.Ordering.{int_eq}
 use Rattle.nim_base.specs.Functions.{quotient}
@@ -28,3 +28,21 @@ compared Equal left right = int_eq left right
 compared Differs left right = not (int_eq left right)
 compared Greater left right = int_lt right left
 compared AtLeast left right = int_le right left
+
+-- ---- the special cases of division
+
+-- the least 64-bit number
+abbrev pub least : ℤ
+least = negsuc 9223372036854775807
+
+-- by 0 the quotient and the remainder are 0
+abbrev pub DividesByZero : Type 0
+DividesByZero = (number : ℤ) → (arith_of Divide number (pos 0) ≡ pos 0) × (arith_of Remainder number (pos 0) ≡ pos 0)
+
+-- the least number by -1 is itself, and leaves 0
+abbrev pub DividesTheLeast : Type 0
+DividesTheLeast = (arith_of Divide least (negsuc 0) ≡ least) × (arith_of Remainder least (negsuc 0) ≡ pos 0)
+
+-- a remainder is never below 0
+abbrev pub LeavesNatural : Type 0
+LeavesNatural = (left right : ℤ) → (rest : ℕ) × (arith_of Remainder left right ≡ pos rest)

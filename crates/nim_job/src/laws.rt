@@ -1,4 +1,5 @@
 ghost use Rattle.std.specs.Prelude.{◌≡◌, IsTrue};
+ghost use Rattle.nim_job.specs.Arith.{DividesByZero, DividesTheLeast, LeavesNatural};
 ghost use Rattle.nim_job.specs.Follows.{EachFollows, StandsAt};
 ghost use Rattle.nim_job.specs.Machine.{start_machine};
 ghost use Rattle.nim_job.specs.Versions.{KeepsVersions, ReadsVersions};
@@ -19,4 +20,11 @@ pub fn machine_follows(job: &Job)
     requires whole { IsTrue (is_whole job.now) }
     ensures starts { StandsAt job.now (start_machine job.now) }
     ensures follows { EachFollows job.now }
+{}
+
+/// What division by 0 and of the least number by -1 give, and that no remainder is below 0.
+pub fn division_is_total()
+    ensures zero { DividesByZero }
+    ensures least { DividesTheLeast }
+    ensures natural { LeavesNatural }
 {}

@@ -27,7 +27,7 @@ pub use driver::DriverMachine;
 pub use forms::block_forms;
 pub use item::Item;
 pub use job::{Init, Job, Var};
-pub use laws::{machine_follows, versions_are_read};
+pub use laws::{division_is_total, machine_follows, versions_are_read};
 pub use layout::{first_object, task_count};
 pub use level::{Level, LevelKind};
 pub use objects::shapes;
