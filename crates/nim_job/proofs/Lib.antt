@@ -5,6 +5,7 @@ pub mod FewTasks
 pub mod Follows
 pub mod Lists
 pub mod Paths
+pub mod Returns
 pub mod Scans
 pub mod Settles
 pub mod Sound

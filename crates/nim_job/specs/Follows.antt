@@ -5,9 +5,11 @@ use Rattle.nim_base.specs.declared.task.Task.{Task}
 use Rattle.nim_base.specs.Value.{cell_of}
 use Rattle.nim_job.specs.declared.ask.Ask.{Ask}
 use Rattle.nim_job.specs.declared.job.Job.{Job}
+use Rattle.nim_job.specs.declared.state.DriverState.{DriverState}
 use Rattle.nim_job.specs.Driver.{output_limit}
-use Rattle.nim_job.specs.Machine.{Machine, IsWithin, after_ask, answered, appended, ask_of, before_ask, machine_at}
+use Rattle.nim_job.specs.Machine.{Machine, IsWithin, after_ask, answered, appended, ask_of, before_ask, machine_at, spans_of}
 use Rattle.nim_job.specs.Objects.{objects_of, shapes_of, value_at}
+use Rattle.nim_job.specs.Saved.{driver_in, gone_back}
 use Rattle.nim_job.specs.Serial.{driver_at, serial_of}
 use Rattle.nim_job.specs.Step.{State, after_tasks, output_of, tasks_next}
 use Rattle.nim_job.specs.Tasks.{block_tasks_of, takes_of}
@@ -73,3 +75,25 @@ pub record Follows (job : Job) (m : Machine) : Type 0 where
 -- a machine that stands at a state of the job follows the job's steps
 abbrev pub EachFollows : Job → Type 0
 EachFollows job = (m : Machine) → StandsAt job m → Follows job m
+
+-- ---- going back
+
+-- the machine is one of the job, wherever it stands
+pub record IsOf (job : Job) (m : Machine) : Type 0 where
+  pub steps : m.steps ≡ job.steps
+  pub body : m.body ≡ job.body
+  pub spans : m.spans ≡ spans_of job.vars
+
+-- a machine of a job stays one of this job
+pub record StaysOf (job : Job) : Type 0 where
+  pub stands : (m : Machine) → StandsAt job m → IsOf job m
+  pub before : (m : Machine) → IsOf job m → IsOf job (before_ask m)
+  pub asked : (m : Machine) → IsOf job m → IsOf job (after_ask m)
+  pub answered : (m : Machine) (cell : ℤ) → IsOf job m → IsOf job (answered m cell)
+  pub appended : (m : Machine) (text : List ℕ) → IsOf job m → IsOf job (appended m text)
+
+-- A machine of the job that goes back to a state that was saved where a machine stood at a state of the job stands
+-- there again.
+abbrev pub ComesBack : Job → Type 0
+ComesBack job = (m saved : Machine) (state : DriverState) → IsOf job m → StandsAt job saved → driver_in saved.body state ≡ saved.driver
+    → StandsAt job (gone_back m state)

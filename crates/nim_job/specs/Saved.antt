@@ -1,5 +1,5 @@
 -- A driver's state that was saved, and the machines that it fits.
-use Rattle.std.specs.Prelude.{Bool, ◌&&◌, ◌==◌, nat_le, List, length}
+use Rattle.std.specs.Prelude.{Bool, false, ◌&&◌, ◌==◌, nat_le, None, List, length}
 use Rattle.nim_job.specs.declared.state.DriverState.{DriverState}
 use Rattle.nim_job.specs.declared.stmt.Stmt.{Stmt}
 use Rattle.nim_job.specs.Driver.{Driver, output_limit}
@@ -14,3 +14,7 @@ driver_in body state = record { todo = todo_of body state.levels; scalars = stat
 abbrev pub fits : Machine → DriverState → Bool
 fits m state = is_path m.body state.levels && (length state.scalars == length m.driver.scalars) && nat_le state.count m.steps
     && nat_le (length state.output) output_limit
+
+-- the machine where it stood when a state was saved; nothing is unanswered
+abbrev pub gone_back : Machine → DriverState → Machine
+gone_back m state = record m { driver = driver_in m.body state; asked = None; full = false }

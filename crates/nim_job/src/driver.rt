@@ -1,10 +1,12 @@
 ghost use Rattle.std.specs.List.{list_all};
-ghost use Rattle.std.specs.Prelude.{◌≡◌, ◌<◌, ◌≤◌, true, false, None, pos, replicate, IfOk, OnOk, OnErr, IsTrue, if◌then◌else◌};
+ghost use Rattle.std.specs.Prelude.{◌≡◌, ◌<◌, ◌≤◌, true, false, None, pos, replicate, IfOk, OnOk, OnErr, IsTrue};
+ghost use Rattle.std.specs.Prelude.{if◌then◌else◌};
 ghost use Rattle.nim_job.specs.declared.stmt.Stmt.{out-Stmt};
 ghost use Rattle.nim_job.specs.Machine as spec;
-ghost use Rattle.nim_job.specs.Machine.{after_ask, answered, appended, ask_now, ask_of, asked_now, before_ask, is_span, IsWithin, start_machine, takes_cell, takes_text, Wants};
+ghost use Rattle.nim_job.specs.Machine.{after_ask, answered, appended, ask_now, ask_of, asked_now, before_ask};
+ghost use Rattle.nim_job.specs.Machine.{is_span, IsWithin, start_machine, takes_cell, takes_text, Wants};
 ghost use Rattle.nim_job.specs.Quiet.{is_quiet, quiet_step};
-ghost use Rattle.nim_job.specs.Saved.{driver_in, fits};
+ghost use Rattle.nim_job.specs.Saved.{driver_in, fits, gone_back};
 ghost use Rattle.nim_job.specs.Whole.{is_whole};
 
 use crate::arith::atoms;
@@ -60,13 +62,18 @@ impl Model for DriverMachine {
       steps = m.steps;
       body = m.body;
       spans = m.spans.items;
-      driver = record { todo = todo_of m.body m.levels.items; scalars = m.scalars.items; count = m.count; output = m.output.items };
+      driver = record {
+        todo = todo_of m.body m.levels.items;
+        scalars = m.scalars.items;
+        count = m.count;
+        output = m.output.items;
+      };
       asked = m.asked;
       full = m.full;
     } };
 
-    ghost invariant = { λ m. (m.count ≤ m.steps) × (length m.output.items ≤ 16777216) × (list_all is_span m.spans.items ≡ true)
-        × IsOpen m.body (vec_capacity m.levels) m.levels.items };
+    ghost invariant = { λ m. (m.count ≤ m.steps) × (length m.output.items ≤ 16777216)
+        × (list_all is_span m.spans.items ≡ true) × IsOpen m.body (vec_capacity m.levels) m.levels.items };
 }
 
 impl DriverMachine {
@@ -155,7 +162,7 @@ impl DriverMachine {
     /// Goes back to where a driver stood. Nothing is unanswered then.
     pub fn restore(&mut self, state: &DriverState) -> Result<(), NoMemory>
         requires fits { IsTrue (fits self.old state.now) }
-        ensures ok { OnOk result (self.new ≡ record self.old { driver = driver_in self.old.body state.now; asked = None; full = false }) }
+        ensures ok { OnOk result (self.new ≡ gone_back self.old state.now) }
         ensures err { OnErr result (self.new ≡ self.old) }
     {
         let scalars = state.scalars.as_slice().to_vec(self.alloc)?;
@@ -197,7 +204,10 @@ impl DriverMachine {
     fn pass(&mut self) -> bool
         requires room { self.old.driver.count < self.old.steps }
         ensures quiet { result ≡ is_quiet self.old.driver.todo }
-        ensures passed { self.new ≡ (if result then record self.old { driver = quiet_step self.old.driver } else self.old) }
+        ensures passed {
+            let next = record self.old { driver = quiet_step self.old.driver } in
+            self.new ≡ (if result then next else self.old)
+        }
     {
         let passed = pass(
             self.body.as_slice(),

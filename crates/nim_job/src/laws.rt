@@ -1,6 +1,6 @@
 ghost use Rattle.std.specs.Prelude.{◌≡◌, IsTrue};
 ghost use Rattle.nim_job.specs.Arith.{DividesByZero, DividesTheLeast, LeavesNatural};
-ghost use Rattle.nim_job.specs.Follows.{EachFollows, StandsAt};
+ghost use Rattle.nim_job.specs.Follows.{ComesBack, EachFollows, StandsAt, StaysOf};
 ghost use Rattle.nim_job.specs.Machine.{start_machine};
 ghost use Rattle.nim_job.specs.Versions.{KeepsVersions, ReadsVersions};
 ghost use Rattle.nim_job.specs.Whole.{is_whole};
@@ -15,11 +15,14 @@ pub fn versions_are_read(job: &Job)
 {}
 
 /// A `DriverMachine` that was just made stands before the first step of its job. From each machine that stands at a
-/// state of the job, asking and answering leads to a later one, and what it says at the end is how the job ends.
+/// state of the job, asking and answering leads to a later one, and what it says at the end is how the job ends. Going
+/// back to a state that was saved leads to where it was saved.
 pub fn machine_follows(job: &Job)
     requires whole { IsTrue (is_whole job.now) }
     ensures starts { StandsAt job.now (start_machine job.now) }
     ensures follows { EachFollows job.now }
+    ensures stays { StaysOf job.now }
+    ensures back { ComesBack job.now }
 {}
 
 /// What division by 0 and of the least number by -1 give, and that no remainder is below 0.

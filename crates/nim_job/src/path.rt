@@ -1,9 +1,12 @@
-ghost use Rattle.std.specs.Prelude.{◌≡◌, ◌+◌, ◌<◌, ◌≤◌, ◌∷◌, ◌++◌, [], true, false, length, map, slice_get, slice_set, Some, option_copied, if◌then◌else◌};
+ghost use Rattle.std.specs.Prelude.{◌≡◌, ◌+◌, ◌<◌, ◌≤◌, ◌∷◌, ◌++◌, [], true, false, length, map, slice_get};
+ghost use Rattle.std.specs.Prelude.{slice_set, Some, option_copied, if◌then◌else◌};
 ghost use Rattle.std.specs.Vec.{vec_capacity};
 ghost use Rattle.nim_job.specs.declared.item.Item.TheVariants.{Run};
 ghost use Rattle.nim_job.specs.declared.stmt.Stmt.{out-Stmt};
-ghost use Rattle.nim_job.specs.Levels.{body_entered, body_in, closing_of, holds_kind, is_loop, is_path, is_settled, IsOpen, moved_on, spot_of, stmt_before, stmt_behind, stmt_next, todo_of};
-ghost use Rattle.nim_job.specs.Quiet.{again, is_quiet, is_quiet_stmt, items_left, items_scalars, stmt_left, stmt_scalars};
+ghost use Rattle.nim_job.specs.Levels.{body_entered, body_in, closing_of, holds_kind, is_loop, is_path, is_settled};
+ghost use Rattle.nim_job.specs.Levels.{IsOpen, moved_on, spot_of, stmt_before, stmt_behind, stmt_next, todo_of};
+ghost use Rattle.nim_job.specs.Quiet.{again, is_quiet, is_quiet_stmt, items_left, items_scalars, stmt_left};
+ghost use Rattle.nim_job.specs.Quiet.{stmt_scalars};
 
 use crate::arith::{atom, is_met, value};
 use crate::{Level, LevelKind, Stmt};
@@ -13,8 +16,14 @@ pub(crate) fn pass(whole: &[Stmt], levels: &mut Vec<Level>, scalars: &mut [i64])
     requires open { IsOpen whole.now (vec_capacity levels.old) levels.old.items }
     ensures open { IsOpen whole.now (vec_capacity levels.new) levels.new.items }
     ensures quiet { result ≡ is_quiet (todo_of whole.now levels.old.items) }
-    ensures todo { todo_of whole.now levels.new.items ≡ (if result then items_left scalars.old (todo_of whole.now levels.old.items) else todo_of whole.now levels.old.items) }
-    ensures scalars { scalars.new ≡ (if result then items_scalars scalars.old (todo_of whole.now levels.old.items) else scalars.old) }
+    ensures todo {
+        let todo = todo_of whole.now levels.old.items in
+        todo_of whole.now levels.new.items ≡ (if result then items_left scalars.old todo else todo)
+    }
+    ensures scalars {
+        let todo = todo_of whole.now levels.old.items in
+        scalars.new ≡ (if result then items_scalars scalars.old todo else scalars.old)
+    }
 {
     let body = close(whole, levels);
     match levels.pop() {
@@ -61,7 +70,10 @@ fn take(whole: &[Stmt], levels: &mut Vec<Level>, stmt: &Stmt, scalars: &mut [i64
     requires open { IsOpen whole.now (vec_capacity levels.old) levels.old.items }
     requires behind { stmt_behind (spot_of whole.now levels.old.items) ≡ Some stmt.now }
     ensures open { IsOpen whole.now (vec_capacity levels.new) levels.new.items }
-    ensures todo { todo_of whole.now levels.new.items ≡ stmt_left scalars.old stmt.now (out-Stmt stmt.now) (todo_of whole.now levels.old.items) }
+    ensures todo {
+        let rest = todo_of whole.now levels.old.items in
+        todo_of whole.now levels.new.items ≡ stmt_left scalars.old stmt.now (out-Stmt stmt.now) rest
+    }
     ensures scalars { scalars.new ≡ stmt_scalars scalars.old (out-Stmt stmt.now) }
 {
     match stmt {
@@ -184,7 +196,10 @@ fn leave(whole: &[Stmt], levels: &mut Vec<Level>, body: &[Stmt]) -> bool
     ensures todo { todo_of whole.now levels.new.items ≡ todo_of whole.now levels.old.items }
     ensures fewer { result ≡ true → length levels.new.items < length levels.old.items }
     ensures same { result ≡ false → levels.new.items ≡ levels.old.items }
-    ensures settled { result ≡ false → 0 < length levels.old.items → is_settled (spot_of whole.now levels.old.items) ≡ true }
+    ensures settled {
+        let spot = spot_of whole.now levels.old.items in
+        result ≡ false → 0 < length levels.old.items → is_settled spot ≡ true
+    }
 {
     match levels.pop() {
         None => false,

@@ -1,4 +1,5 @@
 use Rattle.nim_job.proofs.Follows.{follows, starts}
+use Rattle.nim_job.proofs.Returns.{back, stays}
 use Rattle.nim_job.proofs.laws.machine_follows.Goals as goal
 
 pub returns-clause-starts : goal.returns-clause-starts
@@ -6,3 +7,9 @@ returns-clause-starts c = starts c.args.job.now
 
 pub returns-clause-follows : goal.returns-clause-follows
 returns-clause-follows c = follows c.args.job.now c.requires.whole
+
+pub returns-clause-stays : goal.returns-clause-stays
+returns-clause-stays c = stays c.args.job.now
+
+pub returns-clause-back : goal.returns-clause-back
+returns-clause-back c = back c.args.job.now
