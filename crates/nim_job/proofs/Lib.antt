@@ -3,7 +3,9 @@ pub mod Depths
 pub mod Division
 pub mod FewTasks
 pub mod Follows
+pub mod Fronts
 pub mod Lists
+pub mod Moves
 pub mod Paths
 pub mod Returns
 pub mod Scans

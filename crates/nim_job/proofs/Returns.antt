@@ -1,19 +1,17 @@
 -- A machine stays one of its job, and goes back to where it stood.
-use Rattle.std.proofs.Common.{◌≡◌, ℕ, ◌+◌, ◌-◌, ◌≤◌, true, false, ℤ, List, [], ◌∷◌, ◌++◌, length, refl, ap, sym, ◌∙◌, arith, None}
+use Rattle.std.proofs.Common.{◌≡◌, ℕ, ◌+◌, ◌-◌, true, false, List, [], ◌∷◌, ◌++◌, length, refl, ap, sym, ◌∙◌, arith, None}
 use Rattle.std.specs.Prelude.{nat_le}
 use Rattle.std.proofs.lemmas.Bool.{cond_both}
 use Rattle.nim_job.specs.declared.item.Item.{Item}
 use Rattle.nim_job.specs.declared.job.Job.{Job}
 use Rattle.nim_job.specs.declared.span.Span.{Span}
-use Rattle.nim_job.specs.declared.state.DriverState.{DriverState}
 use Rattle.nim_job.specs.declared.stmt.Stmt.{Stmt}
 use Rattle.nim_job.specs.Driver.{Driver, output_limit}
 use Rattle.nim_job.specs.Follows.{ComesBack, IsOf, StandsAt, StaysOf, state_at}
-use Rattle.nim_job.specs.Machine.{IsWithin, Machine, after_ask, answered, appended, asked_now, before_ask, item_asked, items_asked, machine_at, quiet_steps, spans_of}
+use Rattle.nim_job.specs.Machine.{Machine, answered, appended, asked_now, before_ask, item_asked, items_asked, machine_at, quiet_steps, spans_of}
 use Rattle.nim_job.specs.Quiet.{quiet_step}
 use Rattle.nim_job.specs.Saved.{driver_in}
 use Rattle.nim_job.specs.Serial.{driver_at}
-use Rattle.nim_job.specs.Step.{State}
 
 of_stands : (job : Job) (m : Machine) → StandsAt job m → IsOf job m
 of_stands job m at = record {

@@ -204,10 +204,8 @@ impl DriverMachine {
     fn pass(&mut self) -> bool
         requires room { self.old.driver.count < self.old.steps }
         ensures quiet { result ≡ is_quiet self.old.driver.todo }
-        ensures passed {
-            let next = record self.old { driver = quiet_step self.old.driver } in
-            self.new ≡ (if result then next else self.old)
-        }
+        ensures passed { let next = record self.old { driver = quiet_step self.old.driver } in
+            self.new ≡ (if result then next else self.old) }
     {
         let passed = pass(
             self.body.as_slice(),

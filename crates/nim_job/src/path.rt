@@ -16,14 +16,10 @@ pub(crate) fn pass(whole: &[Stmt], levels: &mut Vec<Level>, scalars: &mut [i64])
     requires open { IsOpen whole.now (vec_capacity levels.old) levels.old.items }
     ensures open { IsOpen whole.now (vec_capacity levels.new) levels.new.items }
     ensures quiet { result ≡ is_quiet (todo_of whole.now levels.old.items) }
-    ensures todo {
-        let todo = todo_of whole.now levels.old.items in
-        todo_of whole.now levels.new.items ≡ (if result then items_left scalars.old todo else todo)
-    }
-    ensures scalars {
-        let todo = todo_of whole.now levels.old.items in
-        scalars.new ≡ (if result then items_scalars scalars.old todo else scalars.old)
-    }
+    ensures todo { let todo = todo_of whole.now levels.old.items in
+        todo_of whole.now levels.new.items ≡ (if result then items_left scalars.old todo else todo) }
+    ensures scalars { let todo = todo_of whole.now levels.old.items in
+        scalars.new ≡ (if result then items_scalars scalars.old todo else scalars.old) }
 {
     let body = close(whole, levels);
     match levels.pop() {
@@ -70,10 +66,8 @@ fn take(whole: &[Stmt], levels: &mut Vec<Level>, stmt: &Stmt, scalars: &mut [i64
     requires open { IsOpen whole.now (vec_capacity levels.old) levels.old.items }
     requires behind { stmt_behind (spot_of whole.now levels.old.items) ≡ Some stmt.now }
     ensures open { IsOpen whole.now (vec_capacity levels.new) levels.new.items }
-    ensures todo {
-        let rest = todo_of whole.now levels.old.items in
-        todo_of whole.now levels.new.items ≡ stmt_left scalars.old stmt.now (out-Stmt stmt.now) rest
-    }
+    ensures todo { let rest = todo_of whole.now levels.old.items in
+        todo_of whole.now levels.new.items ≡ stmt_left scalars.old stmt.now (out-Stmt stmt.now) rest }
     ensures scalars { scalars.new ≡ stmt_scalars scalars.old (out-Stmt stmt.now) }
 {
     match stmt {
@@ -196,10 +190,8 @@ fn leave(whole: &[Stmt], levels: &mut Vec<Level>, body: &[Stmt]) -> bool
     ensures todo { todo_of whole.now levels.new.items ≡ todo_of whole.now levels.old.items }
     ensures fewer { result ≡ true → length levels.new.items < length levels.old.items }
     ensures same { result ≡ false → levels.new.items ≡ levels.old.items }
-    ensures settled {
-        let spot = spot_of whole.now levels.old.items in
-        result ≡ false → 0 < length levels.old.items → is_settled spot ≡ true
-    }
+    ensures settled { let spot = spot_of whole.now levels.old.items in
+        result ≡ false → 0 < length levels.old.items → is_settled spot ≡ true }
 {
     match levels.pop() {
         None => false,

@@ -1,7 +1,7 @@
 use Rattle.std.proofs.Common.{◌∙◌, ap, ap₂, sym}
 use Rattle.nim_job.specs.declared.level.LevelKind.TheVariants as kind
 use Rattle.nim_job.specs.Levels.{Spot, body_entered, stmt_before}
-use Rattle.nim_job.proofs.Paths.{spot_more}
+use Rattle.nim_job.proofs.Fronts.{spot_more}
 use Rattle.nim_job.proofs.path.body_at.Goals as goal
 
 pub loop-level-preserved : goal.loop-level-preserved

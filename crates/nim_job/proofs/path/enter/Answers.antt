@@ -1,7 +1,8 @@
 use Rattle.std.proofs.Common.{◌∙◌, ap}
 use Rattle.std.specs.Vec.{vec_capacity}
 use Rattle.nim_job.specs.Levels.{todo_of}
-use Rattle.nim_job.proofs.Paths.{enter_todo, entered_open}
+use Rattle.nim_job.proofs.Moves.{entered_open}
+use Rattle.nim_job.proofs.Paths.{enter_todo}
 use Rattle.nim_job.proofs.path.enter.Goals as goal
 
 pub put-requires : goal.put-requires

@@ -3,7 +3,8 @@ use Rattle.std.specs.Vec.{vec_capacity}
 use Rattle.std.proofs.lemmas.List.{length-append}
 use Rattle.nim_job.specs.declared.level.Level.{Level}
 use Rattle.nim_job.specs.Levels.{is_settled, spot_of, todo_of}
-use Rattle.nim_job.proofs.Paths.{left_open, not_loop, not_while, same_open, settled_loop, settled_more, todo_left}
+use Rattle.nim_job.proofs.Fronts.{not_loop, not_while, same_open, settled_loop, settled_more}
+use Rattle.nim_job.proofs.Moves.{left_open, todo_left}
 use Rattle.nim_job.proofs.path.leave.Goals as goal
 
 pub returns-then-last-body-clause-settled : goal.returns-then-last-body-clause-settled

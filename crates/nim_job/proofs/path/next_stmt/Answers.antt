@@ -1,7 +1,7 @@
 use Rattle.std.proofs.Common.{◌∙◌, ap, ap₂, sym}
 use Rattle.std.specs.Prelude.{slice_get}
 use Rattle.nim_job.specs.declared.level.Level.{Level}
-use Rattle.nim_job.proofs.Paths.{innermost}
+use Rattle.nim_job.proofs.Fronts.{innermost}
 use Rattle.nim_job.proofs.path.next_stmt.Goals as goal
 
 pub returns-in-Some : goal.returns-in-Some

@@ -1,7 +1,7 @@
 use Rattle.std.proofs.Common.{◌∙◌, List, ap}
 use Rattle.nim_job.specs.declared.level.Level.{Level}
 use Rattle.nim_job.specs.Levels.{spot_of, stmt_behind, todo_of}
-use Rattle.nim_job.proofs.Paths.{moved_behind, todo_taken}
+use Rattle.nim_job.proofs.Moves.{moved_behind, todo_taken}
 use Rattle.nim_job.proofs.path.pass_stmt.Goals as goal
 
 pub returns-then-not-is_quiet-clause-todo : goal.returns-then-not-is_quiet-clause-todo

@@ -1,7 +1,7 @@
 use Rattle.std.proofs.Common.{◌++◌, ◌∷◌, [], arith}
 use Rattle.std.specs.Vec.{vec_capacity}
 use Rattle.nim_job.proofs.Depths.{room_left}
-use Rattle.nim_job.proofs.Paths.{same_open}
+use Rattle.nim_job.proofs.Fronts.{same_open}
 use Rattle.nim_job.proofs.path.put.Goals as goal
 
 pub push_reserved-requires : goal.push_reserved-requires

@@ -1,6 +1,7 @@
 use Rattle.std.proofs.Common.{ap, arith, length}
 use Rattle.std.specs.Vec.{vec_capacity}
-use Rattle.nim_job.proofs.Paths.{moved_open, next_within}
+use Rattle.nim_job.proofs.Fronts.{next_within}
+use Rattle.nim_job.proofs.Moves.{moved_open}
 use Rattle.nim_job.proofs.path.skip.Goals as goal
 
 pub overflow_add-level : goal.overflow_add-level

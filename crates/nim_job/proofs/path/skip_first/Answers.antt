@@ -2,7 +2,7 @@ use Rattle.std.proofs.Common.{◌∙◌, ◌∷◌, List, ap, sym}
 use Rattle.nim_job.specs.declared.item.Item.TheVariants.{Run}
 use Rattle.nim_job.specs.declared.level.Level.{Level}
 use Rattle.nim_job.specs.Levels.{spot_of, stmt_next, todo_of}
-use Rattle.nim_job.proofs.Paths.{todo_taken}
+use Rattle.nim_job.proofs.Moves.{todo_taken}
 use Rattle.nim_job.proofs.path.skip_first.Goals as goal
 
 pub returns-in-Some-clause-todo : goal.returns-in-Some-clause-todo

@@ -2,7 +2,8 @@ use Rattle.std.proofs.Common.{◌≡◌, ◌≤◌, ◌∙◌, ◌++◌, ◌∷�
 use Rattle.std.specs.Vec.{vec_capacity}
 use Rattle.nim_job.specs.declared.level.Level.{Level}
 use Rattle.nim_job.specs.Levels.{is_path, spot_of, todo_of}
-use Rattle.nim_job.proofs.Paths.{back_open, back_some, back_todo, same_open}
+use Rattle.nim_job.proofs.Fronts.{same_open}
+use Rattle.nim_job.proofs.Moves.{back_open, back_some, back_todo}
 use Rattle.nim_job.proofs.path.step_back.Goals as goal
 
 pub overflow_sub-level : goal.overflow_sub-level

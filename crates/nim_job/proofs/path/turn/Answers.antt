@@ -1,7 +1,7 @@
 use Rattle.std.proofs.Common.{◌∙◌, ap}
 use Rattle.std.specs.Vec.{vec_capacity}
 use Rattle.nim_job.specs.Levels.{todo_of}
-use Rattle.nim_job.proofs.Paths.{left_open, turn_open, turn_todo}
+use Rattle.nim_job.proofs.Moves.{left_open, turn_open, turn_todo}
 use Rattle.nim_job.proofs.path.turn.Goals as goal
 
 pub put-requires : goal.put-requires

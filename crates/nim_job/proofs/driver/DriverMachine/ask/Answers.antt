@@ -9,7 +9,7 @@ use Rattle.nim_job.specs.Machine.{Machine, stmt_ask}
 use Rattle.nim_job.specs.Quiet.{is_quiet}
 use Rattle.nim_job.specs.Serial.{is_nil}
 use Rattle.nim_job.proofs.Asks.{asks_limit, asks_stmt, some_left}
-use Rattle.nim_job.proofs.Paths.{front}
+use Rattle.nim_job.proofs.Fronts.{front}
 use Rattle.nim_job.proofs.driver.DriverMachine.ask.Goals as goal
 
 pub returns-then-self-clause-ask : goal.returns-then-self-clause-ask
@@ -26,8 +26,9 @@ returns-then-self-clause-ask c =
     asks_limit m c.requires.open (ap is_nil todo ∙ comes.0)
     (omega (arith, c.if-self.true, ap (λ (k : Machine). k.steps) c.self.view_is, ap (λ (k : Machine). k.driver.count) c.self.view_is))
 
-pub returns-in-None-clause-ask : goal.returns-in-None-clause-ask
-returns-in-None-clause-ask c =
+-- further turns of a loop were taken before
+never : goal.In-None → ⊥
+never c =
     let m = c.args.self.now in
     let inside = c.self.inside in
     let body = c.as_slice.result.now in
@@ -40,23 +41,13 @@ returns-in-None-clause-ask c =
     let none = ap₂ (λ (b : List Stmt) (ls : List Level). stmt_next (spot_of b ls)) (c.as_slice.ensures ∙ sym c.as_slice-2.ensures) (sym c.as_slice-3.ensures.value) ∙ sym c.in-None.ensures in
     let room : m.driver.count < m.steps =
     omega (arith, c.if-self.false, ap (λ (k : Machine). k.steps) c.self.view_is, ap (λ (k : Machine). k.driver.count) c.self.view_is) in
-    absurd (both_ways (is_quiet m.driver.todo) (c.requires.settled room) (ap is_quiet todo ∙ comes.1 none))
+    both_ways (is_quiet m.driver.todo) (c.requires.settled room) (ap is_quiet todo ∙ comes.1 none)
+
+pub returns-in-None-clause-ask : goal.returns-in-None-clause-ask
+returns-in-None-clause-ask c = absurd (never c)
 
 pub returns-in-None-clause-ok : goal.returns-in-None-clause-ok
-returns-in-None-clause-ok c =
-    let m = c.args.self.now in
-    let inside = c.self.inside in
-    let body = c.as_slice.result.now in
-    let levels = c.close-body.new.levels in
-    let left = some_left _ (sym c.is_empty.ensures ∙ c.if-is_empty.false) in
-    let some : 0 < length levels.items = omega (arith, left, levels.ok.0) in
-    let todo : m.driver.todo ≡ todo_of body levels.items =
-    sym (ap (λ (k : Machine). k.driver.todo) c.self.view_is) ∙ ap (λ (b : List Stmt). todo_of b inside.levels.items) (sym c.as_slice.ensures) ∙ sym c.close-body.ensures.todo in
-    let comes = front body levels.items some (c.close-body.ensures.settled some) in
-    let none = ap₂ (λ (b : List Stmt) (ls : List Level). stmt_next (spot_of b ls)) (c.as_slice.ensures ∙ sym c.as_slice-2.ensures) (sym c.as_slice-3.ensures.value) ∙ sym c.in-None.ensures in
-    let room : m.driver.count < m.steps =
-    omega (arith, c.if-self.false, ap (λ (k : Machine). k.steps) c.self.view_is, ap (λ (k : Machine). k.driver.count) c.self.view_is) in
-    absurd (both_ways (is_quiet m.driver.todo) (c.requires.settled room) (ap is_quiet todo ∙ comes.1 none))
+returns-in-None-clause-ok c = absurd (never c)
 
 pub returns-in_ok-ask-in-Some-clause-ask : goal.returns-in_ok-ask-in-Some-clause-ask
 returns-in_ok-ask-in-Some-clause-ask c =

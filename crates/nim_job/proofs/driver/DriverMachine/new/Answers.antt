@@ -2,7 +2,8 @@ use Rattle.std.proofs.Common.{◌∙◌, ◌++◌, ◌∷◌, [], List, ap, arit
 use Rattle.nim_job.specs.declared.level.Level.{Level}
 use Rattle.nim_job.specs.declared.level.LevelKind.TheVariants as kind
 use Rattle.nim_job.specs.Levels.{depth_in, is_path}
-use Rattle.nim_job.proofs.Paths.{first_level, start_path}
+use Rattle.nim_job.proofs.Fronts.{start_path}
+use Rattle.nim_job.proofs.Paths.{first_level}
 use Rattle.nim_job.proofs.Sound.{body_shallow}
 use Rattle.nim_job.proofs.driver.DriverMachine.new.Goals as goal
 
