@@ -1,4 +1,4 @@
-ghost use Rattle.std.specs.Prelude.{◌≡◌, map, IfOk};
+ghost use Rattle.std.specs.Prelude.{◌≡◌, map, slice_set, IfOk};
 ghost use Rattle.nim_base.specs.Functions.{quotient};
 ghost use Rattle.nim_job.specs.Arith.{arith_of, compared, remainder};
 ghost use Rattle.nim_job.specs.Driver.{atom_of, is_met, let_value};
@@ -39,6 +39,16 @@ pub(crate) fn value(scalars: &[i64], first: Atom, rest: Option<(Arith, Atom)>) -
     match rest {
         None => left,
         Some((sign, second)) => calculate(sign, left, atom(scalars, second)),
+    }
+}
+
+/// Sets a scalar, where it is there.
+pub(crate) fn set(scalars: &mut [i64], scalar: u8, number: i64)
+    ensures { scalars.new ≡ slice_set scalars.old scalar number }
+{
+    let at = usize::from(scalar);
+    if at < scalars.len() {
+        scalars[at] = number;
     }
 }
 

@@ -9,9 +9,9 @@ ghost use Rattle.nim_job.specs.Quiet.{is_quiet, quiet_step};
 ghost use Rattle.nim_job.specs.Saved.{driver_in, fits, gone_back};
 ghost use Rattle.nim_job.specs.Whole.{is_whole};
 
-use crate::arith::atoms;
+use crate::arith::{atoms, set};
 use crate::copies::copy_stmts;
-use crate::path::{close, next_stmt, pass, replace, set, skip_first};
+use crate::path::{close, next_stmt, pass, replace, skip_first};
 use crate::span::{object_of_part, spans};
 use crate::wholeness::scalar_count;
 use crate::{Ask, Asked, DriverState, Job, Level, LevelKind, Span, Stmt};

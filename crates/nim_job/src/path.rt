@@ -1,5 +1,5 @@
 ghost use Rattle.std.specs.Prelude.{◌≡◌, ◌+◌, ◌<◌, ◌≤◌, ◌∷◌, ◌++◌, [], true, false, length, map, slice_get};
-ghost use Rattle.std.specs.Prelude.{slice_set, Some, option_copied, if◌then◌else◌};
+ghost use Rattle.std.specs.Prelude.{Some, option_copied, if◌then◌else◌};
 ghost use Rattle.std.specs.Vec.{vec_capacity};
 ghost use Rattle.nim_job.specs.declared.item.Item.TheVariants.{Run};
 ghost use Rattle.nim_job.specs.declared.stmt.Stmt.{out-Stmt};
@@ -8,7 +8,7 @@ ghost use Rattle.nim_job.specs.Levels.{IsOpen, moved_on, spot_of, stmt_before, s
 ghost use Rattle.nim_job.specs.Quiet.{again, is_quiet, is_quiet_stmt, items_left, items_scalars, stmt_left};
 ghost use Rattle.nim_job.specs.Quiet.{stmt_scalars};
 
-use crate::arith::{atom, is_met, value};
+use crate::arith::{atom, is_met, set, value};
 use crate::{Level, LevelKind, Stmt};
 
 /// Takes the first item that is to do, where it asks nothing, and says whether there was such an item.
@@ -31,6 +31,60 @@ pub(crate) fn pass(whole: &[Stmt], levels: &mut Vec<Level>, scalars: &mut [i64])
                 true
             }
         },
+    }
+}
+
+/// Leaves each body that is done, but a loop's, and gives the innermost body. What is to do stays: behind the body of a
+/// `while` the `while` comes again.
+pub(crate) fn close<'a>(whole: &'a [Stmt], levels: &mut Vec<Level>) -> &'a [Stmt]
+    requires open { IsOpen whole.now (vec_capacity levels.old) levels.old.items }
+    ensures open { IsOpen whole.now (vec_capacity levels.new) levels.new.items }
+    ensures todo { todo_of whole.now levels.new.items ≡ todo_of whole.now levels.old.items }
+    ensures body { result.now ≡ (spot_of whole.now levels.new.items).body }
+    ensures settled { 0 < length levels.new.items → is_settled (spot_of whole.now levels.new.items) ≡ true }
+{
+    loop {
+        let body = body_at(whole, levels.as_slice());
+        if !leave(whole, levels, body) {
+            return body;
+        }
+    }
+}
+
+/// Goes behind the statement that comes next.
+pub(crate) fn skip_first(whole: &[Stmt], levels: &mut Vec<Level>, body: &[Stmt], stmt: &Stmt)
+    requires open { IsOpen whole.now (vec_capacity levels.old) levels.old.items }
+    requires body { body.now ≡ (spot_of whole.now levels.old.items).body }
+    requires next { stmt_next (spot_of whole.now levels.old.items) ≡ Some stmt.now }
+    ensures open { IsOpen whole.now (vec_capacity levels.new) levels.new.items }
+    ensures todo { Run stmt.now ∷ todo_of whole.now levels.new.items ≡ todo_of whole.now levels.old.items }
+{
+    if let Some(last) = levels.pop() {
+        skip(whole, levels, last, body, stmt);
+    }
+}
+
+/// The statement that comes next in the innermost body.
+pub(crate) fn next_stmt<'a>(whole: &[Stmt], levels: &[Level], body: &'a [Stmt]) -> Option<&'a Stmt>
+    requires { body.now ≡ (spot_of whole.now levels.now).body }
+    ensures { option_copied result ≡ stmt_next (spot_of whole.now levels.now) }
+{
+    match levels.last() {
+        Some(last) => stmt_at(body, last.next),
+        None => None,
+    }
+}
+
+/// Puts other levels in place of these.
+pub(crate) fn replace(whole: &[Stmt], levels: &mut Vec<Level>, others: &[Level])
+    requires open { IsOpen whole.now (vec_capacity levels.old) levels.old.items }
+    requires path { is_path whole.now others.now ≡ true }
+    ensures open { IsOpen whole.now (vec_capacity levels.new) levels.new.items }
+    ensures items { levels.new.items ≡ others.now }
+{
+    levels.clear();
+    for level in others {
+        levels.push_reserved(*level);
     }
 }
 
@@ -111,16 +165,6 @@ fn is_quiet(stmt: &Stmt) -> bool
     }
 }
 
-/// Sets a scalar, where it is there.
-pub(crate) fn set(scalars: &mut [i64], scalar: u8, number: i64)
-    ensures { scalars.new ≡ slice_set scalars.old scalar number }
-{
-    let at = usize::from(scalar);
-    if at < scalars.len() {
-        scalars[at] = number;
-    }
-}
-
 /// Goes into a body that the statement before the next one holds.
 fn enter(whole: &[Stmt], levels: &mut Vec<Level>, stmt: &Stmt, kind: LevelKind, turns: u64)
     requires open { IsOpen whole.now (vec_capacity levels.old) levels.old.items }
@@ -162,23 +206,6 @@ fn turn(whole: &[Stmt], levels: &mut Vec<Level>, last: Level)
             turns: last.turns - 1,
         };
         put(whole, levels, level);
-    }
-}
-
-/// Leaves each body that is done, but a loop's, and gives the innermost body. What is to do stays: behind the body of a
-/// `while` the `while` comes again.
-pub(crate) fn close<'a>(whole: &'a [Stmt], levels: &mut Vec<Level>) -> &'a [Stmt]
-    requires open { IsOpen whole.now (vec_capacity levels.old) levels.old.items }
-    ensures open { IsOpen whole.now (vec_capacity levels.new) levels.new.items }
-    ensures todo { todo_of whole.now levels.new.items ≡ todo_of whole.now levels.old.items }
-    ensures body { result.now ≡ (spot_of whole.now levels.new.items).body }
-    ensures settled { 0 < length levels.new.items → is_settled (spot_of whole.now levels.new.items) ≡ true }
-{
-    loop {
-        let body = body_at(whole, levels.as_slice());
-        if !leave(whole, levels, body) {
-            return body;
-        }
     }
 }
 
@@ -253,43 +280,6 @@ fn skip(whole: &[Stmt], levels: &mut Vec<Level>, last: Level, body: &[Stmt], stm
         turns: last.turns,
     };
     put(whole, levels, level);
-}
-
-/// Goes behind the statement that comes next.
-pub(crate) fn skip_first(whole: &[Stmt], levels: &mut Vec<Level>, body: &[Stmt], stmt: &Stmt)
-    requires open { IsOpen whole.now (vec_capacity levels.old) levels.old.items }
-    requires body { body.now ≡ (spot_of whole.now levels.old.items).body }
-    requires next { stmt_next (spot_of whole.now levels.old.items) ≡ Some stmt.now }
-    ensures open { IsOpen whole.now (vec_capacity levels.new) levels.new.items }
-    ensures todo { Run stmt.now ∷ todo_of whole.now levels.new.items ≡ todo_of whole.now levels.old.items }
-{
-    if let Some(last) = levels.pop() {
-        skip(whole, levels, last, body, stmt);
-    }
-}
-
-/// The statement that comes next in the innermost body.
-pub(crate) fn next_stmt<'a>(whole: &[Stmt], levels: &[Level], body: &'a [Stmt]) -> Option<&'a Stmt>
-    requires { body.now ≡ (spot_of whole.now levels.now).body }
-    ensures { option_copied result ≡ stmt_next (spot_of whole.now levels.now) }
-{
-    match levels.last() {
-        Some(last) => stmt_at(body, last.next),
-        None => None,
-    }
-}
-
-/// Puts other levels in place of these.
-pub(crate) fn replace(whole: &[Stmt], levels: &mut Vec<Level>, others: &[Level])
-    requires open { IsOpen whole.now (vec_capacity levels.old) levels.old.items }
-    requires path { is_path whole.now others.now ≡ true }
-    ensures open { IsOpen whole.now (vec_capacity levels.new) levels.new.items }
-    ensures items { levels.new.items ≡ others.now }
-{
-    levels.clear();
-    for level in others {
-        levels.push_reserved(*level);
-    }
 }
 
 /// The body that the innermost of some levels is in.
