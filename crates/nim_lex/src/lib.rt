@@ -8,6 +8,3 @@ mod token;
 
 pub use scan::tokens;
 pub use token::{LexFault, Token, TokenKind};
-
-#[cfg(test)]
-mod tests;

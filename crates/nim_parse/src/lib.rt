@@ -14,8 +14,6 @@ mod parts;
 mod rules;
 mod state;
 mod statements;
-#[cfg(test)]
-mod tests;
 mod tree;
 
 pub use data::parse_data;
