@@ -14,7 +14,7 @@ use sqlite_items::Items;
 use std::alloc::Global;
 
 /// The names that statements use, each by its number.
-#[derive(Debug, Drop)]
+#[derive(Drop)]
 pub struct Names {
     pub vars: Seq<Seq<u8>>,
     pub blocks: Seq<Seq<u8>>,
@@ -22,7 +22,7 @@ pub struct Names {
 }
 
 /// The statements of a body that isn't opened yet, the last one first, and for an `if` those behind its `else`.
-#[derive(Debug, Drop)]
+#[derive(Drop)]
 pub struct Held {
     first: Vec<Stmt>,
     second: Vec<Stmt>,

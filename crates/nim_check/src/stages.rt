@@ -8,7 +8,9 @@ ghost use Rattle.nim_job.specs.Tasks.{turns_of};
 ghost use Rattle.nim_job.specs.Whole.{are_vars, is_stage};
 ghost use Rattle.nim_check.specs.Made.{param_of, place_of, ref_of, stage_of, var_names, var_of};
 ghost use Rattle.nim_check.specs.Names.{func_of, is_in};
-ghost use Rattle.nim_check.specs.Refusals.{Answers, first_refusal};
+ghost use Rattle.nim_check.specs.Faults.{told};
+ghost use Rattle.nim_check.specs.Refusals.{first_refusal};
+ghost use Rattle.nim_lex.specs.Refusals.{Answers};
 ghost use Rattle.nim_check.specs.Rules.{is_known, is_own, refs_of, rule_of};
 ghost use Rattle.nim_check.specs.Sites.{at_stage, stage_sites};
 
@@ -16,8 +18,30 @@ use crate::CheckFault;
 use crate::names::{func_of, is_in, is_var, place_in, var_place};
 use nim_base::{Func, NoMemory, Param, Seq};
 use nim_job::{Place, Ref as JobRef, Stage as JobStage, Var as JobVar, has_distinct, turns};
+use nim_lex::Refusal;
 use nim_parse::{Atom, Block, Index, Ref, Stage, Var};
 use std::alloc::Global;
+
+/// There is no function with this name.
+const NO_FUNCTION: u8 = 45;
+
+/// A stage has other counts than its function.
+const OTHER_COUNTS: u8 = 46;
+
+/// There is no variable with this name.
+const NO_VARIABLE: u8 = 47;
+
+/// A reference has the task's own number in a stage without `each i`.
+const STRAY_OWN: u8 = 48;
+
+/// Two tasks of a stage write one object, or one writes it twice.
+const WRITES_TWICE: u8 = 49;
+
+/// A parameter is none of the block's arguments.
+const NO_ARGUMENT: u8 = 50;
+
+/// A block has too many tasks.
+const TOO_MANY_TASKS: u8 = 51;
 
 fn place_of(index: Index) -> Place
     ensures { result ≡ place_of index }
@@ -204,19 +228,19 @@ fn stage_rule(
     ensures few { result ≡ None → tasks + turns_of job_vars.now made.now ≤ 1024 }
 {
     if func_of(stage.function.as_slice()).is_none() {
-        Some(45)
+        Some(NO_FUNCTION)
     } else if !has_counts(stage) {
-        Some(46)
+        Some(OTHER_COUNTS)
     } else if !has_vars(vars, stage) {
-        Some(47)
+        Some(NO_VARIABLE)
     } else if has_stray_own(stage) {
-        Some(48)
+        Some(STRAY_OWN)
     } else if !has_distinct(job_vars, made) {
-        Some(49)
+        Some(WRITES_TWICE)
     } else if !are_known(block.arguments.as_slice(), stage.parameters.as_slice()) {
-        Some(50)
+        Some(NO_ARGUMENT)
     } else if tasks + u64::from(turns(job_vars, made)) > 1024 {
-        Some(51)
+        Some(TOO_MANY_TASKS)
     } else {
         None
     }
@@ -232,7 +256,7 @@ pub fn make_stages(
     requires vars { job_vars.now ≡ map var_of vars.now }
     requires whole { IsTrue (are_vars job_vars.now) }
     requires arguments { length block.now.arguments ≤ 8 }
-    ensures answers { Answers (first_refusal (stage_sites vars.now block.now [] block.now.stages)) result }
+    ensures answers { Answers told (first_refusal (stage_sites vars.now block.now [] block.now.stages)) result }
     ensures made { IfOk result (λ made. made ≡ map (stage_of (var_names vars.now) block.now.arguments) block.now.stages) }
     ensures whole { IfOk result (λ made. list_all (is_stage job_vars.now (length block.now.arguments)) made ≡ true) }
     ensures few { IfOk result (λ made. sum_by (turns_of job_vars.now) made ≤ 1024) }
@@ -243,10 +267,10 @@ pub fn make_stages(
     for (at, stage) in stages.iter().enumerate() {
         let next = stage_of(alloc, vars, block.arguments.as_slice(), stage)?;
         if let Some(rule) = stage_rule(vars, block, &stages[..at], stage, job_vars, &next, tasks) {
-            return Err(CheckFault::At {
+            return Err(CheckFault::At(Refusal {
                 line: stage.line,
                 rule,
-            });
+            }));
         }
         tasks += u64::from(turns(job_vars, &next));
         made.push(next)?;

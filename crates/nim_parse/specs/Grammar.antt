@@ -1,22 +1,22 @@
 -- The grammar of the lines of a driver. Each production stands beside its text.
 use Rattle.std.specs.Prelude.{ℕ, zero, suc, ◌==◌, ◌||◌, Bool, true, false, if◌then◌else◌, List, [], ◌∷◌, ◌++◌, codes, Option, None, Some}
-use Rattle.nim_parse.specs.declared.tree.Atom.{Atom}
-use Rattle.nim_parse.specs.declared.tree.Atom.TheVariants as atom_is
-use Rattle.nim_parse.specs.declared.tree.Condition.{Condition}
-use Rattle.nim_parse.specs.declared.tree.Condition.TheVariants.{NotZero, Holds}
-use Rattle.nim_parse.specs.declared.tree.Expression.{Expression}
-use Rattle.nim_parse.specs.declared.tree.Expression.TheVariants.{Alone, Two}
-use Rattle.nim_parse.specs.declared.tree.Index.{Index}
-use Rattle.nim_parse.specs.declared.tree.Index.TheVariants.{Part, Own, After, Before}
-use Rattle.nim_parse.specs.declared.tree.Init.{Init}
-use Rattle.nim_parse.specs.declared.tree.Init.TheVariants.{Fill, Iota, Load}
-use Rattle.nim_parse.specs.declared.tree.Operator.{Operator}
-use Rattle.nim_parse.specs.declared.tree.Operator.TheVariants.{Add, Subtract, Multiply, Divide, Remainder}
-use Rattle.nim_parse.specs.declared.tree.Ref.{Ref}
-use Rattle.nim_parse.specs.declared.tree.Relation.{Relation}
-use Rattle.nim_parse.specs.declared.tree.Relation.TheVariants.{Less, AtMost, Equal, NotEqual, Greater, AtLeast}
-use Rattle.nim_parse.specs.declared.tree.Statement.{Statement}
-use Rattle.nim_parse.specs.declared.tree.Statement.TheVariants.{Do, Let, Get, Loop, While, If, Else, End, Checkpoint, Output}
+use Rattle.nim_parse.specs.declared.sections.Atom.{Atom}
+use Rattle.nim_parse.specs.declared.sections.Atom.TheVariants as atom_is
+use Rattle.nim_parse.specs.declared.sections.Condition.{Condition}
+use Rattle.nim_parse.specs.declared.sections.Condition.TheVariants.{NotZero, Holds}
+use Rattle.nim_parse.specs.declared.sections.Expression.{Expression}
+use Rattle.nim_parse.specs.declared.sections.Expression.TheVariants.{Alone, Two}
+use Rattle.nim_parse.specs.declared.sections.Index.{Index}
+use Rattle.nim_parse.specs.declared.sections.Index.TheVariants.{Part, Own, After, Before}
+use Rattle.nim_parse.specs.declared.sections.Init.{Init}
+use Rattle.nim_parse.specs.declared.sections.Init.TheVariants.{Fill, Iota, Load}
+use Rattle.nim_parse.specs.declared.sections.Operator.{Operator}
+use Rattle.nim_parse.specs.declared.sections.Operator.TheVariants.{Add, Subtract, Multiply, Divide, Remainder}
+use Rattle.nim_parse.specs.declared.sections.Ref.{Ref}
+use Rattle.nim_parse.specs.declared.sections.Relation.{Relation}
+use Rattle.nim_parse.specs.declared.sections.Relation.TheVariants.{Less, AtMost, Equal, NotEqual, Greater, AtLeast}
+use Rattle.nim_parse.specs.declared.sections.Statement.{Statement}
+use Rattle.nim_parse.specs.declared.sections.Statement.TheVariants.{Do, Let, Get, Loop, While, If, Else, End, Checkpoint, Output}
 use Rattle.nim_parse.specs.declared.form.Form.{Form}
 use Rattle.nim_parse.specs.declared.form.Form.TheVariants as form
 use Rattle.nim_parse.specs.declared.form.Head.{Head}

@@ -10,9 +10,9 @@ use Rattle.nim_job.specs.declared.block.Stage.{Stage as job_stage}
 use Rattle.nim_job.specs.declared.job.Var.{Var as job_var}
 use Rattle.nim_job.specs.Tasks.{turns_of}
 use Rattle.nim_job.specs.Whole.{is_block, is_stage}
-use Rattle.nim_parse.specs.declared.tree.Block.{Block}
-use Rattle.nim_parse.specs.declared.tree.Stage.{Stage}
-use Rattle.nim_parse.specs.declared.tree.Var.{Var}
+use Rattle.nim_parse.specs.declared.sections.Block.{Block}
+use Rattle.nim_parse.specs.declared.sections.Stage.{Stage}
+use Rattle.nim_parse.specs.declared.sections.Var.{Var}
 use Rattle.nim_check.specs.Made.{block_names, block_of, stage_of, var_names}
 use Rattle.nim_check.specs.Names.{Word, has_twice, is_in, reserved}
 use Rattle.nim_check.specs.Refusals.{first_refusal}

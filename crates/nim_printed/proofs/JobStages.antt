@@ -18,10 +18,10 @@ use Rattle.nim_job.specs.declared.block.Stage.{Stage as job_stage}
 use Rattle.nim_job.specs.declared.job.Var.{Var as job_var}
 use Rattle.nim_job.specs.Tasks.{turns_of}
 use Rattle.nim_job.specs.Whole.{has_distinct, is_param, is_place, is_ref, is_stage}
-use Rattle.nim_parse.specs.declared.tree.Block.{Block}
-use Rattle.nim_parse.specs.declared.tree.Ref.{Ref}
-use Rattle.nim_parse.specs.declared.tree.Stage.{Stage}
-use Rattle.nim_parse.specs.declared.tree.Var.{Var}
+use Rattle.nim_parse.specs.declared.sections.Block.{Block}
+use Rattle.nim_parse.specs.declared.sections.Ref.{Ref}
+use Rattle.nim_parse.specs.declared.sections.Stage.{Stage}
+use Rattle.nim_parse.specs.declared.sections.Var.{Var}
 use Rattle.nim_check.specs.Made.{param_of, place_of, ref_of, stage_of, var_names, var_of}
 use Rattle.nim_check.specs.Names.{Word, func_of, has_twice, is_in}
 use Rattle.nim_check.specs.Refusals.{first_refusal}

@@ -3,9 +3,9 @@ use Rattle.std.proofs.Common.{◌≡◌, ℕ, zero, suc, ◌<◌, ◌≤◌, ◌
 use Rattle.std.specs.Prelude.{pos, negsuc, bytes_eq, codes, decimal}
 use Rattle.std.specs.List.{flat_map, list_all}
 use Rattle.std.proofs.lemmas.Bool.{and_parts, false≢true}
-use Rattle.nim_parse.specs.declared.tree.Atom.{Atom}
-use Rattle.nim_parse.specs.declared.tree.Atom.TheVariants.{Number, Name}
-use Rattle.nim_parse.specs.declared.tree.Ref.{Ref}
+use Rattle.nim_parse.specs.declared.sections.Atom.{Atom}
+use Rattle.nim_parse.specs.declared.sections.Atom.TheVariants.{Number, Name}
+use Rattle.nim_parse.specs.declared.sections.Ref.{Ref}
 use Rattle.nim_parse.specs.Grammar.{atom, atoms, each, ends, listed, more, more_from, names, parameters, reads, reads_from, values, values_after, values_from, writes, writes_after, writes_from}
 use Rattle.nim_parse.specs.Input.{Input, Parser, has_text, left, name, pure, refuse, sees}
 use Rattle.nim_check.specs.Names.{reserved}

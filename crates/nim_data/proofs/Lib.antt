@@ -1,0 +1,4 @@
+pub mod Files
+pub mod Kept
+pub mod Steps
+pub mod Turns
