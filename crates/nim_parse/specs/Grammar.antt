@@ -102,27 +102,21 @@ reads = λ i. reads_from (left i) [] i
 unfoldable pub ends : Input → Bool
 ends i = (left i == 0) || (sees (codes "with") i || sees (codes "each") i)
 
+-- more items, up to the end of the list. The number bounds the turns, and each takes a token.
+unfoldable pub some_from : {A : Type 0} → Parser A → ℕ → List A → Parser (List A)
+some_from item zero found = pure found
+some_from item (suc n) found = λ i. if ends i then Some (found, i) else (item >>= (λ x. some_from item n (found ++ x ∷ []))) i
+
+abbrev pub some_after : {A : Type 0} → Parser A → A → Parser (List A)
+some_after item first = λ i. some_from item (left i) (first ∷ []) i
+
 -- ref {ref}
-unfoldable pub writes_from : ℕ → List Ref → Parser (List Ref)
-writes_from zero found = pure found
-writes_from (suc n) found = λ i. if ends i then Some (found, i) else (reference >>= (λ x. writes_from n (found ++ x ∷ []))) i
-
-abbrev pub writes_after : Ref → Parser (List Ref)
-writes_after first = λ i. writes_from (left i) (first ∷ []) i
-
 unfoldable pub writes : Parser (List Ref)
-writes = reference >>= writes_after
+writes = reference >>= some_after reference
 
 -- atom {atom}
-unfoldable pub values_from : ℕ → List Atom → Parser (List Atom)
-values_from zero found = pure found
-values_from (suc n) found = λ i. if ends i then Some (found, i) else (atom >>= (λ x. values_from n (found ++ x ∷ []))) i
-
-abbrev pub values_after : Atom → Parser (List Atom)
-values_after first = λ i. values_from (left i) (first ∷ []) i
-
 unfoldable pub values : Parser (List Atom)
-values = λ i. if ends i then refuse i else (atom >>= values_after) i
+values = λ i. if ends i then refuse i else (atom >>= some_after atom) i
 
 -- ["with" atom {atom}]
 unfoldable pub parameters : Parser (List Atom)

@@ -6,6 +6,7 @@ mod driver;
 mod fault;
 mod form;
 mod lines;
+mod lists;
 mod nest;
 mod parts;
 mod rules;
