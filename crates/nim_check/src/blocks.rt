@@ -29,6 +29,27 @@ const NAMED_TWICE: u8 = 42;
 /// There are too many blocks, or too many arguments.
 const TOO_MANY: u8 = 44;
 
+/// The blocks of a job, or the first line that a rule refuses.
+pub fn make_blocks(
+    alloc: Global,
+    vars: &[Var],
+    job_vars: &[JobVar],
+    blocks: &[Block],
+) -> Result<Seq<JobBlock>, CheckFault>
+    requires vars { job_vars.now ≡ map var_of vars.now }
+    requires whole { IsTrue (are_vars job_vars.now) }
+    ensures answers { Answers told (first_refusal (block_sites vars.now [] blocks.now)) result }
+    ensures made { IfOk result (λ made. made ≡ map (block_of (var_names vars.now)) blocks.now) }
+    ensures whole { IfOk result (λ made. list_all (is_block job_vars.now) made ≡ true) }
+    ensures number { IfOk result (λ made. length made ≤ 32) }
+{
+    let mut made = Seq::new(alloc);
+    for (at, block) in blocks.iter().enumerate() {
+        made.push(make_block(alloc, vars, job_vars, &blocks[..at], block)?)?;
+    }
+    Ok(made)
+}
+
 /// Whether the block or one of its arguments has a reserved name.
 fn declares_reserved(block: &Block) -> bool
     ensures { result ≡ list_any (is_in reserved) (block.now.name ∷ block.now.arguments) }
@@ -87,25 +108,4 @@ fn make_block(
         args: block.arguments.len() as u8,
         stages,
     })
-}
-
-/// The blocks of a job, or the first line that a rule refuses.
-pub fn make_blocks(
-    alloc: Global,
-    vars: &[Var],
-    job_vars: &[JobVar],
-    blocks: &[Block],
-) -> Result<Seq<JobBlock>, CheckFault>
-    requires vars { job_vars.now ≡ map var_of vars.now }
-    requires whole { IsTrue (are_vars job_vars.now) }
-    ensures answers { Answers told (first_refusal (block_sites vars.now [] blocks.now)) result }
-    ensures made { IfOk result (λ made. made ≡ map (block_of (var_names vars.now)) blocks.now) }
-    ensures whole { IfOk result (λ made. list_all (is_block job_vars.now) made ≡ true) }
-    ensures number { IfOk result (λ made. length made ≤ 32) }
-{
-    let mut made = Seq::new(alloc);
-    for (at, block) in blocks.iter().enumerate() {
-        made.push(make_block(alloc, vars, job_vars, &blocks[..at], block)?)?;
-    }
-    Ok(made)
 }

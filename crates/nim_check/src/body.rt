@@ -28,6 +28,27 @@ pub struct Held {
     second: Vec<Stmt>,
 }
 
+/// The statements that lines stand for.
+pub fn make_body(alloc: Global, names: &Names, lines: &[Line]) -> Result<Items<Stmt>, NoMemory>
+    requires { AreFew names.now }
+    ensures { IfOk result (λ made. made ≡ body_of names.now lines.now) }
+{
+    let mut bodies = Vec::new(alloc);
+    bodies.push(Held {
+        first: Vec::new(alloc),
+        second: Vec::new(alloc),
+    })?;
+    let mut left = lines.len();
+    while left > 0 {
+        left -= 1;
+        take_line(alloc, names, &lines[left].statement, &mut bodies)?;
+    }
+    match bodies.pop() {
+        Some(body) => Ok(in_order(body.first)),
+        None => Ok(Items::new(alloc)),
+    }
+}
+
 fn atom_of(names: &Names, atom: &Atom) -> JobAtom
     requires { AreFew names.now }
     ensures { result ≡ spec.atom_of names.now atom.now }
@@ -274,26 +295,5 @@ fn take_line(
             };
             put(bodies, made)
         }
-    }
-}
-
-/// The statements that lines stand for.
-pub fn make_body(alloc: Global, names: &Names, lines: &[Line]) -> Result<Items<Stmt>, NoMemory>
-    requires { AreFew names.now }
-    ensures { IfOk result (λ made. made ≡ body_of names.now lines.now) }
-{
-    let mut bodies = Vec::new(alloc);
-    bodies.push(Held {
-        first: Vec::new(alloc),
-        second: Vec::new(alloc),
-    })?;
-    let mut left = lines.len();
-    while left > 0 {
-        left -= 1;
-        take_line(alloc, names, &lines[left].statement, &mut bodies)?;
-    }
-    match bodies.pop() {
-        Some(body) => Ok(in_order(body.first)),
-        None => Ok(Items::new(alloc)),
     }
 }

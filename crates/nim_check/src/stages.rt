@@ -43,6 +43,59 @@ const NO_ARGUMENT: u8 = 50;
 /// A block has too many tasks.
 const TOO_MANY_TASKS: u8 = 51;
 
+/// The stages of a job's block, or the first line that a rule refuses.
+pub fn make_stages(
+    alloc: Global,
+    vars: &[Var],
+    job_vars: &[JobVar],
+    block: &Block,
+) -> Result<Seq<JobStage>, CheckFault>
+    requires vars { job_vars.now ≡ map var_of vars.now }
+    requires whole { IsTrue (are_vars job_vars.now) }
+    requires arguments { length block.now.arguments ≤ 8 }
+    ensures answers { Answers told (first_refusal (stage_sites vars.now block.now [] block.now.stages)) result }
+    ensures made { IfOk result (λ made. made ≡ map (stage_of (var_names vars.now) block.now.arguments) block.now.stages) }
+    ensures whole { IfOk result (λ made. list_all (is_stage job_vars.now (length block.now.arguments)) made ≡ true) }
+    ensures few { IfOk result (λ made. sum_by (turns_of job_vars.now) made ≤ 1024) }
+{
+    let stages = block.stages.as_slice();
+    let mut made = Seq::new(alloc);
+    let mut tasks = 0;
+    for (at, stage) in stages.iter().enumerate() {
+        let next = stage_of(alloc, vars, block.arguments.as_slice(), stage)?;
+        if let Some(rule) = stage_rule(vars, block, &stages[..at], stage, job_vars, &next, tasks) {
+            return Err(CheckFault::At(Refusal {
+                line: stage.line,
+                rule,
+            }));
+        }
+        tasks += u64::from(turns(job_vars, &next));
+        made.push(next)?;
+    }
+    Ok(made)
+}
+
+/// Whether each of these is a number, or one of the words.
+pub fn are_known(words: &[Seq<u8>], atoms: &[Atom]) -> bool
+    ensures { result ≡ list_all (is_known words.now) atoms.now }
+{
+    for atom in atoms {
+        if !is_known(words, atom) {
+            return false;
+        }
+    }
+    true
+}
+
+pub fn is_known(words: &[Seq<u8>], atom: &Atom) -> bool
+    ensures { result ≡ is_known words.now atom.now }
+{
+    match atom {
+        Atom::Number(_) => true,
+        Atom::Name(word) => is_in(words, word.as_slice()),
+    }
+}
+
 fn place_of(index: Index) -> Place
     ensures { result ≡ place_of index }
 {
@@ -168,27 +221,6 @@ fn has_own(stage: &Stage) -> bool
     name_own(stage.reads.as_slice()) || name_own(stage.writes.as_slice())
 }
 
-pub fn is_known(words: &[Seq<u8>], atom: &Atom) -> bool
-    ensures { result ≡ is_known words.now atom.now }
-{
-    match atom {
-        Atom::Number(_) => true,
-        Atom::Name(word) => is_in(words, word.as_slice()),
-    }
-}
-
-/// Whether each of these is a number, or one of the words.
-pub fn are_known(words: &[Seq<u8>], atoms: &[Atom]) -> bool
-    ensures { result ≡ list_all (is_known words.now) atoms.now }
-{
-    for atom in atoms {
-        if !is_known(words, atom) {
-            return false;
-        }
-    }
-    true
-}
-
 /// Whether a reference of a stage without `each i` has the task's own number.
 fn has_stray_own(stage: &Stage) -> bool
     ensures { result ≡ (not stage.now.each && list_any (λ ref. is_own ref.index) (refs_of stage.now)) }
@@ -244,36 +276,4 @@ fn stage_rule(
     } else {
         None
     }
-}
-
-/// The stages of a job's block, or the first line that a rule refuses.
-pub fn make_stages(
-    alloc: Global,
-    vars: &[Var],
-    job_vars: &[JobVar],
-    block: &Block,
-) -> Result<Seq<JobStage>, CheckFault>
-    requires vars { job_vars.now ≡ map var_of vars.now }
-    requires whole { IsTrue (are_vars job_vars.now) }
-    requires arguments { length block.now.arguments ≤ 8 }
-    ensures answers { Answers told (first_refusal (stage_sites vars.now block.now [] block.now.stages)) result }
-    ensures made { IfOk result (λ made. made ≡ map (stage_of (var_names vars.now) block.now.arguments) block.now.stages) }
-    ensures whole { IfOk result (λ made. list_all (is_stage job_vars.now (length block.now.arguments)) made ≡ true) }
-    ensures few { IfOk result (λ made. sum_by (turns_of job_vars.now) made ≤ 1024) }
-{
-    let stages = block.stages.as_slice();
-    let mut made = Seq::new(alloc);
-    let mut tasks = 0;
-    for (at, stage) in stages.iter().enumerate() {
-        let next = stage_of(alloc, vars, block.arguments.as_slice(), stage)?;
-        if let Some(rule) = stage_rule(vars, block, &stages[..at], stage, job_vars, &next, tasks) {
-            return Err(CheckFault::At(Refusal {
-                line: stage.line,
-                rule,
-            }));
-        }
-        tasks += u64::from(turns(job_vars, &next));
-        made.push(next)?;
-    }
-    Ok(made)
 }

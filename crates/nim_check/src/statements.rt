@@ -37,6 +37,26 @@ const NOT_SET: u8 = 53;
 /// Too many loops, whiles and ifs are open.
 const TOO_DEEP: u8 = 54;
 
+/// The scalars that the statements set, in order, or the first line that a rule refuses.
+pub fn scalars_of(alloc: Global, sections: &Sections) -> Result<Seq<Seq<u8>>, CheckFault>
+    ensures answers { Answers told (first_refusal (statement_sites sections.now no_past sections.now.statements)) result }
+    ensures scalars { IfOk result (λ scalars. scalars ≡ (past_of no_past sections.now.statements).scalars) }
+    ensures few { IfOk result (λ scalars. length scalars ≤ 64) }
+{
+    let mut past = Past::new(alloc);
+    for (at, line) in sections.statements.as_slice().iter().enumerate() {
+        if let Some(rule) = statement_rule(sections, &past, line) {
+            return Err(CheckFault::At(Refusal {
+                line: line.line,
+                rule,
+            }));
+        }
+        past.take(&line.statement)?;
+    }
+    let Past { scalars, .. } = past;
+    Ok(scalars)
+}
+
 fn sets_reserved(statement: &Statement) -> bool
     ensures { result ≡ list_any (is_in reserved) (set_by statement.now) }
 {
@@ -158,24 +178,4 @@ fn statement_rule(sections: &Sections, past: &Past, line: &Line) -> Option<u8>
     } else {
         None
     }
-}
-
-/// The scalars that the statements set, in order, or the first line that a rule refuses.
-pub fn scalars_of(alloc: Global, sections: &Sections) -> Result<Seq<Seq<u8>>, CheckFault>
-    ensures answers { Answers told (first_refusal (statement_sites sections.now no_past sections.now.statements)) result }
-    ensures scalars { IfOk result (λ scalars. scalars ≡ (past_of no_past sections.now.statements).scalars) }
-    ensures few { IfOk result (λ scalars. length scalars ≤ 64) }
-{
-    let mut past = Past::new(alloc);
-    for (at, line) in sections.statements.as_slice().iter().enumerate() {
-        if let Some(rule) = statement_rule(sections, &past, line) {
-            return Err(CheckFault::At(Refusal {
-                line: line.line,
-                rule,
-            }));
-        }
-        past.take(&line.statement)?;
-    }
-    let Past { scalars, .. } = past;
-    Ok(scalars)
 }

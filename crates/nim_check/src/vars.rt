@@ -31,6 +31,29 @@ const BAD_SIZE: u8 = 43;
 /// There is no room for one more variable.
 const TOO_MANY: u8 = 44;
 
+/// The variables of a job, or the first line that a rule refuses.
+pub fn make_vars(alloc: Global, vars: &[Var]) -> Result<Seq<JobVar>, CheckFault>
+    ensures answers { Answers told (first_refusal (var_sites [] vars.now)) result }
+    ensures made { IfOk result (λ made. made ≡ map var_of vars.now) }
+    ensures whole { IfOk result (λ made. are_vars made ≡ true) }
+{
+    let mut made = Seq::new(alloc);
+    let mut objects = 0;
+    let mut cells = 0;
+    for (at, var) in vars.iter().enumerate() {
+        if let Some(rule) = var_rule(&vars[..at], var, objects, cells) {
+            return Err(CheckFault::At(Refusal {
+                line: var.line,
+                rule,
+            }));
+        }
+        objects += var.parts;
+        cells += var.parts * (var.width * var.rows);
+        made.push(var_of(alloc, var)?)?;
+    }
+    Ok(made)
+}
+
 /// Whether a variable has the sizes that one may have.
 fn is_small(var: &Var) -> bool
     ensures { result ≡ is_var (var_of var.now) }
@@ -107,27 +130,4 @@ fn var_of(alloc: Global, var: &Var) -> Result<JobVar, NoMemory>
         },
         init: init_of(alloc, var.init),
     })
-}
-
-/// The variables of a job, or the first line that a rule refuses.
-pub fn make_vars(alloc: Global, vars: &[Var]) -> Result<Seq<JobVar>, CheckFault>
-    ensures answers { Answers told (first_refusal (var_sites [] vars.now)) result }
-    ensures made { IfOk result (λ made. made ≡ map var_of vars.now) }
-    ensures whole { IfOk result (λ made. are_vars made ≡ true) }
-{
-    let mut made = Seq::new(alloc);
-    let mut objects = 0;
-    let mut cells = 0;
-    for (at, var) in vars.iter().enumerate() {
-        if let Some(rule) = var_rule(&vars[..at], var, objects, cells) {
-            return Err(CheckFault::At(Refusal {
-                line: var.line,
-                rule,
-            }));
-        }
-        objects += var.parts;
-        cells += var.parts * (var.width * var.rows);
-        made.push(var_of(alloc, var)?)?;
-    }
-    Ok(made)
 }

@@ -1,4 +1,3 @@
 pub mod Files
 pub mod Kept
 pub mod Steps
-pub mod Turns

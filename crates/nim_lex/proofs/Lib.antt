@@ -5,3 +5,4 @@ pub mod LineTexts
 pub mod Refusals
 pub mod SourceSteps
 pub mod SourceTexts
+pub mod Turns

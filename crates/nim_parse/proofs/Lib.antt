@@ -1,3 +1,2 @@
 pub mod LineSteps
 pub mod Nests
-pub mod Turns

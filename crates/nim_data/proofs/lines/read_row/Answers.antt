@@ -1,7 +1,7 @@
 use Rattle.std.proofs.Common.{rules, arith}
 use Rattle.std.proofs.lemmas.Grind.{common_steps}
 use Rattle.nim_data.specs.Lines.{cells_from}
-use Rattle.nim_data.proofs.Turns.{one_more, no_more}
+use Rattle.nim_lex.proofs.Turns.{one_more, no_more}
 use Rattle.nim_data.proofs.lines.read_row.Goals as goal
 
 pub returns-in_err-cell-clause-cells : goal.returns-in_err-cell-clause-cells
