@@ -9,7 +9,7 @@ work=$(mktemp -d)
 trap 'rm -rf "$work"' EXIT
 mkdir -p "$work/crates/bench_text/src"
 cp HANDLES "$work"
-for crate in nim_base nim_io nim_lex nim_parse nim_job nim_check; do
+for crate in nim_base nim_io nim_lex nim_data nim_parse nim_job nim_check; do
     cp -r "crates/$crate" "$work/crates"
     rm -rf "$work/crates/$crate/must-fail"
     grep "^$crate:" crates.txt >>"$work/crates.txt"
@@ -43,7 +43,7 @@ fn tree<R: Print + Alloc<A = Global>>(rt: &R, bytes: &[u8]) -> io::Result<()> {
     let Ok(tree) = parse(rt.alloc(), bytes, &found) else {
         return failed();
     };
-    let lines = tree.statements.len();
+    let lines = tree.sections().statements.len();
     println!(rt; "{lines}")
 }
 

@@ -8,7 +8,8 @@ use Rattle.std.proofs.lemmas.Bool.{and_from}
 use Rattle.std.proofs.lemmas.Bool.Decides.{nat_tests}
 use Rattle.std.proofs.lemmas.List.{length-map}
 use Rattle.std.proofs.lemmas.Option.{slice_get-map}
-use Rattle.nim_lex.specs.Source.{Refusal}
+use Rattle.nim_lex.specs.declared.fault.Refusal.{Refusal}
+use Rattle.nim_lex.proofs.Refusals.{later, passes}
 use Rattle.nim_job.specs.declared.block.Block.{Block as job_block}
 use Rattle.nim_job.specs.declared.job.Job.{Job}
 use Rattle.nim_job.specs.declared.stmt.Stmt.{Stmt}
@@ -16,12 +17,12 @@ use Rattle.nim_job.specs.declared.stmt.Stmt.TheVariants as stmt
 use Rattle.nim_job.specs.Whole.{are_vars, is_atom, is_between, is_block, is_call, is_checked, scan_all, scan_of, scalars_of}
 use Rattle.nim_parse.specs.declared.nest.Open.{Open}
 use Rattle.nim_parse.specs.declared.nest.Open.TheVariants as opening
-use Rattle.nim_parse.specs.declared.tree.Atom.{Atom}
-use Rattle.nim_parse.specs.declared.tree.Block.{Block}
-use Rattle.nim_parse.specs.declared.tree.Line.{Line}
-use Rattle.nim_parse.specs.declared.tree.Statement.{Statement}
-use Rattle.nim_parse.specs.declared.tree.Statement.TheVariants.{Do, Let, Get, Loop, While, If, Else, End, Checkpoint, Output}
-use Rattle.nim_parse.specs.declared.tree.Tree.{Tree}
+use Rattle.nim_parse.specs.declared.sections.Atom.{Atom}
+use Rattle.nim_parse.specs.declared.sections.Block.{Block}
+use Rattle.nim_parse.specs.declared.sections.Line.{Line}
+use Rattle.nim_parse.specs.declared.sections.Statement.{Statement}
+use Rattle.nim_parse.specs.declared.sections.Statement.TheVariants.{Do, Let, Get, Loop, While, If, Else, End, Checkpoint, Output}
+use Rattle.nim_parse.specs.declared.sections.Sections.{Sections}
 use Rattle.nim_parse.specs.Nesting.{may_stand, nested, open_after}
 use Rattle.nim_check.specs.declared.body.Names.{Names}
 use Rattle.nim_check.specs.declared.past.Past.{Past}
@@ -37,34 +38,26 @@ use Rattle.nim_check.proofs.Scanned.{Fits, checkpoint_scan, do_scan, else_fits, 
 -- ---- one line
 
 -- a job that has a tree's variables and blocks
-pub record Ties (tree : Tree) (job : Job) : Type 0 where
+pub record Ties (tree : Sections) (job : Job) : Type 0 where
   pub vars : length job.vars ≡ length (var_names tree.vars)
   pub blocks : job.blocks ≡ map (block_of (var_names tree.vars)) tree.blocks
 
-abbrev pub names_for : Tree → List Word → Names
+abbrev pub names_for : Sections → List Word → Names
 names_for tree all = record { vars = var_names tree.vars; blocks = block_names tree.blocks; scalars = all }
 
 -- what the rules leave of a statement
-record Sound (tree : Tree) (past : Past) (s : Statement) : Type 0 where
+record Sound (tree : Sections) (past : Past) (s : Statement) : Type 0 where
   pub few : nat_lt 64 (length (past_with past s).scalars) ≡ false
   pub named : has_variable (var_names tree.vars) s ≡ true
   pub called : has_block tree.blocks s ≡ true
   pub set : list_all (is_known past.scalars) (read_by s) ≡ true
   pub deep : (opens s && nat_le 16 past.depth) ≡ false
 
-passes : (b : Bool) (x : ℕ) (o : Option ℕ) → cond b (Some x) o ≡ None → b ≡ false
-passes true x o h = cc
-passes false x o h = refl
-
-later : (b : Bool) (x : ℕ) (o : Option ℕ) → cond b (Some x) o ≡ None → o ≡ None
-later true x o h = cc
-later false x o h = h
-
 not_false : (b : Bool) → not b ≡ false → b ≡ true
 not_false true h = refl
 not_false false h = cc
 
-sound : (tree : Tree) (past : Past) (line : Line) → rule_of (at_statement tree past line) ≡ None → Sound tree past line.statement
+sound : (tree : Sections) (past : Past) (line : Line) → rule_of (at_statement tree past line) ≡ None → Sound tree past line.statement
 unfolding rule_of
 sound tree past line h =
     let site = at_statement tree past line in
@@ -88,7 +81,7 @@ args_of : (vars : List Word) (n : ℕ) (o : Option Block) → option_map_or (λ 
 args_of vars n None = refl
 args_of vars n (Some b) = refl
 
-called_there : (tree : Tree) (job : Job) (names : Names) (block : Word) (atoms : List Atom) → Ties tree job → has_block tree.blocks (Do block atoms) ≡ true
+called_there : (tree : Sections) (job : Job) (names : Names) (block : Word) (atoms : List Atom) → Ties tree job → has_block tree.blocks (Do block atoms) ≡ true
     → is_call job (place_in (block_names tree.blocks) block) (length (map (atom_of names) atoms)) ≡ true
 called_there tree job names block atoms ties is =
     let p = place_in (block_names tree.blocks) block in
@@ -98,7 +91,7 @@ called_there tree job names block atoms ties is =
     ∙ args_of (var_names tree.vars) (length atoms) (slice_get tree.blocks p)
     ∙ is
 
-var_there : (tree : Tree) (job : Job) (w : Word) → Ties tree job → nat_lt (place_in (var_names tree.vars) w) (length (var_names tree.vars)) ≡ true
+var_there : (tree : Sections) (job : Job) (w : Word) → Ties tree job → nat_lt (place_in (var_names tree.vars) w) (length (var_names tree.vars)) ≡ true
     → nat_lt (place_in (var_names tree.vars) w) (length job.vars) ≡ true
 var_there tree job w ties is = ap (λ n. nat_lt (place_in (var_names tree.vars) w) n) ties.vars ∙ is
 
@@ -118,7 +111,7 @@ step_fits names (o ∷ os) End bs may f = end_fits o os bs f
 step_fits names os Checkpoint bs may f = put_fits stmt.Checkpoint os bs f
 step_fits names os (Output variable) bs may f = put_fits (stmt.Output (place_in names.vars variable)) os bs f
 
-step_scan : (tree : Tree) (job : Job) (all : List Word) (past : Past) (os : List Open) (s : Statement) (bs : List Body) → Ties tree job → Sound tree past s
+step_scan : (tree : Sections) (job : Job) (all : List Word) (past : Past) (os : List Open) (s : Statement) (bs : List Body) → Ties tree job → Sound tree past s
     → Begins (past_with past s).scalars all → past.depth ≡ length os → may_stand os s ≡ true → Fits (nested s os) bs
     → scan_bodies job (with_line (names_for tree all) s bs) (length past.scalars) ≡ scan_bodies job bs (length (past_with past s).scalars)
 step_scan tree job all past os (Do block arguments) bs ties sound begins deep may f =
@@ -185,7 +178,7 @@ stands : (b : Bool) (rest : Option (List Open)) → cond b rest None ≡ Some []
 stands true rest h = (refl, h)
 stands false rest h = cc
 
-all_lines : (tree : Tree) (job : Job) (all : List Word) (lines : List Line) (past : Past) (os : List Open) → Ties tree job → all ≡ (past_of past lines).scalars
+all_lines : (tree : Sections) (job : Job) (all : List Word) (lines : List Line) (past : Past) (os : List Open) → Ties tree job → all ≡ (past_of past lines).scalars
     → past.depth ≡ length os → first_refusal (statement_sites tree past lines) ≡ None → open_after os lines ≡ Some []
     → Fits os (bodies_of (names_for tree all) lines) × (scan_bodies job (bodies_of (names_for tree all) lines) (length past.scalars) ≡ Some (length all))
 all_lines tree job all [] past os ties ends deep none nests =
@@ -212,7 +205,7 @@ last job (b ∷ []) k f h =
 last job (b ∷ c ∷ bs) k f h = absurd f
 
 -- the statements of a tree that no rule refuses
-pub body_whole : (tree : Tree) (job : Job) → Ties tree job → job.body ≡ body_of (names_for tree (past_of no_past tree.statements).scalars) tree.statements
+pub body_whole : (tree : Sections) (job : Job) → Ties tree job → job.body ≡ body_of (names_for tree (past_of no_past tree.statements).scalars) tree.statements
     → open_after [] tree.statements ≡ Some [] → first_refusal (statement_sites tree no_past tree.statements) ≡ None → is_some (scalars_of job) ≡ true
 body_whole tree job ties body nests none =
     let all = (past_of no_past tree.statements).scalars in

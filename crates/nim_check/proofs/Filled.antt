@@ -1,31 +1,26 @@
 -- Parts that no rule refuses fill the loaded variables.
-use Rattle.std.proofs.Common.{◌≡◌, ℕ, zero, suc, ◌+◌, true, List, [], ◌∷◌, ◌++◌, length, take, drop, refl, ap, ◌∙◌, None, Some, Option, arith, eq-eqb}
+use Rattle.std.proofs.Common.{◌≡◌, ℕ, zero, suc, ◌+◌, true, List, [], ◌∷◌, ◌++◌, length, take, drop, refl, ap, ◌∙◌, None, Some, arith, eq-eqb}
 use Rattle.std.specs.Prelude.{◌==◌, if◌then◌else◌}
-use Rattle.std.specs.Option.{option_or}
 use Rattle.std.specs.List.{list_all}
 use Rattle.std.proofs.lemmas.Bool.{and_from}
 use Rattle.std.proofs.lemmas.Bool.Decides.{nat_tests}
 use Rattle.nim_base.specs.declared.number.Shape.{Shape}
-use Rattle.nim_lex.specs.Source.{Refusal}
+use Rattle.nim_lex.proofs.Refusals.{no_rule}
 use Rattle.nim_job.specs.declared.job.Init.{Init}
 use Rattle.nim_job.specs.declared.job.Init.TheVariants.{Fill, Iota, Loaded}
 use Rattle.nim_job.specs.declared.job.Job.{Job}
 use Rattle.nim_job.specs.declared.job.Var.{Var}
 use Rattle.nim_job.specs.Whole.{is_checked, is_filled, is_loaded, is_whole}
-use Rattle.nim_parse.specs.declared.part.Part.{Part}
-use Rattle.nim_parse.specs.Driver.{refused}
-use Rattle.nim_check.specs.Loading.{Wanted, filled, first_fault, given_by, holding, is_load, left_by, part_rule, values_of, want, wanted, wanted_of, wants}
+use Rattle.nim_data.specs.declared.wanted.Wanted.{Wanted}
+use Rattle.nim_data.specs.Parts.{Part}
+use Rattle.nim_data.specs.Wanted.{first_fault, header_of, header_rule, values_of}
+use Rattle.nim_check.specs.Loading.{filled, given_by, holding, is_load, left_by, want, wanted, wanted_of, wants}
 use Rattle.nim_check.proofs.SameFrame.{same_checked}
 
 -- a part that no rule refuses
-fits_part : (w : Wanted) (part : Part) → part_rule w part ≡ None → is_loaded w.shape part.value ≡ true
-unfolding part_rule
+fits_part : (w : Wanted) (part : Part) → header_rule w (header_of part) ≡ None → is_loaded w.shape part.value ≡ true
+unfolding header_rule
 fits_part w part sound = grind (arith, nat_tests)
-
--- a part and those behind it
-unrefused : (line : ℕ) (rule : Option ℕ) (later : Option Refusal) → option_or (refused line rule) later ≡ None → (rule ≡ None) × (later ≡ None)
-unrefused line None later sound = (refl, sound)
-unrefused line (Some rule) later sound = absurd (let some : Some (record { line = line; rule = rule }) ≡ None = sound in cc)
 
 -- what parts of a variable leave: its values are whole, and the parts behind them are those that other variables want
 record Takes (end : ℕ) (shape : Shape) (n : ℕ) (ws : List Wanted) (parts : List Part) : Type 0 where
@@ -37,7 +32,7 @@ takes : (end : ℕ) (v : Var) (i n : ℕ) (ws : List Wanted) (parts : List Part)
 takes end v i zero ws parts sound = record { count = refl; whole = refl; later = sound }
 takes end v i (suc n) ws [] sound = absurd (let some : Some (record { line = end; rule = 73 }) ≡ None = sound in cc)
 takes end v i (suc n) ws (part ∷ parts) sound =
-    let now = unrefused part.line (part_rule (want v i) part) (first_fault end (wants v (i + 1) n ++ ws) parts) sound in
+    let now = no_rule part.line (header_rule (want v i) (header_of part)) (first_fault end (wants v (i + 1) n ++ ws) parts) sound in
     let rest = takes end v (i + 1) n ws parts now.1 in
     record {
       count = ap (λ (k : ℕ). suc k) rest.count;

@@ -4,8 +4,8 @@ use Rattle.std.specs.Prelude.{Option, Some, is_some, nat_lt, bytes_eq, not, ◌|
 use Rattle.std.specs.List.{list_any}
 use Rattle.std.proofs.lemmas.Bool.Decides.{nat_tests}
 use Rattle.std.proofs.lemmas.List.{at_drop_more, length-map}
-use Rattle.nim_parse.specs.declared.tree.Block.{Block}
-use Rattle.nim_parse.specs.declared.tree.Var.{Var}
+use Rattle.nim_parse.specs.declared.sections.Block.{Block}
+use Rattle.nim_parse.specs.declared.sections.Var.{Var}
 use Rattle.nim_check.specs.Made.{block_names, var_names}
 use Rattle.nim_check.specs.Names.{Word, has_twice, is_in, place_in}
 

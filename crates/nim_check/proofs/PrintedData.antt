@@ -1,9 +1,9 @@
 -- What `output` prints of parts is read as these parts.
-use Rattle.std.proofs.Common.{◌≡◌, ℕ, ◌+◌, ◌<◌, ◌≤◌, ℤ, Bool, true, false, List, [], ◌∷◌, ◌++◌, length, refl, sym, ◌∙◌, ap, arith, None, Some}
-use Rattle.std.specs.Prelude.{map, not, nat_lt}
+use Rattle.std.proofs.Common.{◌≡◌, ℕ, ◌+◌, ◌<◌, ◌≤◌, ℤ, true, false, List, [], ◌∷◌, ◌++◌, length, refl, sym, ◌∙◌, ap, arith, None, Some}
+use Rattle.std.specs.Prelude.{map, nat_lt}
 use Rattle.std.specs.List.{All, flat_map, join_with_byte, list_all}
 use Rattle.std.specs.Fmt.{decimal, signed_decimal}
-use Rattle.std.proofs.lemmas.Bool.{and_parts, and_from}
+use Rattle.std.proofs.lemmas.Bool.{and_from}
 use Rattle.std.proofs.lemmas.Bool.Decides.{nat_tests}
 use Rattle.std.proofs.lemmas.List.{append-nil, append_assoc, length-append}
 use Rattle.std.proofs.lemmas.List.Elements.{All-head, All-tail}
@@ -12,34 +12,18 @@ use Rattle.nim_base.proofs.ReadsBack.{IsSmall}
 use Rattle.nim_base.proofs.Texts.{joined, later}
 use Rattle.nim_base.specs.Text.{row_text, text_of}
 use Rattle.nim_base.specs.Value.{Grid}
-use Rattle.nim_lex.specs.Bytes.{is_newline}
 use Rattle.nim_lex.specs.Source.{cut, line_at, numbered}
-use Rattle.nim_parse.specs.declared.part.Heading.{Heading}
-use Rattle.nim_parse.specs.declared.part.Loaded.{Loaded}
-use Rattle.nim_parse.specs.declared.part.Part.{Part}
-use Rattle.nim_parse.specs.DataLines.{heading, is_bare, is_short_name, row}
-use Rattle.nim_parse.specs.DataRules.{begun, data_after, data_from, data_rule, lacks, parts_of}
-use Rattle.nim_parse.proofs.DataSteps.{refused_later}
+use Rattle.nim_lex.proofs.SourceSteps.{cut_line, is_inner}
+use Rattle.nim_data.specs.declared.lines.Heading.{Heading}
+use Rattle.nim_data.specs.Lines.{heading, is_bare, is_short_name, row}
+use Rattle.nim_data.specs.Parts.{Loaded, Part, begun, data_after, data_from, data_rule, lacks, parts_of}
+use Rattle.nim_data.proofs.Steps.{refused_later}
 use Rattle.nim_job.proofs.Lists.{list_all_weaker}
 use Rattle.nim_check.specs.Printing.{parts_text}
 use Rattle.nim_check.proofs.PrintedLines.{header_line, heading_read, name_plain, row_read, row_some}
 use Rattle.nim_check.proofs.PrintedWords.{IsPlain, cell_plain, decimal_plain, is_plain, not_bare}
 
 -- ---- lines
-
-abbrev is_inner : ℕ → Bool
-is_inner b = not (is_newline b)
-
-not_newline : (b : ℕ) → is_inner b ≡ true → is_newline b ≡ false
-not_newline b inner = elim (is_newline b) as (λ t. not t ≡ true → t ≡ false) [ true ↦ λ e. cc | false ↦ λ e. refl ] inner
-
-cut_line : (line rest : List ℕ) → list_all is_inner line ≡ true → cut (line ++ 10 ∷ rest) ≡ line ∷ cut rest
-cut_line [] rest inner = refl
-cut_line (b ∷ line) rest inner =
-    let parts = and_parts (is_inner b) (list_all is_inner line) inner in
-    let no : is_newline b ≡ false = not_newline b parts.0 in
-    let later_lines : cut (line ++ 10 ∷ rest) ≡ line ∷ cut rest = cut_line line rest parts.1 in
-    rw (no, later_lines) refl
 
 plain_inner : (b : ℕ) → is_plain b ≡ true → is_inner b ≡ true
 plain_inner b plain = grind (arith, nat_tests)

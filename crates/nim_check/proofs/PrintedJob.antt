@@ -17,12 +17,12 @@ use Rattle.nim_job.specs.declared.job.Job.{Job}
 use Rattle.nim_job.specs.declared.job.Var.{Var}
 use Rattle.nim_job.specs.Whole.{is_filled, is_loaded, is_var, is_whole}
 use Rattle.nim_job.proofs.Whole.{vars_sizes, whole_inits, whole_vars}
-use Rattle.nim_parse.specs.declared.part.Loaded.{Loaded}
-use Rattle.nim_parse.specs.declared.part.Part.{Part}
-use Rattle.nim_parse.specs.DataLines.{is_short_name}
-use Rattle.nim_parse.specs.DataRules.{data_from, data_of, lacks, none_loaded, parts_of}
-use Rattle.nim_parse.specs.Driver.{line_count}
-use Rattle.nim_check.specs.Loading.{Wanted, data_refusal, filled, first_fault, loaded, part_rule, refusal_by, values_of, want, wanted, wanted_of, wants}
+use Rattle.nim_data.specs.Lines.{is_short_name}
+use Rattle.nim_data.specs.Parts.{Loaded, Part, data_from, data_of, lacks, none_loaded, parts_of}
+use Rattle.nim_lex.specs.Source.{line_count}
+use Rattle.nim_data.specs.declared.wanted.Wanted.{Wanted}
+use Rattle.nim_data.specs.Wanted.{first_fault, header_of, header_rule, refusal_by, values_of}
+use Rattle.nim_check.specs.Loading.{data_refusal, filled, loaded, want, wanted, wanted_of, wants}
 use Rattle.nim_check.specs.Names.{Word}
 use Rattle.nim_check.specs.Printing.{HasValues, IsCell, IsValue, has_name, parts_text, printed}
 use Rattle.nim_check.proofs.PrintedData.{IsPrintable, Made, Reads, values_read}
@@ -58,8 +58,8 @@ made_values name k (grid ∷ values) (part ∷ parts) made = ap₂ (λ (g : Grid
 made_values name k [] (part ∷ parts) made = absurd made
 made_values name k (grid ∷ values) [] made = absurd made
 
-no_rule : (v : Var) (k : ℕ) (part : Part) (grid : Grid) → part.name ≡ v.name → part.part ≡ k → part.value ≡ grid → is_loaded v.shape grid ≡ true → part_rule (want v k) part ≡ None
-unfolding part_rule
+no_rule : (v : Var) (k : ℕ) (part : Part) (grid : Grid) → part.name ≡ v.name → part.part ≡ k → part.value ≡ grid → is_loaded v.shape grid ≡ true → header_rule (want v k) (header_of part) ≡ None
+unfolding header_rule
 no_rule v k part grid name number value fits =
     let parts = and_parts (grid.width == v.shape.width) (nat_le (length grid.rows) v.shape.rows) fits in
     let names : bytes_eq v.name part.name ≡ true = (bytes_eq-Decides v.name part.name).1 (sym name) in
@@ -73,7 +73,7 @@ sound_parts : (end : ℕ) (v : Var) (k : ℕ) (values : List Grid) (parts : List
 sound_parts end v k [] [] ws more fit made = refl
 sound_parts end v k (grid ∷ values) (part ∷ parts) ws more fit made =
     let fits = and_parts (is_loaded v.shape grid) (list_all (is_loaded v.shape) values) fit in
-    let none : part_rule (want v k) part ≡ None = no_rule v k part grid made.0 made.1 made.2 fits.0 in
+    let none : header_rule (want v k) (header_of part) ≡ None = no_rule v k part grid made.0 made.1 made.2 fits.0 in
     rw none (sound_parts end v (k + 1) values parts ws more fits.1 made.3)
 sound_parts end v k [] (part ∷ parts) ws more fit made = absurd made
 sound_parts end v k (grid ∷ values) [] ws more fit made = absurd made

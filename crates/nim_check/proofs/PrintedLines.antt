@@ -11,7 +11,7 @@ use Rattle.std.proofs.lemmas.List.Elements.{All-head, All-tail}
 use Rattle.nim_base.proofs.ReadsBack.{IsSmall}
 use Rattle.nim_base.proofs.Texts.{joined, later}
 use Rattle.nim_lex.specs.Bytes.{is_name_byte}
-use Rattle.nim_parse.specs.DataLines.{cell, cells_from, heading, is_bare, is_short_name, row}
+use Rattle.nim_data.specs.Lines.{cell, cells_from, heading, is_bare, is_short_name, row}
 use Rattle.nim_job.proofs.Lists.{list_all_weaker}
 use Rattle.nim_check.proofs.PrintedWords.{Ends, IsPlain, behind_first, behind_next, bounded_read, cell_plain, cell_read, decimal_plain, is_plain, not_bare, word_first, word_next}
 

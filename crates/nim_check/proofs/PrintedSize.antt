@@ -24,7 +24,7 @@ use Rattle.nim_job.specs.Objects.{objects_of}
 use Rattle.nim_job.specs.Whole.{are_vars, cells_in, is_filled, is_loaded, is_var, is_whole}
 use Rattle.nim_job.proofs.Whole.{vars_sizes, whole_inits, whole_vars}
 use Rattle.nim_lex.specs.Bytes.{is_name_byte}
-use Rattle.nim_parse.specs.DataLines.{is_short_name}
+use Rattle.nim_data.specs.Lines.{is_short_name}
 use Rattle.nim_check.specs.Names.{Word}
 use Rattle.nim_check.specs.Printing.{HasValues, has_name, parts_text, printed, printed_by}
 use Rattle.nim_check.proofs.PrintedData.{IsPrintable}

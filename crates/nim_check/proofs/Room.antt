@@ -7,7 +7,7 @@ use Rattle.std.proofs.lemmas.List.Sums.{sum_by_push}
 use Rattle.nim_job.specs.declared.job.Var.{Var as job_var}
 use Rattle.nim_job.specs.Objects.{objects_of}
 use Rattle.nim_job.specs.Whole.{cells_in}
-use Rattle.nim_parse.specs.declared.tree.Var.{Var}
+use Rattle.nim_parse.specs.declared.sections.Var.{Var}
 use Rattle.nim_check.specs.Made.{var_of}
 use Rattle.nim_check.specs.Rules.{are_few}
 

@@ -7,13 +7,13 @@ use Rattle.std.proofs.lemmas.List.{length-map}
 use Rattle.nim_base.specs.declared.task.Func.TheVariants as func
 use Rattle.nim_base.specs.Apply.{has_counts}
 use Rattle.nim_job.specs.Whole.{has_distinct, is_param, is_place, is_ref, is_stage}
-use Rattle.nim_parse.specs.declared.tree.Atom.{Atom}
-use Rattle.nim_parse.specs.declared.tree.Atom.TheVariants.{Number, Name}
-use Rattle.nim_parse.specs.declared.tree.Index.{Index}
-use Rattle.nim_parse.specs.declared.tree.Index.TheVariants.{Part, Own, After, Before}
-use Rattle.nim_parse.specs.declared.tree.Ref.{Ref}
-use Rattle.nim_parse.specs.declared.tree.Stage.{Stage}
-use Rattle.nim_parse.specs.declared.tree.Var.{Var}
+use Rattle.nim_parse.specs.declared.sections.Atom.{Atom}
+use Rattle.nim_parse.specs.declared.sections.Atom.TheVariants.{Number, Name}
+use Rattle.nim_parse.specs.declared.sections.Index.{Index}
+use Rattle.nim_parse.specs.declared.sections.Index.TheVariants.{Part, Own, After, Before}
+use Rattle.nim_parse.specs.declared.sections.Ref.{Ref}
+use Rattle.nim_parse.specs.declared.sections.Stage.{Stage}
+use Rattle.nim_parse.specs.declared.sections.Var.{Var}
 use Rattle.nim_check.specs.Made.{param_of, place_of, ref_of, stage_of, var_names, var_of}
 use Rattle.nim_check.specs.Names.{Word, func_of, is_in, place_in}
 use Rattle.nim_check.specs.Rules.{is_known, is_own, refs_of}

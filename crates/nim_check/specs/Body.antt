@@ -10,19 +10,19 @@ use Rattle.nim_job.specs.declared.stmt.Cmp.TheVariants as cmp
 use Rattle.nim_job.specs.declared.stmt.Cond.{Cond}
 use Rattle.nim_job.specs.declared.stmt.Stmt.{Stmt}
 use Rattle.nim_job.specs.declared.stmt.Stmt.TheVariants as stmt
-use Rattle.nim_parse.specs.declared.tree.Atom.{Atom}
-use Rattle.nim_parse.specs.declared.tree.Atom.TheVariants.{Number, Name}
-use Rattle.nim_parse.specs.declared.tree.Condition.{Condition}
-use Rattle.nim_parse.specs.declared.tree.Condition.TheVariants.{NotZero, Holds}
-use Rattle.nim_parse.specs.declared.tree.Expression.{Expression}
-use Rattle.nim_parse.specs.declared.tree.Expression.TheVariants.{Alone, Two}
-use Rattle.nim_parse.specs.declared.tree.Line.{Line}
-use Rattle.nim_parse.specs.declared.tree.Operator.{Operator}
-use Rattle.nim_parse.specs.declared.tree.Operator.TheVariants.{Add, Subtract, Multiply, Divide, Remainder}
-use Rattle.nim_parse.specs.declared.tree.Relation.{Relation}
-use Rattle.nim_parse.specs.declared.tree.Relation.TheVariants.{Less, AtMost, Equal, NotEqual, Greater, AtLeast}
-use Rattle.nim_parse.specs.declared.tree.Statement.{Statement}
-use Rattle.nim_parse.specs.declared.tree.Statement.TheVariants.{Do, Let, Get, Loop, While, If, Else, End, Checkpoint, Output}
+use Rattle.nim_parse.specs.declared.sections.Atom.{Atom}
+use Rattle.nim_parse.specs.declared.sections.Atom.TheVariants.{Number, Name}
+use Rattle.nim_parse.specs.declared.sections.Condition.{Condition}
+use Rattle.nim_parse.specs.declared.sections.Condition.TheVariants.{NotZero, Holds}
+use Rattle.nim_parse.specs.declared.sections.Expression.{Expression}
+use Rattle.nim_parse.specs.declared.sections.Expression.TheVariants.{Alone, Two}
+use Rattle.nim_parse.specs.declared.sections.Line.{Line}
+use Rattle.nim_parse.specs.declared.sections.Operator.{Operator}
+use Rattle.nim_parse.specs.declared.sections.Operator.TheVariants.{Add, Subtract, Multiply, Divide, Remainder}
+use Rattle.nim_parse.specs.declared.sections.Relation.{Relation}
+use Rattle.nim_parse.specs.declared.sections.Relation.TheVariants.{Less, AtMost, Equal, NotEqual, Greater, AtLeast}
+use Rattle.nim_parse.specs.declared.sections.Statement.{Statement}
+use Rattle.nim_parse.specs.declared.sections.Statement.TheVariants.{Do, Let, Get, Loop, While, If, Else, End, Checkpoint, Output}
 use Rattle.nim_check.specs.declared.body.Held.{Held}
 use Rattle.nim_check.specs.declared.body.Names.{Names}
 use Rattle.nim_check.specs.Names.{place_in}

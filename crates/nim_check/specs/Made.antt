@@ -14,18 +14,18 @@ use Rattle.nim_job.specs.declared.job.Init.{Init as job_init}
 use Rattle.nim_job.specs.declared.job.Init.TheVariants as init
 use Rattle.nim_job.specs.declared.job.Job.{Job}
 use Rattle.nim_job.specs.declared.job.Var.{Var as job_var}
-use Rattle.nim_parse.specs.declared.tree.Atom.{Atom}
-use Rattle.nim_parse.specs.declared.tree.Atom.TheVariants.{Number, Name}
-use Rattle.nim_parse.specs.declared.tree.Block.{Block}
-use Rattle.nim_parse.specs.declared.tree.Index.{Index}
-use Rattle.nim_parse.specs.declared.tree.Index.TheVariants.{Part, Own, After, Before}
-use Rattle.nim_parse.specs.declared.tree.Init.{Init}
-use Rattle.nim_parse.specs.declared.tree.Init.TheVariants.{Fill, Iota, Load}
-use Rattle.nim_parse.specs.declared.tree.Ref.{Ref}
-use Rattle.nim_parse.specs.declared.tree.Stage.{Stage}
-use Rattle.nim_parse.specs.declared.tree.Steps.{Steps}
-use Rattle.nim_parse.specs.declared.tree.Tree.{Tree}
-use Rattle.nim_parse.specs.declared.tree.Var.{Var}
+use Rattle.nim_parse.specs.declared.sections.Atom.{Atom}
+use Rattle.nim_parse.specs.declared.sections.Atom.TheVariants.{Number, Name}
+use Rattle.nim_parse.specs.declared.sections.Block.{Block}
+use Rattle.nim_parse.specs.declared.sections.Index.{Index}
+use Rattle.nim_parse.specs.declared.sections.Index.TheVariants.{Part, Own, After, Before}
+use Rattle.nim_parse.specs.declared.sections.Init.{Init}
+use Rattle.nim_parse.specs.declared.sections.Init.TheVariants.{Fill, Iota, Load}
+use Rattle.nim_parse.specs.declared.sections.Ref.{Ref}
+use Rattle.nim_parse.specs.declared.sections.Stage.{Stage}
+use Rattle.nim_parse.specs.declared.sections.Steps.{Steps}
+use Rattle.nim_parse.specs.declared.sections.Sections.{Sections}
+use Rattle.nim_parse.specs.declared.sections.Var.{Var}
 use Rattle.nim_check.specs.declared.body.Names.{Names}
 use Rattle.nim_check.specs.Body.{body_of}
 use Rattle.nim_check.specs.Names.{Word, func_of, place_in}
@@ -79,14 +79,14 @@ stage_of vars args stage = record {
 abbrev pub block_of : List Word → Block → job_block
 block_of vars block = record { name = text_of block.name; args = length block.arguments; stages = map (stage_of vars block.arguments) block.stages }
 
-abbrev pub names_of : Tree → Names
+abbrev pub names_of : Sections → Names
 names_of tree = record { vars = var_names tree.vars; blocks = block_names tree.blocks; scalars = scalars_of tree.statements }
 
 abbrev pub steps_of : Option Steps → ℕ
 steps_of steps = option_map_or (λ s. s.most) steps most_steps
 
 -- the job of a tree, but for loaded data
-abbrev pub job_of : Tree → Job
+abbrev pub job_of : Sections → Job
 job_of tree = record {
   steps = steps_of tree.steps;
   vars = map var_of tree.vars;

@@ -6,7 +6,7 @@ use Rattle.nim_base.specs.Value.{Grid, IsGrid}
 use Rattle.nim_job.specs.declared.job.Init.{Init}
 use Rattle.nim_job.specs.declared.job.Init.TheVariants.{Loaded}
 use Rattle.nim_job.specs.declared.job.Var.{Var}
-use Rattle.nim_parse.specs.DataLines.{is_short_name}
+use Rattle.nim_data.specs.Lines.{is_short_name}
 use Rattle.nim_check.specs.Names.{Word}
 
 -- parts one after another, the first with this number

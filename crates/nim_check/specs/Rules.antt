@@ -7,21 +7,21 @@ use Rattle.nim_base.specs.declared.task.Func.TheVariants as func
 use Rattle.nim_base.specs.Apply.{has_counts}
 use Rattle.nim_job.specs.declared.job.Var.{Var as job_var}
 use Rattle.nim_job.specs.Objects.{objects_of}
-use Rattle.nim_job.specs.Tasks.{turns_of}
+use Rattle.nim_job.specs.Tasks.{task_count}
 use Rattle.nim_job.specs.Whole.{cells_in, has_distinct, is_between, is_var}
-use Rattle.nim_parse.specs.declared.tree.Atom.{Atom}
-use Rattle.nim_parse.specs.declared.tree.Atom.TheVariants.{Number, Name}
-use Rattle.nim_parse.specs.declared.tree.Block.{Block}
-use Rattle.nim_parse.specs.declared.tree.Condition.{Condition}
-use Rattle.nim_parse.specs.declared.tree.Condition.TheVariants.{NotZero, Holds}
-use Rattle.nim_parse.specs.declared.tree.Expression.{Expression}
-use Rattle.nim_parse.specs.declared.tree.Expression.TheVariants.{Alone, Two}
-use Rattle.nim_parse.specs.declared.tree.Index.{Index}
-use Rattle.nim_parse.specs.declared.tree.Index.TheVariants.{Part}
-use Rattle.nim_parse.specs.declared.tree.Ref.{Ref}
-use Rattle.nim_parse.specs.declared.tree.Stage.{Stage}
-use Rattle.nim_parse.specs.declared.tree.Statement.{Statement}
-use Rattle.nim_parse.specs.declared.tree.Statement.TheVariants.{Do, Let, Get, Loop, While, If, Output}
+use Rattle.nim_parse.specs.declared.sections.Atom.{Atom}
+use Rattle.nim_parse.specs.declared.sections.Atom.TheVariants.{Number, Name}
+use Rattle.nim_parse.specs.declared.sections.Block.{Block}
+use Rattle.nim_parse.specs.declared.sections.Condition.{Condition}
+use Rattle.nim_parse.specs.declared.sections.Condition.TheVariants.{NotZero, Holds}
+use Rattle.nim_parse.specs.declared.sections.Expression.{Expression}
+use Rattle.nim_parse.specs.declared.sections.Expression.TheVariants.{Alone, Two}
+use Rattle.nim_parse.specs.declared.sections.Index.{Index}
+use Rattle.nim_parse.specs.declared.sections.Index.TheVariants.{Part}
+use Rattle.nim_parse.specs.declared.sections.Ref.{Ref}
+use Rattle.nim_parse.specs.declared.sections.Stage.{Stage}
+use Rattle.nim_parse.specs.declared.sections.Statement.{Statement}
+use Rattle.nim_parse.specs.declared.sections.Statement.TheVariants.{Do, Let, Get, Loop, While, If, Output}
 use Rattle.nim_check.specs.Made.{block_names, stage_of, var_names, var_of}
 use Rattle.nim_check.specs.Names.{Word, func_of, has_twice, is_in, place_in, reserved}
 use Rattle.nim_check.specs.Sites.{Site, at_steps, at_var, at_block, at_stage, at_statement, past_with}
@@ -158,7 +158,7 @@ rule_50 _ = false
 -- with this line more than 1,024 tasks in the block
 abbrev pub rule_51 : Site → Bool
 rule_51 (at_stage vars block before stage) =
-    nat_lt 1024 (sum_by (turns_of (map var_of vars)) (map (stage_of (var_names vars) block.arguments) (before ++ stage ∷ [])))
+    nat_lt 1024 (sum_by (task_count (map var_of vars)) (map (stage_of (var_names vars) block.arguments) (before ++ stage ∷ [])))
 rule_51 _ = false
 
 -- `do` of an unknown block or with another number of arguments

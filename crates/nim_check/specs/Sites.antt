@@ -1,13 +1,13 @@
 -- The lines of a tree in their order, each with what stands before it.
 use Rattle.std.specs.Prelude.{ℕ, ◌+◌, ◌-◌, if◌then◌else◌, List, [], ◌∷◌, ◌++◌, Option, None, Some}
-use Rattle.nim_parse.specs.declared.tree.Block.{Block}
-use Rattle.nim_parse.specs.declared.tree.Line.{Line}
-use Rattle.nim_parse.specs.declared.tree.Stage.{Stage}
-use Rattle.nim_parse.specs.declared.tree.Statement.{Statement}
-use Rattle.nim_parse.specs.declared.tree.Statement.TheVariants.{Let, Get, Loop, While, If, End}
-use Rattle.nim_parse.specs.declared.tree.Steps.{Steps}
-use Rattle.nim_parse.specs.declared.tree.Tree.{Tree}
-use Rattle.nim_parse.specs.declared.tree.Var.{Var}
+use Rattle.nim_parse.specs.declared.sections.Block.{Block}
+use Rattle.nim_parse.specs.declared.sections.Line.{Line}
+use Rattle.nim_parse.specs.declared.sections.Stage.{Stage}
+use Rattle.nim_parse.specs.declared.sections.Statement.{Statement}
+use Rattle.nim_parse.specs.declared.sections.Statement.TheVariants.{Let, Get, Loop, While, If, End}
+use Rattle.nim_parse.specs.declared.sections.Steps.{Steps}
+use Rattle.nim_parse.specs.declared.sections.Sections.{Sections}
+use Rattle.nim_parse.specs.declared.sections.Var.{Var}
 use Rattle.nim_check.specs.declared.past.Past.{Past}
 use Rattle.nim_check.specs.Names.{Word, is_in}
 
@@ -43,7 +43,7 @@ pub data Site : Type 0 where
   at_var : List Var → Var → Site
   at_block : List Var → List Block → Block → Site
   at_stage : List Var → Block → List Stage → Stage → Site
-  at_statement : Tree → Past → Line → Site
+  at_statement : Sections → Past → Line → Site
 
 -- the number of the line
 abbrev pub line_of : Site → ℕ
@@ -73,10 +73,10 @@ abbrev pub block_sites : List Var → List Block → List Block → List Site
 block_sites vars before [] = []
 block_sites vars before (block ∷ blocks) = block_site vars before block ++ block_sites vars (before ++ block ∷ []) blocks
 
-abbrev pub statement_sites : Tree → Past → List Line → List Site
+abbrev pub statement_sites : Sections → Past → List Line → List Site
 statement_sites tree past [] = []
 statement_sites tree past (line ∷ lines) = at_statement tree past line ∷ statement_sites tree (past_with past line.statement) lines
 
 -- all lines of a tree
-abbrev pub sites_of : Tree → List Site
+abbrev pub sites_of : Sections → List Site
 sites_of tree = steps_sites tree.steps ++ (var_sites [] tree.vars ++ (block_sites tree.vars [] tree.blocks ++ statement_sites tree no_past tree.statements))

@@ -5,7 +5,9 @@ ghost use Rattle.std.specs.List.{list_all, list_any};
 ghost use Rattle.nim_job.specs.Whole.{are_vars, is_block};
 ghost use Rattle.nim_check.specs.Made.{block_of, var_names, var_of};
 ghost use Rattle.nim_check.specs.Names.{has_twice, is_in, reserved};
-ghost use Rattle.nim_check.specs.Refusals.{Answers, first_refusal};
+ghost use Rattle.nim_check.specs.Faults.{told};
+ghost use Rattle.nim_check.specs.Refusals.{first_refusal};
+ghost use Rattle.nim_lex.specs.Refusals.{Answers};
 ghost use Rattle.nim_check.specs.Rules.{rule_of};
 ghost use Rattle.nim_check.specs.Sites.{at_block, block_site, block_sites};
 
@@ -14,8 +16,39 @@ use crate::names::{has_reserved, has_twice, is_block, is_reserved, is_var, name}
 use crate::stages::make_stages;
 use nim_base::Seq;
 use nim_job::{Block as JobBlock, Var as JobVar};
+use nim_lex::Refusal;
 use nim_parse::{Block, Var};
 use std::alloc::Global;
+
+/// A block or one of its arguments has a reserved name.
+const RESERVED: u8 = 41;
+
+/// There is a variable or a block with this name, or two arguments have one name.
+const NAMED_TWICE: u8 = 42;
+
+/// There are too many blocks, or too many arguments.
+const TOO_MANY: u8 = 44;
+
+/// The blocks of a job, or the first line that a rule refuses.
+pub fn make_blocks(
+    alloc: Global,
+    vars: &[Var],
+    job_vars: &[JobVar],
+    blocks: &[Block],
+) -> Result<Seq<JobBlock>, CheckFault>
+    requires vars { job_vars.now ≡ map var_of vars.now }
+    requires whole { IsTrue (are_vars job_vars.now) }
+    ensures answers { Answers told (first_refusal (block_sites vars.now [] blocks.now)) result }
+    ensures made { IfOk result (λ made. made ≡ map (block_of (var_names vars.now)) blocks.now) }
+    ensures whole { IfOk result (λ made. list_all (is_block job_vars.now) made ≡ true) }
+    ensures number { IfOk result (λ made. length made ≤ 32) }
+{
+    let mut made = Seq::new(alloc);
+    for (at, block) in blocks.iter().enumerate() {
+        made.push(make_block(alloc, vars, job_vars, &blocks[..at], block)?)?;
+    }
+    Ok(made)
+}
 
 /// Whether the block or one of its arguments has a reserved name.
 fn declares_reserved(block: &Block) -> bool
@@ -33,14 +66,14 @@ fn block_rule(vars: &[Var], before: &[Block], block: &Block, twice: bool) -> Opt
     ensures arguments { result ≡ None → length block.now.arguments ≤ 8 }
 {
     if declares_reserved(block) {
-        Some(41)
+        Some(RESERVED)
     } else if is_var(vars, block.name.as_slice())
         || is_block(before, block.name.as_slice())
         || twice
     {
-        Some(42)
+        Some(NAMED_TWICE)
     } else if before.len() + 1 > 32 || block.arguments.len() > 8 {
-        Some(44)
+        Some(TOO_MANY)
     } else {
         None
     }
@@ -56,17 +89,17 @@ fn make_block(
 ) -> Result<JobBlock, CheckFault>
     requires vars { job_vars.now ≡ map var_of vars.now }
     requires whole { IsTrue (are_vars job_vars.now) }
-    ensures answers { Answers (first_refusal (block_site vars.now before.now block.now)) result }
+    ensures answers { Answers told (first_refusal (block_site vars.now before.now block.now)) result }
     ensures made { IfOk result (λ made. made ≡ block_of (var_names vars.now) block.now) }
     ensures whole { IfOk result (λ made. is_block job_vars.now made ≡ true) }
     ensures number { IfOk result (λ made. length before.now < 32) }
 {
     let twice = has_twice(alloc, block.arguments.as_slice())?;
     if let Some(rule) = block_rule(vars, before, block, twice) {
-        return Err(CheckFault::At {
+        return Err(CheckFault::At(Refusal {
             line: block.line,
             rule,
-        });
+        }));
     }
     let stages = make_stages(alloc, vars, job_vars, block)?;
     let name = name(alloc, block.name.as_slice())?;
@@ -75,25 +108,4 @@ fn make_block(
         args: block.arguments.len() as u8,
         stages,
     })
-}
-
-/// The blocks of a job, or the first line that a rule refuses.
-pub fn make_blocks(
-    alloc: Global,
-    vars: &[Var],
-    job_vars: &[JobVar],
-    blocks: &[Block],
-) -> Result<Seq<JobBlock>, CheckFault>
-    requires vars { job_vars.now ≡ map var_of vars.now }
-    requires whole { IsTrue (are_vars job_vars.now) }
-    ensures answers { Answers (first_refusal (block_sites vars.now [] blocks.now)) result }
-    ensures made { IfOk result (λ made. made ≡ map (block_of (var_names vars.now)) blocks.now) }
-    ensures whole { IfOk result (λ made. list_all (is_block job_vars.now) made ≡ true) }
-    ensures number { IfOk result (λ made. length made ≤ 32) }
-{
-    let mut made = Seq::new(alloc);
-    for (at, block) in blocks.iter().enumerate() {
-        made.push(make_block(alloc, vars, job_vars, &blocks[..at], block)?)?;
-    }
-    Ok(made)
 }

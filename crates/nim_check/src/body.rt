@@ -14,7 +14,7 @@ use sqlite_items::Items;
 use std::alloc::Global;
 
 /// The names that statements use, each by its number.
-#[derive(Debug, Drop)]
+#[derive(Drop)]
 pub struct Names {
     pub vars: Seq<Seq<u8>>,
     pub blocks: Seq<Seq<u8>>,
@@ -22,10 +22,31 @@ pub struct Names {
 }
 
 /// The statements of a body that isn't opened yet, the last one first, and for an `if` those behind its `else`.
-#[derive(Debug, Drop)]
+#[derive(Drop)]
 pub struct Held {
     first: Vec<Stmt>,
     second: Vec<Stmt>,
+}
+
+/// The statements that lines stand for.
+pub fn make_body(alloc: Global, names: &Names, lines: &[Line]) -> Result<Items<Stmt>, NoMemory>
+    requires { AreFew names.now }
+    ensures { IfOk result (λ made. made ≡ body_of names.now lines.now) }
+{
+    let mut bodies = Vec::new(alloc);
+    bodies.push(Held {
+        first: Vec::new(alloc),
+        second: Vec::new(alloc),
+    })?;
+    let mut left = lines.len();
+    while left > 0 {
+        left -= 1;
+        take_line(alloc, names, &lines[left].statement, &mut bodies)?;
+    }
+    match bodies.pop() {
+        Some(body) => Ok(in_order(body.first)),
+        None => Ok(Items::new(alloc)),
+    }
 }
 
 fn atom_of(names: &Names, atom: &Atom) -> JobAtom
@@ -274,26 +295,5 @@ fn take_line(
             };
             put(bodies, made)
         }
-    }
-}
-
-/// The statements that lines stand for.
-pub fn make_body(alloc: Global, names: &Names, lines: &[Line]) -> Result<Items<Stmt>, NoMemory>
-    requires { AreFew names.now }
-    ensures { IfOk result (λ made. made ≡ body_of names.now lines.now) }
-{
-    let mut bodies = Vec::new(alloc);
-    bodies.push(Held {
-        first: Vec::new(alloc),
-        second: Vec::new(alloc),
-    })?;
-    let mut left = lines.len();
-    while left > 0 {
-        left -= 1;
-        take_line(alloc, names, &lines[left].statement, &mut bodies)?;
-    }
-    match bodies.pop() {
-        Some(body) => Ok(in_order(body.first)),
-        None => Ok(Items::new(alloc)),
     }
 }

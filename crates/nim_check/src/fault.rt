@@ -2,13 +2,13 @@ ghost use Rattle.std.specs.Prelude.{◌≡◌};
 ghost use Rattle.nim_check.specs.Faults.{within};
 
 use nim_base::NoMemory;
+use nim_lex::Refusal;
 
 /// Why there is no job.
 #[derive(Clone, Copy, Debug, PartialEq, Eq)]
 pub enum CheckFault {
-    /// A rule refuses this line. The rules are listed in `specs/Rules.antt`, those of data files in
-    /// `specs/Loading.antt`.
-    At { line: u32, rule: u8 },
+    /// The rules are listed in `specs/Rules.antt`, those of data files in `specs/Loading.antt`.
+    At(Refusal),
     NoMemory,
 }
 
@@ -33,8 +33,8 @@ pub enum Input {
 /// Why a driver and its data give no job.
 #[derive(Clone, Copy, Debug, PartialEq, Eq)]
 pub enum ReadFault {
-    /// A rule refuses this line of this file.
-    At { input: Input, line: u32, rule: u8 },
+    /// A rule refuses a line of this file.
+    At { input: Input, refusal: Refusal },
     NoMemory,
 }
 
@@ -44,7 +44,7 @@ impl CheckFault {
         ensures { result ≡ within input self }
     {
         match self {
-            CheckFault::At { line, rule } => ReadFault::At { input, line, rule },
+            CheckFault::At(refusal) => ReadFault::At { input, refusal },
             CheckFault::NoMemory => ReadFault::NoMemory,
         }
     }

@@ -11,8 +11,6 @@ mod names;
 mod past;
 mod stages;
 mod statements;
-#[cfg(test)]
-mod tests;
 mod vars;
 
 pub use driver::{check, read_driver, read_job};

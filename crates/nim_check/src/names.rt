@@ -1,9 +1,9 @@
 //! Names: which have a meaning of their own, and where one stands among others.
 
-ghost use Rattle.std.specs.Prelude.{◌≡◌, ◌∷◌, ◌≤◌, [], bytes_eq, encode_utf8, if◌then◌else◌, length, nat_lt, IfOk};
+ghost use Rattle.std.specs.Prelude.{◌≡◌, ◌∷◌, ◌≤◌, [], bytes_eq, encode_utf8, if◌then◌else◌, length, map, nat_lt, IfOk};
 ghost use Rattle.std.specs.List.{list_any};
 ghost use Rattle.nim_check.specs.Made.{block_names, text_of, var_names};
-ghost use Rattle.nim_check.specs.Names.{func_of, has_twice, is_in, place_in, reserved};
+ghost use Rattle.nim_check.specs.Names.{func_among, func_of, has_twice, is_in, place_in, reserved};
 
 use nim_base::{Func, Name, NoMemory, Seq};
 use nim_parse::{Block, Var};
@@ -57,44 +57,43 @@ pub fn is_reserved(word: &[u8]) -> bool
     stands_in(&RESERVED, word)
 }
 
+/// The functions by their names.
+const FUNCTIONS: [(&[u8], Func); 15] = [
+    (b"set", Func::Set),
+    (b"copy", Func::Copy),
+    (b"addc", Func::Addc),
+    (b"mulc", Func::Mulc),
+    (b"add", Func::Add),
+    (b"sub", Func::Sub),
+    (b"max", Func::Max),
+    (b"sum", Func::Sum),
+    (b"total", Func::Total),
+    (b"count", Func::Count),
+    (b"stencil", Func::Stencil),
+    (b"keep", Func::Keep),
+    (b"group", Func::Group),
+    (b"merge", Func::Merge),
+    (b"split", Func::Split),
+];
+
+/// The function that has this name among these.
+fn func_among(functions: &[(&[u8], Func)], word: &[u8]) -> Option<Func>
+    ensures { result ≡ func_among (map (λ f. (f.0.now, f.1)) functions.now) word.now }
+{
+    for (name, func) in functions {
+        if is(word, name) {
+            return Some(*func);
+        }
+    }
+    None
+}
+
 /// The function that has this name.
 #[tactic(auto, unfolding(crate::specs::Names::func_of, crate::specs::Names::functions))]
 pub fn func_of(word: &[u8]) -> Option<Func>
     ensures { result ≡ func_of word.now }
 {
-    if is(word, b"set") {
-        Some(Func::Set)
-    } else if is(word, b"copy") {
-        Some(Func::Copy)
-    } else if is(word, b"addc") {
-        Some(Func::Addc)
-    } else if is(word, b"mulc") {
-        Some(Func::Mulc)
-    } else if is(word, b"add") {
-        Some(Func::Add)
-    } else if is(word, b"sub") {
-        Some(Func::Sub)
-    } else if is(word, b"max") {
-        Some(Func::Max)
-    } else if is(word, b"sum") {
-        Some(Func::Sum)
-    } else if is(word, b"total") {
-        Some(Func::Total)
-    } else if is(word, b"count") {
-        Some(Func::Count)
-    } else if is(word, b"stencil") {
-        Some(Func::Stencil)
-    } else if is(word, b"keep") {
-        Some(Func::Keep)
-    } else if is(word, b"group") {
-        Some(Func::Group)
-    } else if is(word, b"merge") {
-        Some(Func::Merge)
-    } else if is(word, b"split") {
-        Some(Func::Split)
-    } else {
-        None
-    }
+    func_among(&FUNCTIONS, word)
 }
 
 /// The place of a word among these; their number where it isn't there.

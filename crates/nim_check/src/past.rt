@@ -8,7 +8,7 @@ use std::alloc::Global;
 
 /// What the statements before a line did: the scalars that they set, in order, and how many loops, whiles and ifs are
 /// open.
-#[derive(Debug, Drop)]
+#[derive(Drop)]
 pub struct Past {
     pub scalars: Seq<Seq<u8>>,
     pub depth: u64,

@@ -4,20 +4,97 @@ ghost use Rattle.std.specs.Prelude.{◌≡◌, ◌≤◌, ◌+◌, ◌&&◌, [],
 ghost use Rattle.std.specs.List.{list_all, list_any, sum_by};
 ghost use Rattle.nim_base.specs.Apply.{has_counts};
 ghost use Rattle.nim_base.specs.declared.task.Func.TheVariants as func;
-ghost use Rattle.nim_job.specs.Tasks.{turns_of};
+ghost use Rattle.nim_job.specs.Tasks.{task_count};
 ghost use Rattle.nim_job.specs.Whole.{are_vars, is_stage};
 ghost use Rattle.nim_check.specs.Made.{param_of, place_of, ref_of, stage_of, var_names, var_of};
 ghost use Rattle.nim_check.specs.Names.{func_of, is_in};
-ghost use Rattle.nim_check.specs.Refusals.{Answers, first_refusal};
+ghost use Rattle.nim_check.specs.Faults.{told};
+ghost use Rattle.nim_check.specs.Refusals.{first_refusal};
+ghost use Rattle.nim_lex.specs.Refusals.{Answers};
 ghost use Rattle.nim_check.specs.Rules.{is_known, is_own, refs_of, rule_of};
 ghost use Rattle.nim_check.specs.Sites.{at_stage, stage_sites};
 
 use crate::CheckFault;
 use crate::names::{func_of, is_in, is_var, place_in, var_place};
 use nim_base::{Func, NoMemory, Param, Seq};
-use nim_job::{Place, Ref as JobRef, Stage as JobStage, Var as JobVar, has_distinct, turns};
+use nim_job::{Place, Ref as JobRef, Stage as JobStage, Var as JobVar, has_distinct, task_count};
+use nim_lex::Refusal;
 use nim_parse::{Atom, Block, Index, Ref, Stage, Var};
 use std::alloc::Global;
+
+/// There is no function with this name.
+const NO_FUNCTION: u8 = 45;
+
+/// A stage has other counts than its function.
+const OTHER_COUNTS: u8 = 46;
+
+/// There is no variable with this name.
+const NO_VARIABLE: u8 = 47;
+
+/// A reference has the task's own number in a stage without `each i`.
+const STRAY_OWN: u8 = 48;
+
+/// Two tasks of a stage write one object, or one writes it twice.
+const WRITES_TWICE: u8 = 49;
+
+/// A parameter is none of the block's arguments.
+const NO_ARGUMENT: u8 = 50;
+
+/// A block has too many tasks.
+const TOO_MANY_TASKS: u8 = 51;
+
+/// The stages of a job's block, or the first line that a rule refuses.
+pub fn make_stages(
+    alloc: Global,
+    vars: &[Var],
+    job_vars: &[JobVar],
+    block: &Block,
+) -> Result<Seq<JobStage>, CheckFault>
+    requires vars { job_vars.now ≡ map var_of vars.now }
+    requires whole { IsTrue (are_vars job_vars.now) }
+    requires arguments { length block.now.arguments ≤ 8 }
+    ensures answers { Answers told (first_refusal (stage_sites vars.now block.now [] block.now.stages)) result }
+    ensures made { IfOk result (λ made. made ≡ map (stage_of (var_names vars.now) block.now.arguments) block.now.stages) }
+    ensures whole { IfOk result (λ made. list_all (is_stage job_vars.now (length block.now.arguments)) made ≡ true) }
+    ensures few { IfOk result (λ made. sum_by (task_count job_vars.now) made ≤ 1024) }
+{
+    let stages = block.stages.as_slice();
+    let mut made = Seq::new(alloc);
+    let mut tasks = 0;
+    for (at, stage) in stages.iter().enumerate() {
+        let next = stage_of(alloc, vars, block.arguments.as_slice(), stage)?;
+        if let Some(rule) = stage_rule(vars, block, &stages[..at], stage, job_vars, &next, tasks) {
+            return Err(CheckFault::At(Refusal {
+                line: stage.line,
+                rule,
+            }));
+        }
+        tasks += u64::from(task_count(job_vars, &next));
+        made.push(next)?;
+    }
+    Ok(made)
+}
+
+/// Whether each of these is a number, or one of the words.
+pub fn are_known(words: &[Seq<u8>], atoms: &[Atom]) -> bool
+    ensures { result ≡ list_all (is_known words.now) atoms.now }
+{
+    for atom in atoms {
+        if !is_known(words, atom) {
+            return false;
+        }
+    }
+    true
+}
+
+pub fn is_known(words: &[Seq<u8>], atom: &Atom) -> bool
+    ensures { result ≡ is_known words.now atom.now }
+{
+    match atom {
+        Atom::Number(_) => true,
+        Atom::Name(word) => is_in(words, word.as_slice()),
+    }
+}
 
 fn place_of(index: Index) -> Place
     ensures { result ≡ place_of index }
@@ -144,27 +221,6 @@ fn has_own(stage: &Stage) -> bool
     name_own(stage.reads.as_slice()) || name_own(stage.writes.as_slice())
 }
 
-pub fn is_known(words: &[Seq<u8>], atom: &Atom) -> bool
-    ensures { result ≡ is_known words.now atom.now }
-{
-    match atom {
-        Atom::Number(_) => true,
-        Atom::Name(word) => is_in(words, word.as_slice()),
-    }
-}
-
-/// Whether each of these is a number, or one of the words.
-pub fn are_known(words: &[Seq<u8>], atoms: &[Atom]) -> bool
-    ensures { result ≡ list_all (is_known words.now) atoms.now }
-{
-    for atom in atoms {
-        if !is_known(words, atom) {
-            return false;
-        }
-    }
-    true
-}
-
 /// Whether a reference of a stage without `each i` has the task's own number.
 fn has_stray_own(stage: &Stage) -> bool
     ensures { result ≡ (not stage.now.each && list_any (λ ref. is_own ref.index) (refs_of stage.now)) }
@@ -197,59 +253,27 @@ fn stage_rule(
     requires vars { job_vars.now ≡ map var_of vars.now }
     requires whole { IsTrue (are_vars job_vars.now) }
     requires made { made.now ≡ stage_of (var_names vars.now) block.now.arguments stage.now }
-    requires tasks { tasks ≡ sum_by (turns_of job_vars.now) (map (stage_of (var_names vars.now) block.now.arguments) before.now) }
+    requires tasks { tasks ≡ sum_by (task_count job_vars.now) (map (stage_of (var_names vars.now) block.now.arguments) before.now) }
     requires few { tasks ≤ 1024 }
     ensures rule { result ≡ rule_of (at_stage vars.now block.now before.now stage.now) }
     ensures whole { result ≡ None → is_stage job_vars.now (length block.now.arguments) made.now ≡ true }
-    ensures few { result ≡ None → tasks + turns_of job_vars.now made.now ≤ 1024 }
+    ensures few { result ≡ None → tasks + task_count job_vars.now made.now ≤ 1024 }
 {
     if func_of(stage.function.as_slice()).is_none() {
-        Some(45)
+        Some(NO_FUNCTION)
     } else if !has_counts(stage) {
-        Some(46)
+        Some(OTHER_COUNTS)
     } else if !has_vars(vars, stage) {
-        Some(47)
+        Some(NO_VARIABLE)
     } else if has_stray_own(stage) {
-        Some(48)
+        Some(STRAY_OWN)
     } else if !has_distinct(job_vars, made) {
-        Some(49)
+        Some(WRITES_TWICE)
     } else if !are_known(block.arguments.as_slice(), stage.parameters.as_slice()) {
-        Some(50)
-    } else if tasks + u64::from(turns(job_vars, made)) > 1024 {
-        Some(51)
+        Some(NO_ARGUMENT)
+    } else if tasks + u64::from(task_count(job_vars, made)) > 1024 {
+        Some(TOO_MANY_TASKS)
     } else {
         None
     }
-}
-
-/// The stages of a job's block, or the first line that a rule refuses.
-pub fn make_stages(
-    alloc: Global,
-    vars: &[Var],
-    job_vars: &[JobVar],
-    block: &Block,
-) -> Result<Seq<JobStage>, CheckFault>
-    requires vars { job_vars.now ≡ map var_of vars.now }
-    requires whole { IsTrue (are_vars job_vars.now) }
-    requires arguments { length block.now.arguments ≤ 8 }
-    ensures answers { Answers (first_refusal (stage_sites vars.now block.now [] block.now.stages)) result }
-    ensures made { IfOk result (λ made. made ≡ map (stage_of (var_names vars.now) block.now.arguments) block.now.stages) }
-    ensures whole { IfOk result (λ made. list_all (is_stage job_vars.now (length block.now.arguments)) made ≡ true) }
-    ensures few { IfOk result (λ made. sum_by (turns_of job_vars.now) made ≤ 1024) }
-{
-    let stages = block.stages.as_slice();
-    let mut made = Seq::new(alloc);
-    let mut tasks = 0;
-    for (at, stage) in stages.iter().enumerate() {
-        let next = stage_of(alloc, vars, block.arguments.as_slice(), stage)?;
-        if let Some(rule) = stage_rule(vars, block, &stages[..at], stage, job_vars, &next, tasks) {
-            return Err(CheckFault::At {
-                line: stage.line,
-                rule,
-            });
-        }
-        tasks += u64::from(turns(job_vars, &next));
-        made.push(next)?;
-    }
-    Ok(made)
 }

@@ -4,7 +4,9 @@ ghost use Rattle.std.specs.Prelude.{◌≡◌, ◌≤◌, length, nat_lt, IfOk, 
 ghost use Rattle.std.specs.List.{list_all, list_any};
 ghost use Rattle.nim_check.specs.Made.{block_names, var_names};
 ghost use Rattle.nim_check.specs.Names.{is_in, reserved};
-ghost use Rattle.nim_check.specs.Refusals.{Answers, first_refusal};
+ghost use Rattle.nim_check.specs.Faults.{told};
+ghost use Rattle.nim_check.specs.Refusals.{first_refusal};
+ghost use Rattle.nim_lex.specs.Refusals.{Answers};
 ghost use Rattle.nim_check.specs.Rules.{condition_reads, has_block, has_variable, is_known, opens, read_by, rule_of, set_by, value_reads};
 ghost use Rattle.nim_check.specs.Sites.{at_statement, no_past, past_of, past_with, statement_sites, with_scalar};
 
@@ -13,8 +15,47 @@ use crate::names::{block_place, is_in, is_reserved, is_var};
 use crate::past::Past;
 use crate::stages::{are_known, is_known};
 use nim_base::Seq;
-use nim_parse::{Block, Condition, Expression, Line, Statement, Tree, Var};
+use nim_lex::Refusal;
+use nim_parse::{Block, Condition, Expression, Line, Sections, Statement, Var};
 use std::alloc::Global;
+
+/// A scalar has a reserved name.
+const RESERVED: u8 = 41;
+
+/// There are too many scalars.
+const TOO_MANY: u8 = 44;
+
+/// There is no variable with this name.
+const NO_VARIABLE: u8 = 47;
+
+/// There is no block with this name and so many arguments.
+const NO_BLOCK: u8 = 52;
+
+/// A scalar that is read isn't set before.
+const NOT_SET: u8 = 53;
+
+/// Too many loops, whiles and ifs are open.
+const TOO_DEEP: u8 = 54;
+
+/// The scalars that the statements set, in order, or the first line that a rule refuses.
+pub fn scalars_of(alloc: Global, sections: &Sections) -> Result<Seq<Seq<u8>>, CheckFault>
+    ensures answers { Answers told (first_refusal (statement_sites sections.now no_past sections.now.statements)) result }
+    ensures scalars { IfOk result (λ scalars. scalars ≡ (past_of no_past sections.now.statements).scalars) }
+    ensures few { IfOk result (λ scalars. length scalars ≤ 64) }
+{
+    let mut past = Past::new(alloc);
+    for (at, line) in sections.statements.as_slice().iter().enumerate() {
+        if let Some(rule) = statement_rule(sections, &past, line) {
+            return Err(CheckFault::At(Refusal {
+                line: line.line,
+                rule,
+            }));
+        }
+        past.take(&line.statement)?;
+    }
+    let Past { scalars, .. } = past;
+    Ok(scalars)
+}
 
 fn sets_reserved(statement: &Statement) -> bool
     ensures { result ≡ list_any (is_in reserved) (set_by statement.now) }
@@ -117,44 +158,24 @@ fn opens(statement: &Statement) -> bool
 
 /// The smallest rule that refuses a line.
 #[tactic(auto, unfolding(crate::specs::Rules::rule_of))]
-fn statement_rule(tree: &Tree, past: &Past, line: &Line) -> Option<u8>
-    ensures rule { result ≡ rule_of (at_statement tree.now past.now line.now) }
+fn statement_rule(sections: &Sections, past: &Past, line: &Line) -> Option<u8>
+    ensures rule { result ≡ rule_of (at_statement sections.now past.now line.now) }
     ensures few { result ≡ None → length (past_with past.now line.now.statement).scalars ≤ 64 }
 {
     let statement = &line.statement;
     if sets_reserved(statement) {
-        Some(41)
+        Some(RESERVED)
     } else if sets_too_many(past, statement) {
-        Some(44)
-    } else if !has_variable(tree.vars.as_slice(), statement) {
-        Some(47)
-    } else if !has_block(tree.blocks.as_slice(), statement) {
-        Some(52)
+        Some(TOO_MANY)
+    } else if !has_variable(sections.vars.as_slice(), statement) {
+        Some(NO_VARIABLE)
+    } else if !has_block(sections.blocks.as_slice(), statement) {
+        Some(NO_BLOCK)
     } else if !reads_set(past.scalars.as_slice(), statement) {
-        Some(53)
+        Some(NOT_SET)
     } else if opens(statement) && past.depth >= 16 {
-        Some(54)
+        Some(TOO_DEEP)
     } else {
         None
     }
-}
-
-/// The scalars that the statements set, in order, or the first line that a rule refuses.
-pub fn scalars_of(alloc: Global, tree: &Tree) -> Result<Seq<Seq<u8>>, CheckFault>
-    ensures answers { Answers (first_refusal (statement_sites tree.now no_past tree.now.statements)) result }
-    ensures scalars { IfOk result (λ scalars. scalars ≡ (past_of no_past tree.now.statements).scalars) }
-    ensures few { IfOk result (λ scalars. length scalars ≤ 64) }
-{
-    let mut past = Past::new(alloc);
-    for (at, line) in tree.statements.as_slice().iter().enumerate() {
-        if let Some(rule) = statement_rule(tree, &past, line) {
-            return Err(CheckFault::At {
-                line: line.line,
-                rule,
-            });
-        }
-        past.take(&line.statement)?;
-    }
-    let Past { scalars, .. } = past;
-    Ok(scalars)
 }

@@ -5,7 +5,9 @@ ghost use Rattle.std.specs.List.{sum_by};
 ghost use Rattle.nim_job.specs.Objects.{objects_of};
 ghost use Rattle.nim_job.specs.Whole.{are_vars, cells_in, is_var};
 ghost use Rattle.nim_check.specs.Made.{init_of, var_of};
-ghost use Rattle.nim_check.specs.Refusals.{Answers, first_refusal};
+ghost use Rattle.nim_check.specs.Faults.{told};
+ghost use Rattle.nim_check.specs.Refusals.{first_refusal};
+ghost use Rattle.nim_lex.specs.Refusals.{Answers};
 ghost use Rattle.nim_check.specs.Rules.{are_few, rule_of};
 ghost use Rattle.nim_check.specs.Sites.{at_var, var_sites};
 
@@ -13,8 +15,44 @@ use crate::CheckFault;
 use crate::names::{is_reserved, is_var, name};
 use nim_base::{NoMemory, Seq, Shape};
 use nim_job::{Init as JobInit, Var as JobVar};
+use nim_lex::Refusal;
 use nim_parse::{Init, Var};
 use std::alloc::Global;
+
+/// A variable has a reserved name.
+const RESERVED: u8 = 41;
+
+/// There is a variable with this name.
+const NAMED_TWICE: u8 = 42;
+
+/// A size is none that a variable may have.
+const BAD_SIZE: u8 = 43;
+
+/// There is no room for one more variable.
+const TOO_MANY: u8 = 44;
+
+/// The variables of a job, or the first line that a rule refuses.
+pub fn make_vars(alloc: Global, vars: &[Var]) -> Result<Seq<JobVar>, CheckFault>
+    ensures answers { Answers told (first_refusal (var_sites [] vars.now)) result }
+    ensures made { IfOk result (λ made. made ≡ map var_of vars.now) }
+    ensures whole { IfOk result (λ made. are_vars made ≡ true) }
+{
+    let mut made = Seq::new(alloc);
+    let mut objects = 0;
+    let mut cells = 0;
+    for (at, var) in vars.iter().enumerate() {
+        if let Some(rule) = var_rule(&vars[..at], var, objects, cells) {
+            return Err(CheckFault::At(Refusal {
+                line: var.line,
+                rule,
+            }));
+        }
+        objects += var.parts;
+        cells += var.parts * (var.width * var.rows);
+        made.push(var_of(alloc, var)?)?;
+    }
+    Ok(made)
+}
 
 /// Whether a variable has the sizes that one may have.
 fn is_small(var: &Var) -> bool
@@ -56,13 +94,13 @@ fn var_rule(before: &[Var], var: &Var, objects: u64, cells: u64) -> Option<u8>
     ensures room { result ≡ None → are_few (map var_of (before.now ++ var.now ∷ [])) ≡ true }
 {
     if is_reserved(var.name.as_slice()) {
-        Some(41)
+        Some(RESERVED)
     } else if is_var(before, var.name.as_slice()) {
-        Some(42)
+        Some(NAMED_TWICE)
     } else if !is_small(var) {
-        Some(43)
+        Some(BAD_SIZE)
     } else if !has_room(before, var, objects, cells) {
-        Some(44)
+        Some(TOO_MANY)
     } else {
         None
     }
@@ -92,27 +130,4 @@ fn var_of(alloc: Global, var: &Var) -> Result<JobVar, NoMemory>
         },
         init: init_of(alloc, var.init),
     })
-}
-
-/// The variables of a job, or the first line that a rule refuses.
-pub fn make_vars(alloc: Global, vars: &[Var]) -> Result<Seq<JobVar>, CheckFault>
-    ensures answers { Answers (first_refusal (var_sites [] vars.now)) result }
-    ensures made { IfOk result (λ made. made ≡ map var_of vars.now) }
-    ensures whole { IfOk result (λ made. are_vars made ≡ true) }
-{
-    let mut made = Seq::new(alloc);
-    let mut objects = 0;
-    let mut cells = 0;
-    for (at, var) in vars.iter().enumerate() {
-        if let Some(rule) = var_rule(&vars[..at], var, objects, cells) {
-            return Err(CheckFault::At {
-                line: var.line,
-                rule,
-            });
-        }
-        objects += var.parts;
-        cells += var.parts * (var.width * var.rows);
-        made.push(var_of(alloc, var)?)?;
-    }
-    Ok(made)
 }

@@ -11,7 +11,8 @@ use Rattle.std.proofs.lemmas.Bool.Decides.{Decides-eqb}
 use Rattle.nim_lex.specs.declared.token.TokenKind.{TokenKind}
 use Rattle.nim_lex.specs.declared.token.TokenKind.TheVariants.{Name, Number, Sign}
 use Rattle.nim_lex.specs.Bytes.{is_name_byte}
-use Rattle.nim_lex.specs.Pieces.{Front, found_length, front_of, number_of, sign_length, signs}
+use Rattle.nim_lex.specs.Numbers.{number_of}
+use Rattle.nim_lex.specs.Pieces.{Front, found_length, front_of, sign_length, signs}
 use Rattle.nim_lex.specs.Texts.{IsOfKind, is_name, is_numeral}
 
 -- the front of a list that passes a test passes it
@@ -33,7 +34,7 @@ or_more false true l o h = refl
 or_more false false true o h = refl
 or_more false false false o h = cc
 
-letter_is_name_byte : (b : ℕ) → is_ascii_alphabetic b ≡ true → is_name_byte b ≡ true
+pub letter_is_name_byte : (b : ℕ) → is_ascii_alphabetic b ≡ true → is_name_byte b ≡ true
 letter_is_name_byte b h = or_more (is_in_range 48 57 b) (is_in_range 65 90 b) (is_in_range 97 122 b) (b == 95) h
 
 name_text : (b : ℕ) (rest : List ℕ) → is_ascii_alphabetic b ≡ true → is_name (take (prefix_len is_name_byte (b ∷ rest)) (b ∷ rest)) ≡ true

@@ -1,10 +1,11 @@
 -- The lines of what is left of a source, one line at a time.
 use Rattle.std.proofs.Common.{◌≡◌, ℕ, suc, ◌+◌, ◌<◌, cond, true, false, List, [], ◌∷◌, length, get_or, take, drop, refl, sym, subst, ◌∙◌, ap, arith, None, Some}
-use Rattle.std.specs.Prelude.{not}
+use Rattle.std.specs.Prelude.{Bool, not, ◌++◌}
 use Rattle.std.proofs.Math.Seq.{drop-cons}
 use Rattle.std.proofs.lemmas.List.{drop-drop, length-take-le}
 use Rattle.std.proofs.lemmas.List.Sums.{prefix_len-le-length}
-use Rattle.std.specs.List.{position_or_len}
+use Rattle.std.proofs.lemmas.Bool.{and_parts, not-true}
+use Rattle.std.specs.List.{list_all, position_or_len}
 use Rattle.nim_lex.specs.Bytes.{is_newline}
 use Rattle.nim_lex.specs.Source.{Line, before_lines, cut, first_refusal, numbered, pieces_of}
 use Rattle.nim_lex.specs.Rules.{broken_by}
@@ -47,6 +48,19 @@ step_line number start n bytes within is_len =
     ≡ record { number = number; at = start; bytes = take n xs } ∷ numbered (number + 1) (start + (n + 1)) (cut (drop (n + 1) xs)) in
     let at_front : P (drop start bytes) = subst P (sym (drop-cons bytes start 0 within)) (line_at number start n (get_or bytes start 0) (drop (suc start) bytes)) in
     rw (← drop-drop (n + 1) start bytes) (at_front is_len)
+
+-- a byte of a line
+abbrev pub is_inner : ℕ → Bool
+is_inner b = not (is_newline b)
+
+-- the first line of a text, where it is known
+pub cut_line : (line rest : List ℕ) → list_all is_inner line ≡ true → cut (line ++ 10 ∷ rest) ≡ line ∷ cut rest
+cut_line [] rest inner = refl
+cut_line (b ∷ line) rest inner =
+    let parts = and_parts (is_inner b) (list_all is_inner line) inner in
+    let no : is_newline b ≡ false = not-true (is_newline b) parts.0 in
+    let later_lines : cut (line ++ 10 ∷ rest) ≡ line ∷ cut rest = cut_line line rest parts.1 in
+    rw (no, later_lines) refl
 
 -- a line that breaks a rule, and one that breaks none
 pub refusal_here : (line : Line) (lines : List Line) (rule : ℕ) → broken_by (pieces_of line) ≡ Some rule

@@ -1,10 +1,11 @@
 -- A line cut into its tokens and the bytes where no token begins.
-use Rattle.std.specs.Prelude.{ℕ, zero, suc, ◌+◌, ◌-◌, ◌*◌, ◌==◌, nat_eq, if◌then◌else◌, List, [], ◌∷◌, length, codes, Option, None, Some}
-use Rattle.std.specs.List.{find, fold, prefix_len, starts_with, take_while}
+use Rattle.std.specs.Prelude.{ℕ, zero, suc, ◌+◌, ◌-◌, ◌==◌, nat_eq, if◌then◌else◌, List, [], ◌∷◌, length, codes, Option, None, Some}
+use Rattle.std.specs.List.{find, prefix_len, starts_with, take_while}
 use Rattle.std.specs.Char.{is_ascii_alphabetic, is_ascii_digit}
 use Rattle.nim_lex.specs.declared.token.TokenKind.{TokenKind}
 use Rattle.nim_lex.specs.declared.token.TokenKind.TheVariants.{Name, Number, Sign}
 use Rattle.nim_lex.specs.Bytes.{is_blank, is_hash, is_name_byte}
+use Rattle.nim_lex.specs.Numbers.{number_of}
 
 -- the signs, the longest first
 abbrev pub signs : List (List ℕ)
@@ -13,10 +14,6 @@ signs =
     ∷ codes "[" ∷ codes "]" ∷ codes "(" ∷ codes ")" ∷ codes ","
     ∷ codes "+" ∷ codes "-" ∷ codes "*" ∷ codes "/" ∷ codes "%"
     ∷ codes "=" ∷ codes "<" ∷ codes ">" ∷ []
-
--- the number that digits write
-abbrev pub number_of : List ℕ → ℕ
-number_of digits = fold (λ n digit. n * 10 + (digit - 48)) 0 digits
 
 -- What stands at the front of a text: so many bytes, and which token they are. No kind: no token begins there.
 pub record Front : Type 0 where

@@ -1,12 +1,12 @@
--- The lines and tokens of a driver, and the first refused line.
-use Rattle.std.specs.Prelude.{◌≡◌, ℕ, ◌+◌, if◌then◌else◌, List, [], ◌∷◌, length, Option, None, Some}
+-- The lines and tokens of a text, and the first refused line.
+use Rattle.std.specs.Prelude.{ℕ, ◌+◌, if◌then◌else◌, List, [], ◌∷◌, length, Option, None, Some}
 use Rattle.std.specs.List.{filter_map, flat_map}
 use Rattle.std.specs.Option.{option_map, option_or}
+use Rattle.nim_lex.specs.declared.fault.Refusal.{Refusal}
 use Rattle.nim_lex.specs.declared.token.Token.{Token}
-use Rattle.nim_lex.specs.declared.token.LexFault.{LexFault}
-use Rattle.nim_lex.specs.declared.token.LexFault.TheVariants.{At, NoMemory}
 use Rattle.nim_lex.specs.Bytes.{is_newline}
 use Rattle.nim_lex.specs.Pieces.{Piece, pieces}
+use Rattle.nim_lex.specs.Refusals.{refused}
 use Rattle.nim_lex.specs.Rules.{broken_by, is_too_long}
 
 -- a byte before the first of some lines
@@ -18,6 +18,10 @@ before_lines b (line ∷ lines) = (b ∷ line) ∷ lines
 abbrev pub cut : List ℕ → List (List ℕ)
 cut [] = []
 cut (b ∷ rest) = if is_newline b then [] ∷ cut rest else before_lines b (cut rest)
+
+-- how many lines a text has
+abbrev pub line_count : List ℕ → ℕ
+line_count source = length (cut source)
 
 -- a line: its number, where it begins in the source, and its bytes without the newline
 pub record Line : Type 0 where
@@ -55,23 +59,13 @@ line_tokens line = filter_map (token_of line.number) (pieces_of line)
 abbrev pub tokens_of : List ℕ → List Token
 tokens_of bytes = flat_map line_tokens (lines_of bytes)
 
--- a refused line, 0 for the driver as a whole, and the rule that refuses it
-pub record Refusal : Type 0 where
-  pub line : ℕ
-  pub rule : ℕ
-
 -- the first of the lines that breaks a rule, and the smallest that it breaks
 abbrev pub first_refusal : List Line → Option Refusal
 first_refusal [] = None
 first_refusal (line ∷ lines) =
-    option_or (option_map (λ rule. record { line = line.number; rule = rule }) (broken_by (pieces_of line))) (first_refusal lines)
+    option_or (refused line.number (broken_by (pieces_of line))) (first_refusal lines)
 
 -- why a driver is refused, if it is
 abbrev pub refusal_of : List ℕ → Option Refusal
 refusal_of bytes =
     if is_too_long bytes then Some (record { line = 0; rule = 1 }) else first_refusal (lines_of bytes)
-
--- the fault that a call answered, if memory wasn't refused, is this refusal
-abbrev pub IsRefusal : Option Refusal → LexFault → Type 0
-IsRefusal refusal (At line rule) = refusal ≡ Some (record { line = line; rule = rule })
-IsRefusal refusal NoMemory = Unit {0}

@@ -6,7 +6,8 @@ use Rattle.nim_lex.specs.declared.token.Token.{Token}
 use Rattle.nim_lex.specs.declared.token.TokenKind.{TokenKind}
 use Rattle.nim_lex.specs.declared.token.TokenKind.TheVariants.{Name, Number, Sign}
 use Rattle.nim_lex.specs.Bytes.{is_name_byte}
-use Rattle.nim_lex.specs.Pieces.{number_of, signs}
+use Rattle.nim_lex.specs.Numbers.{number_of}
+use Rattle.nim_lex.specs.Pieces.{signs}
 
 -- the bytes of a token
 abbrev pub text_of : List ℕ → Token → List ℕ

@@ -1,11 +1,11 @@
-ghost use Rattle.std.specs.Prelude.{◌≡◌, ◌<◌, ◌≤◌, ◌^◌, ◌-◌, length, min, MatchResult, IfOk, IfErr, OnOk, None, Some};
+ghost use Rattle.std.specs.Prelude.{◌≡◌, ◌<◌, ◌≤◌, length, IfOk, IfErr, OnOk, None, Some};
 ghost use Rattle.std.specs.List.{prefix_len};
 ghost use Rattle.std.specs.Char.{is_ascii_digit};
-ghost use Rattle.nim_lex.specs.Bytes.{is_blank, is_name_byte};
-ghost use Rattle.nim_lex.specs.Pieces.{front_of, number_of, sign_length};
+ghost use Rattle.nim_lex.specs.Bytes.{is_name_byte};
+ghost use Rattle.nim_lex.specs.Pieces.{front_of, sign_length};
 ghost use Rattle.nim_lex.specs.Rules.{front_rule};
 
-use crate::TokenKind;
+use crate::{TokenKind, is_name_byte, number};
 
 /// No token begins at the byte.
 const STRAY: u8 = 2;
@@ -28,58 +28,6 @@ const MOST: u64 = 9_223_372_036_854_775_808;
 pub struct Found {
     pub len: usize,
     pub kind: Result<TokenKind, u8>,
-}
-
-/// Space, tab or carriage return.
-pub fn is_blank(b: u8) -> bool
-    ensures { result ≡ is_blank b }
-{
-    matches!(b, b' ' | b'\t' | b'\r')
-}
-
-fn is_name_byte(b: u8) -> bool
-    ensures { result ≡ is_name_byte b }
-{
-    b.is_ascii_alphanumeric() || b == b'_'
-}
-
-fn name_len(text: &[u8]) -> usize
-    ensures len { result ≡ prefix_len is_name_byte text.now }
-    ensures within { result ≤ length text.now }
-{
-    text.iter().take_while(|b| is_name_byte(**b)).count()
-}
-
-fn digits_len(text: &[u8]) -> usize
-    ensures len { result ≡ prefix_len is_ascii_digit text.now }
-    ensures within { result ≤ length text.now }
-{
-    text.iter().take_while(|b| b.is_ascii_digit()).count()
-}
-
-/// The number that digits write, or the greatest of a `u64` where it is greater.
-fn number(digits: &[u8]) -> u64
-    ensures { result ≡ min (number_of digits.now) (2 ^ 64 - 1) }
-{
-    let mut value = 0u64;
-    for digit in digits {
-        let unit = u64::from(digit.saturating_sub(b'0'));
-        value = value.saturating_mul(10).saturating_add(unit);
-    }
-    value
-}
-
-/// How many bytes the sign at the front has, 0 where there is none.
-fn sign_len(text: &[u8]) -> usize
-    ensures { result ≡ sign_length text.now }
-{
-    match text {
-        [b'<' | b'>' | b'!', b'=', ..] | [b'-', b'>', ..] => 2,
-        [b'[' | b']' | b'(' | b')' | b',', ..] => 1,
-        [b'+' | b'-' | b'*' | b'/' | b'%', ..] => 1,
-        [b'=' | b'<' | b'>', ..] => 1,
-        _ => 0,
-    }
 }
 
 /// The longest token at the front of a text that begins with no blank and no comment.
@@ -122,5 +70,32 @@ pub fn front(text: &[u8]) -> Found
                 kind: Ok(TokenKind::Sign),
             },
         }
+    }
+}
+
+fn name_len(text: &[u8]) -> usize
+    ensures len { result ≡ prefix_len is_name_byte text.now }
+    ensures within { result ≤ length text.now }
+{
+    text.iter().take_while(|b| is_name_byte(**b)).count()
+}
+
+fn digits_len(text: &[u8]) -> usize
+    ensures len { result ≡ prefix_len is_ascii_digit text.now }
+    ensures within { result ≤ length text.now }
+{
+    text.iter().take_while(|b| b.is_ascii_digit()).count()
+}
+
+/// How many bytes the sign at the front has, 0 where there is none.
+fn sign_len(text: &[u8]) -> usize
+    ensures { result ≡ sign_length text.now }
+{
+    match text {
+        [b'<' | b'>' | b'!', b'=', ..] | [b'-', b'>', ..] => 2,
+        [b'[' | b']' | b'(' | b')' | b',', ..] => 1,
+        [b'+' | b'-' | b'*' | b'/' | b'%', ..] => 1,
+        [b'=' | b'<' | b'>', ..] => 1,
+        _ => 0,
     }
 }

@@ -2,19 +2,9 @@ ghost use Rattle.std.specs.Prelude.{◌≡◌, ◌++◌, ◌+◌, ◌^◌, ◌<�
 ghost use Rattle.nim_lex.specs.Rules.{broken_by, smaller};
 ghost use Rattle.nim_lex.specs.Source.{line_at, line_tokens, pieces_of};
 
-use crate::Token;
-use crate::front::{front, is_blank};
+use crate::front::front;
+use crate::{Token, is_blank};
 use nim_base::NoMemory;
-
-/// The smaller of two broken rules, where there are two.
-fn smaller(first: Option<u8>, rule: u8) -> Option<u8>
-    ensures { result ≡ smaller first (Some rule) }
-{
-    match first {
-        None => Some(rule),
-        Some(other) => Some(other.min(rule)),
-    }
-}
 
 /// Puts the tokens of a line behind the others, and answers the smallest rule that the line breaks.
 pub fn read_line(
@@ -48,4 +38,14 @@ pub fn read_line(
         }
     }
     Ok(broken)
+}
+
+/// The smaller of two broken rules, where there are two.
+fn smaller(first: Option<u8>, rule: u8) -> Option<u8>
+    ensures { result ≡ smaller first (Some rule) }
+{
+    match first {
+        None => Some(rule),
+        Some(other) => Some(other.min(rule)),
+    }
 }

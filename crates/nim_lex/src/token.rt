@@ -1,8 +1,3 @@
-ghost use Rattle.std.specs.Prelude.{◌≡◌};
-ghost use Rattle.nim_lex.specs.declared.token.LexFault.TheVariants.{NoMemory};
-
-use nim_base::NoMemory;
-
 /// What a token is. Its text is its bytes in the source.
 #[derive(Clone, Copy, Debug, PartialEq, Eq)]
 pub enum TokenKind {
@@ -22,21 +17,4 @@ pub struct Token {
     pub at: u32,
     pub len: u32,
     pub kind: TokenKind,
-}
-
-/// Why there are no tokens.
-#[derive(Clone, Copy, Debug, PartialEq, Eq)]
-pub enum LexFault {
-    /// A rule refuses this line; line 0 is the driver as a whole. The rules are listed in
-    /// `specs/Rules.antt`.
-    At { line: u32, rule: u8 },
-    NoMemory,
-}
-
-impl From<NoMemory> for LexFault {
-    ghost from_gives = { λ _ fault. fault ≡ NoMemory };
-
-    fn from(_refused: NoMemory) -> LexFault {
-        LexFault::NoMemory
-    }
 }

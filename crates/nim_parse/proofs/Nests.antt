@@ -3,28 +3,21 @@ use Rattle.std.proofs.Common.{◌≡◌, ℕ, ◌+◌, cond, List, [], ◌∷◌
 use Rattle.std.specs.Prelude.{not, ◌&&◌, ◌||◌, is_none, is_some}
 use Rattle.std.specs.Option.{option_or}
 use Rattle.nim_lex.specs.declared.token.Token.{Token}
-use Rattle.nim_lex.specs.Source.{Refusal, tokens_of}
+use Rattle.nim_lex.specs.Refusals.{refused}
+use Rattle.nim_lex.proofs.Refusals.{later, no_rule, passes}
+use Rattle.nim_lex.specs.Source.{line_count, tokens_of}
 use Rattle.nim_parse.specs.declared.form.Form.{Form}
 use Rattle.nim_parse.specs.declared.form.Form.TheVariants as form
 use Rattle.nim_parse.specs.declared.form.Found.{Found}
 use Rattle.nim_parse.specs.declared.form.Head.{Head}
 use Rattle.nim_parse.specs.declared.nest.Open.{Open}
 use Rattle.nim_parse.specs.declared.state.State.{State}
-use Rattle.nim_parse.specs.declared.tree.Block.{Block}
-use Rattle.nim_parse.specs.declared.tree.Line.{Line}
-use Rattle.nim_parse.specs.Driver.{after_form, after_lines, first_refusal, found, line_count, lines, next, number_of, refusal_of, refused, tree_of}
+use Rattle.nim_parse.specs.declared.sections.Block.{Block}
+use Rattle.nim_parse.specs.declared.sections.Line.{Line}
+use Rattle.nim_parse.specs.Driver.{after_form, after_lines, first_refusal, found, lines, next, number_of, refusal_of, tree_of}
 use Rattle.nim_parse.specs.Nesting.{is_empty, may_stand, nested, open_after}
 use Rattle.nim_parse.specs.Rules.{rule_10, rule_11, rule_12, rule_13, rule_14, rule_15, rule_16, rule_at_end, rule_of, is_start}
 use Rattle.nim_parse.specs.States.{first}
-
--- a chain of tests that gives none
-passes : (b : Bool) (x : ℕ) (o : Option ℕ) → cond b (Some x) o ≡ None → b ≡ false
-passes true x o h = cc
-passes false x o h = refl
-
-later : (b : Bool) (x : ℕ) (o : Option ℕ) → cond b (Some x) o ≡ None → o ≡ None
-later true x o h = cc
-later false x o h = h
 
 -- what rules 14 and 15 leave
 taken : (st : State) (f : Found) → rule_of st f ≡ None → (rule_14 st f ≡ false) × (rule_15 st f ≡ false)
@@ -56,7 +49,7 @@ one_more opened (k ∷ ks) l now before may =
 
 -- the statements so far nest, up to those that are open
 abbrev Nests : State → Type 0
-Nests st = open_after [] st.tree.statements ≡ Some st.opened
+Nests st = open_after [] st.sections.statements ≡ Some st.opened
 
 one_form : (st : State) (head : Head) (fits : Bool) (f : Option Form) → rule_of st (record { head = head; form = f; fits = fits }) ≡ None → Nests st → Nests (after_form st f)
 one_form st head fits None sound before = before
@@ -68,11 +61,7 @@ one_form st head fits (Some (form.Stage s)) sound before = before
 one_form st head fits (Some form.BlockEnd) sound before = before
 one_form st head fits (Some (form.Statement l)) sound before =
     let both = taken st (record { head = head; form = Some (form.Statement l); fits = fits }) sound in
-    one_more [] st.tree.statements l st.opened before (stands st.block (may_stand st.opened l.statement) both.0 both.1)
-
-no_rule : (n : ℕ) (rule : Option ℕ) (rest : Option Refusal) → option_or (refused n rule) rest ≡ None → (rule ≡ None) × (rest ≡ None)
-no_rule n None rest h = (refl, h)
-no_rule n (Some r) rest h = cc
+    one_more [] st.sections.statements l st.opened before (stands st.block (may_stand st.opened l.statement) both.0 both.1)
 
 end_only : (n : ℕ) (rule : Option ℕ) → refused n rule ≡ None → option_or (refused n rule) None ≡ None
 end_only n None h = refl

@@ -1,15 +1,17 @@
 -- The tree of a driver, and the first refused line.
-use Rattle.std.specs.Prelude.{◌≡◌, ℕ, ◌+◌, ◌==◌, if◌then◌else◌, is_some, true, List, [], ◌∷◌, length, Option, None, Some}
-use Rattle.std.specs.Option.{option_map, option_or}
+use Rattle.std.specs.Prelude.{ℕ, ◌+◌, ◌==◌, if◌then◌else◌, is_some, true, List, [], ◌∷◌, Option, None, Some}
+use Rattle.std.specs.Option.{option_or}
+use Rattle.nim_lex.specs.declared.fault.Refusal.{Refusal}
 use Rattle.nim_lex.specs.declared.token.Token.{Token}
-use Rattle.nim_lex.specs.Source.{Refusal, cut, tokens_of}
+use Rattle.nim_lex.specs.Refusals.{refused}
+use Rattle.nim_lex.specs.Source.{line_count, tokens_of}
 use Rattle.nim_parse.specs.declared.fault.ParseFault.{ParseFault}
 use Rattle.nim_parse.specs.declared.fault.ParseFault.TheVariants.{At, NoMemory}
 use Rattle.nim_parse.specs.declared.form.Form.{Form}
 use Rattle.nim_parse.specs.declared.form.Found.{Found}
 use Rattle.nim_parse.specs.declared.form.Head.{Head}
 use Rattle.nim_parse.specs.declared.state.State.{State}
-use Rattle.nim_parse.specs.declared.tree.Tree.{Tree}
+use Rattle.nim_parse.specs.declared.sections.Sections.{Sections}
 use Rattle.nim_parse.specs.Grammar.{head_of, line_form}
 use Rattle.nim_parse.specs.Input.{Input, Outcome, start}
 use Rattle.nim_parse.specs.Rules.{rule_of, rule_at_end}
@@ -32,10 +34,6 @@ lines (t ∷ ts) = before t (lines ts)
 abbrev pub number_of : List Token → ℕ
 number_of [] = 0
 number_of (t ∷ ts) = t.line
-
--- how many lines a text has, those without tokens too
-abbrev pub line_count : List ℕ → ℕ
-line_count source = length (cut source)
 
 -- ---- what a line is
 
@@ -64,9 +62,6 @@ abbrev pub after_lines : List ℕ → State → List (List Token) → State
 after_lines source st [] = st
 after_lines source st (line ∷ rest) = after_lines source (next source st line) rest
 
-abbrev pub refused : ℕ → Option ℕ → Option Refusal
-refused line rule = option_map (λ r. record { line = line; rule = r }) rule
-
 -- the first of some lines that a rule refuses, and the smallest that does; the end of the file has the line behind the last
 abbrev pub first_refusal : List ℕ → State → List (List Token) → Option Refusal
 first_refusal source st [] = refused (line_count source + 1) (rule_at_end st)
@@ -80,10 +75,10 @@ abbrev pub refusal_of : List ℕ → Option Refusal
 refusal_of source = first_refusal source first (lines (tokens_of source))
 
 -- the tree that the lines of a driver make
-abbrev pub tree_of : List ℕ → Tree
-tree_of source = (after_lines source first (lines (tokens_of source))).tree
+abbrev pub tree_of : List ℕ → Sections
+tree_of source = (after_lines source first (lines (tokens_of source))).sections
 
--- the fault that a call answered, if memory wasn't refused, is this refusal
-abbrev pub IsRefusal : Option Refusal → ParseFault → Type 0
-IsRefusal refusal (At line rule) = refusal ≡ Some (record { line = line; rule = rule })
-IsRefusal refusal NoMemory = Unit {0}
+-- the refused line that a fault of `parse` tells
+abbrev pub told : ParseFault → Option Refusal
+told (At refusal) = Some refusal
+told NoMemory = None

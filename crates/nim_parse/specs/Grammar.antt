@@ -1,22 +1,22 @@
 -- The grammar of the lines of a driver. Each production stands beside its text.
 use Rattle.std.specs.Prelude.{ℕ, zero, suc, ◌==◌, ◌||◌, Bool, true, false, if◌then◌else◌, List, [], ◌∷◌, ◌++◌, codes, Option, None, Some}
-use Rattle.nim_parse.specs.declared.tree.Atom.{Atom}
-use Rattle.nim_parse.specs.declared.tree.Atom.TheVariants as atom_is
-use Rattle.nim_parse.specs.declared.tree.Condition.{Condition}
-use Rattle.nim_parse.specs.declared.tree.Condition.TheVariants.{NotZero, Holds}
-use Rattle.nim_parse.specs.declared.tree.Expression.{Expression}
-use Rattle.nim_parse.specs.declared.tree.Expression.TheVariants.{Alone, Two}
-use Rattle.nim_parse.specs.declared.tree.Index.{Index}
-use Rattle.nim_parse.specs.declared.tree.Index.TheVariants.{Part, Own, After, Before}
-use Rattle.nim_parse.specs.declared.tree.Init.{Init}
-use Rattle.nim_parse.specs.declared.tree.Init.TheVariants.{Fill, Iota, Load}
-use Rattle.nim_parse.specs.declared.tree.Operator.{Operator}
-use Rattle.nim_parse.specs.declared.tree.Operator.TheVariants.{Add, Subtract, Multiply, Divide, Remainder}
-use Rattle.nim_parse.specs.declared.tree.Ref.{Ref}
-use Rattle.nim_parse.specs.declared.tree.Relation.{Relation}
-use Rattle.nim_parse.specs.declared.tree.Relation.TheVariants.{Less, AtMost, Equal, NotEqual, Greater, AtLeast}
-use Rattle.nim_parse.specs.declared.tree.Statement.{Statement}
-use Rattle.nim_parse.specs.declared.tree.Statement.TheVariants.{Do, Let, Get, Loop, While, If, Else, End, Checkpoint, Output}
+use Rattle.nim_parse.specs.declared.sections.Atom.{Atom}
+use Rattle.nim_parse.specs.declared.sections.Atom.TheVariants as atom_is
+use Rattle.nim_parse.specs.declared.sections.Condition.{Condition}
+use Rattle.nim_parse.specs.declared.sections.Condition.TheVariants.{NotZero, Holds}
+use Rattle.nim_parse.specs.declared.sections.Expression.{Expression}
+use Rattle.nim_parse.specs.declared.sections.Expression.TheVariants.{Alone, Two}
+use Rattle.nim_parse.specs.declared.sections.Index.{Index}
+use Rattle.nim_parse.specs.declared.sections.Index.TheVariants.{Part, Own, After, Before}
+use Rattle.nim_parse.specs.declared.sections.Init.{Init}
+use Rattle.nim_parse.specs.declared.sections.Init.TheVariants.{Fill, Iota, Load}
+use Rattle.nim_parse.specs.declared.sections.Operator.{Operator}
+use Rattle.nim_parse.specs.declared.sections.Operator.TheVariants.{Add, Subtract, Multiply, Divide, Remainder}
+use Rattle.nim_parse.specs.declared.sections.Ref.{Ref}
+use Rattle.nim_parse.specs.declared.sections.Relation.{Relation}
+use Rattle.nim_parse.specs.declared.sections.Relation.TheVariants.{Less, AtMost, Equal, NotEqual, Greater, AtLeast}
+use Rattle.nim_parse.specs.declared.sections.Statement.{Statement}
+use Rattle.nim_parse.specs.declared.sections.Statement.TheVariants.{Do, Let, Get, Loop, While, If, Else, End, Checkpoint, Output}
 use Rattle.nim_parse.specs.declared.form.Form.{Form}
 use Rattle.nim_parse.specs.declared.form.Form.TheVariants as form
 use Rattle.nim_parse.specs.declared.form.Head.{Head}
@@ -102,27 +102,21 @@ reads = λ i. reads_from (left i) [] i
 unfoldable pub ends : Input → Bool
 ends i = (left i == 0) || (sees (codes "with") i || sees (codes "each") i)
 
+-- more items, up to the end of the list. The number bounds the turns, and each takes a token.
+unfoldable pub some_from : {A : Type 0} → Parser A → ℕ → List A → Parser (List A)
+some_from item zero found = pure found
+some_from item (suc n) found = λ i. if ends i then Some (found, i) else (item >>= (λ x. some_from item n (found ++ x ∷ []))) i
+
+abbrev pub some_after : {A : Type 0} → Parser A → A → Parser (List A)
+some_after item first = λ i. some_from item (left i) (first ∷ []) i
+
 -- ref {ref}
-unfoldable pub writes_from : ℕ → List Ref → Parser (List Ref)
-writes_from zero found = pure found
-writes_from (suc n) found = λ i. if ends i then Some (found, i) else (reference >>= (λ x. writes_from n (found ++ x ∷ []))) i
-
-abbrev pub writes_after : Ref → Parser (List Ref)
-writes_after first = λ i. writes_from (left i) (first ∷ []) i
-
 unfoldable pub writes : Parser (List Ref)
-writes = reference >>= writes_after
+writes = reference >>= some_after reference
 
 -- atom {atom}
-unfoldable pub values_from : ℕ → List Atom → Parser (List Atom)
-values_from zero found = pure found
-values_from (suc n) found = λ i. if ends i then Some (found, i) else (atom >>= (λ x. values_from n (found ++ x ∷ []))) i
-
-abbrev pub values_after : Atom → Parser (List Atom)
-values_after first = λ i. values_from (left i) (first ∷ []) i
-
 unfoldable pub values : Parser (List Atom)
-values = λ i. if ends i then refuse i else (atom >>= values_after) i
+values = λ i. if ends i then refuse i else (atom >>= some_after atom) i
 
 -- ["with" atom {atom}]
 unfoldable pub parameters : Parser (List Atom)

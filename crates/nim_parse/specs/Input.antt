@@ -1,11 +1,12 @@
 -- What a production of the grammar reads from, and the steps that each is made of.
-use Rattle.std.specs.Prelude.{◌≡◌, ℕ, ◌+◌, ◌==◌, nat_le, Bool, true, false, if◌then◌else◌, List, [], ◌∷◌, length, drop, bytes_eq, ℤ, pos, ◌-ℤ◌, codes, is_some, Option, None, Some, Result, Ok, Err, refl}
+use Rattle.std.specs.Prelude.{◌≡◌, ℕ, ◌==◌, Bool, true, false, if◌then◌else◌, List, [], ◌∷◌, length, drop, bytes_eq, ℤ, pos, codes, is_some, Option, None, Some, Result, Ok, Err, refl}
 use Rattle.std.specs.Coded.{Coded, code_by, coded×, coded_ℕ, coded_bool, coded_list}
 use Rattle.nim_lex.specs.declared.token.Token.{Token}
 use Rattle.nim_lex.specs.declared.token.TokenKind.{TokenKind}
 use Rattle.nim_lex.specs.declared.token.TokenKind.TheVariants.{Name, Number}
 use Rattle.nim_lex.specs.contracts.token.Token as token
 use Rattle.nim_lex.specs.contracts.token.TokenKind as kind
+use Rattle.nim_lex.specs.Numbers.{in_range, signed}
 use Rattle.nim_lex.specs.Texts.{text_of}
 use Rattle.nim_parse.specs.declared.fault.Unread.{Unread}
 use Rattle.nim_parse.specs.declared.fault.Unread.TheVariants.{Malformed}
@@ -132,17 +133,6 @@ unfoldable pub sees_name : Input → Bool
 sees_name i = is_some (first_name i.source i.tokens)
 
 -- ---- ints
-
--- the greatest i64
-abbrev pub most : ℕ
-most = 9223372036854775807
-
--- a number with this sign is in the range
-abbrev pub in_range : Bool → ℕ → Bool
-in_range negative n = if negative then nat_le n (most + 1) else nat_le n most
-
-abbrev pub signed : Bool → ℕ → ℤ
-signed negative n = if negative then pos 0 -ℤ pos n else pos n
 
 -- A number with its sign. One that is out of the range is read as 0, and its line is refused.
 unfoldable pub with_sign : Bool → ℕ → Parser ℤ

@@ -1,6 +1,4 @@
 pub mod Cursor
-pub mod DataLines
-pub mod DataRules
 pub mod Driver
 pub mod Grammar
 pub mod Input

@@ -1,8 +1,8 @@
--- What the lines of a driver so far were, and the tree that they make.
+-- What the lines of a driver so far were, and what they make.
 use Rattle.std.specs.Prelude.{List, [], ◌∷◌, ◌++◌, Option, None, Some}
-use Rattle.nim_parse.specs.declared.tree.Block.{Block}
-use Rattle.nim_parse.specs.declared.tree.Line.{Line}
-use Rattle.nim_parse.specs.declared.tree.Stage.{Stage}
+use Rattle.nim_parse.specs.declared.sections.Block.{Block}
+use Rattle.nim_parse.specs.declared.sections.Line.{Line}
+use Rattle.nim_parse.specs.declared.sections.Stage.{Stage}
 use Rattle.nim_parse.specs.declared.form.Form.{Form}
 use Rattle.nim_parse.specs.declared.form.Form.TheVariants as form
 use Rattle.nim_parse.specs.declared.state.State.{State}
@@ -11,7 +11,7 @@ use Rattle.nim_parse.specs.Nesting.{nested}
 
 -- before the first line
 abbrev pub first : State
-first = record { phase = Start; opened = []; block = None; tree = record { steps = None; vars = []; blocks = []; statements = [] } }
+first = record { phase = Start; opened = []; block = None; sections = record { steps = None; vars = []; blocks = []; statements = [] } }
 
 -- a block with one more stage
 abbrev pub longer : Stage → Option Block → Option Block
@@ -27,22 +27,22 @@ abbrev pub closed : Option Block → List Block
 closed None = []
 closed (Some b) = b ∷ []
 
--- the block that is open goes into the tree
+-- the block that is open goes to those before it
 abbrev pub with_block_end : State → State
-with_block_end st = record st { phase = Blocks; block = None; tree = record st.tree { blocks = st.tree.blocks ++ closed st.block } }
+with_block_end st = record st { phase = Blocks; block = None; sections = record st.sections { blocks = st.sections.blocks ++ closed st.block } }
 
 abbrev pub with_statement : Line → State → State
 with_statement l st = record st {
   phase = Statements;
   opened = nested l.statement st.opened;
-  tree = record st.tree { statements = st.tree.statements ++ l ∷ [] };
+  sections = record st.sections { statements = st.sections.statements ++ l ∷ [] };
 }
 
 -- after one more line
 abbrev pub after : State → Form → State
 after st form.Header = record st { phase = Header }
-after st (form.Steps s) = record st { phase = Vars; tree = record st.tree { steps = Some s } }
-after st (form.Var v) = record st { phase = Vars; tree = record st.tree { vars = st.tree.vars ++ v ∷ [] } }
+after st (form.Steps s) = record st { phase = Vars; sections = record st.sections { steps = Some s } }
+after st (form.Var v) = record st { phase = Vars; sections = record st.sections { vars = st.sections.vars ++ v ∷ [] } }
 after st (form.Block b) = record st { phase = Blocks; block = Some b }
 after st (form.Stage s) = with_stage s st
 after st form.BlockEnd = with_block_end st

@@ -1,27 +1,15 @@
 //! The rest of a line, from which each production takes its tokens.
 
-ghost use Rattle.std.specs.Prelude.{◌≡◌, ◌-◌, take, drop, IfOk, IfSome, None, Some, true, false};
+ghost use Rattle.std.specs.Prelude.{◌≡◌, ◌-◌, take, drop, IfOk, None, Some, true, false};
 ghost use Rattle.nim_parse.specs.Input as spec;
 ghost use Rattle.nim_parse.specs.Input.{Reads};
 ghost use Rattle.nim_lex.specs.Texts.{text_of};
 
 use crate::fault::Unread;
-use nim_base::Seq;
-use nim_lex::{Token, TokenKind};
+use nim_base::{NoMemory, Seq};
+use nim_lex::{Token, TokenKind, signed};
 use std::alloc::Global;
 use std::marker::Model;
-
-/// The greatest number that an `int` may be, and the one below it with a sign.
-const MOST: u64 = 9_223_372_036_854_775_807;
-
-/// The bytes of a token.
-fn text_of<'a>(source: &'a [u8], token: Token) -> &'a [u8]
-    ensures { result.now ≡ text_of source.now token }
-{
-    let at = source.len().min(token.at as usize);
-    let rest = &source[at..];
-    &rest[..rest.len().min(token.len as usize)]
-}
 
 #[derive(Drop)]
 pub struct Cursor<'a> {
@@ -185,25 +173,19 @@ impl<'a> Cursor<'a> {
     }
 }
 
-/// A number with its sign, where that is in the range.
-pub fn signed(negative: bool, number: u64) -> Option<i64>
-    ensures some { IfSome result (λ value. (spec.in_range negative number ≡ true) × (value ≡ spec.signed negative number)) }
-    ensures none { result ≡ None → spec.in_range negative number ≡ false }
-{
-    if number <= MOST {
-        let value = number as i64;
-        Some(if negative { -value } else { value })
-    } else if negative && number == MOST + 1 {
-        Some(i64::MIN)
-    } else {
-        None
-    }
-}
-
-pub fn bytes(alloc: Global, text: &[u8]) -> Result<Seq<u8>, nim_base::NoMemory>
+fn bytes(alloc: Global, text: &[u8]) -> Result<Seq<u8>, NoMemory>
     ensures { IfOk result (λ all. all ≡ text.now) }
 {
     let mut all = Vec::new(alloc);
     all.extend_from_slice(text)?;
     Ok(Seq::from_vec(all))
+}
+
+/// The bytes of a token.
+fn text_of<'a>(source: &'a [u8], token: Token) -> &'a [u8]
+    ensures { result.now ≡ text_of source.now token }
+{
+    let at = source.len().min(token.at as usize);
+    let rest = &source[at..];
+    &rest[..rest.len().min(token.len as usize)]
 }

@@ -1,10 +1,9 @@
-ghost use Rattle.std.specs.Prelude.{◌≡◌, ◌<◌, ◌+◌, ◌^◌, ◌==◌, ◌≤◌, length, IfOk, IfErr, OnOk, None, Some, []};
-ghost use Rattle.std.specs.List.{count_by, prefix_len};
-ghost use Rattle.nim_lex.specs.Bytes.{is_newline};
+ghost use Rattle.std.specs.Prelude.{◌≡◌, ◌<◌, ◌==◌, ◌≤◌, length, IfOk, None, Some, []};
+ghost use Rattle.std.specs.List.{prefix_len};
+ghost use Rattle.nim_lex.specs.Refusals.{Answers, refused};
 ghost use Rattle.nim_lex.specs.Source.{tokens_of};
 ghost use Rattle.nim_lex.specs.Source as lex;
-ghost use Rattle.nim_parse.specs.Driver.{IsRefusal, found, line_count, next, number_of, refusal_of, refused, tree_of};
-ghost use Rattle.nim_parse.specs.Nesting.{open_after};
+ghost use Rattle.nim_parse.specs.Driver.{found, next, number_of, refusal_of, told, tree_of};
 ghost use Rattle.nim_parse.specs.Rules.{rule_of};
 
 use crate::Tree;
@@ -16,8 +15,37 @@ use crate::rules::{rule_at_end, rule_of};
 use crate::state::State;
 use crate::statements::head_of;
 use nim_base::NoMemory;
-use nim_lex::Token;
+use nim_lex::{Refusal, Token, end_line};
 use std::alloc::Global;
+
+/// The tree of a driver, or the first refused line with the smallest rule that refuses it. The
+/// lines are defined in `specs/Grammar.antt`, the rules in `specs/Rules.antt`, the tree in
+/// `specs/Driver.antt`. Want of memory may come in place of any answer.
+pub fn parse(alloc: Global, bytes: &[u8], tokens: &[Token]) -> Result<Tree, ParseFault>
+    requires sound { lex.refusal_of bytes.now ≡ None }
+    requires tokens { tokens.now ≡ tokens_of bytes.now }
+    ensures answers { Answers told (refusal_of bytes.now) result }
+    ensures tree { IfOk result (λ tree. tree ≡ tree_of bytes.now) }
+{
+    let mut state = State::new(alloc);
+    let mut at = 0;
+    while at < tokens.len() {
+        let rest = &tokens[at..];
+        let len = line_len(rest);
+        let line = &rest[..len];
+        if let Some(rule) = take_line(alloc, bytes, &mut state, line)? {
+            let line = number_of(line);
+            return Err(ParseFault::At(Refusal { line, rule }));
+        }
+        at += len;
+    }
+    if let Some(rule) = rule_at_end(&state) {
+        let line = end_line(bytes);
+        return Err(ParseFault::At(Refusal { line, rule }));
+    }
+    let State { sections, .. } = state;
+    Ok(Tree::new(sections))
+}
 
 /// How many tokens stand on the first line.
 fn line_len(tokens: &[Token]) -> usize
@@ -37,29 +65,6 @@ fn number_of(line: &[Token]) -> u32
     match line {
         [first, ..] => first.line,
         [] => 0,
-    }
-}
-
-fn newlines(source: &[u8]) -> usize
-    ensures count { result ≡ count_by is_newline source.now }
-    ensures within { result ≤ length source.now }
-{
-    source.iter().filter(|b| **b == b'\n').count()
-}
-
-/// How many lines a text has, those without words too; the last piece is one only if it isn't empty.
-pub fn line_count(source: &[u8]) -> usize
-    requires { length source.now < 2 ^ 32 }
-    ensures { result ≡ line_count source.now }
-{
-    if source.is_empty() {
-        return 0;
-    }
-    let ended = newlines(source);
-    if source[source.len() - 1] == b'\n' {
-        ended
-    } else {
-        ended + 1
     }
 }
 
@@ -103,35 +108,4 @@ fn take_line(
         state.add(form)?;
     }
     Ok(None)
-}
-
-/// The tree of a driver, or the first refused line with the smallest rule that refuses it. The
-/// lines are defined in `specs/Grammar.antt`, the rules in `specs/Rules.antt`, the tree in
-/// `specs/Driver.antt`. Want of memory may come in place of any answer.
-pub fn parse(alloc: Global, bytes: &[u8], tokens: &[Token]) -> Result<Tree, ParseFault>
-    requires sound { lex.refusal_of bytes.now ≡ None }
-    requires tokens { tokens.now ≡ tokens_of bytes.now }
-    ensures accepted { IfOk result (λ tree. refusal_of bytes.now ≡ None) }
-    ensures tree { IfOk result (λ tree. tree ≡ tree_of bytes.now) }
-    ensures nest { IfOk result (λ tree. open_after [] tree.statements ≡ Some []) }
-    ensures refused { IfErr result (IsRefusal (refusal_of bytes.now)) }
-{
-    let mut state = State::new(alloc);
-    let mut at = 0;
-    while at < tokens.len() {
-        let rest = &tokens[at..];
-        let len = line_len(rest);
-        let line = &rest[..len];
-        if let Some(rule) = take_line(alloc, bytes, &mut state, line)? {
-            let line = number_of(line);
-            return Err(ParseFault::At { line, rule });
-        }
-        at += len;
-    }
-    if let Some(rule) = rule_at_end(&state) {
-        let line = line_count(bytes) as u32 + 1;
-        return Err(ParseFault::At { line, rule });
-    }
-    let State { tree, .. } = state;
-    Ok(tree)
 }

@@ -1,9 +1,10 @@
 ghost use Rattle.std.specs.Prelude.{◌≡◌};
 
 use nim_base::NoMemory;
+use nim_lex::Refusal;
 
 /// Why a part of a line was not read.
-#[derive(Clone, Copy, Debug, PartialEq, Eq)]
+#[derive(Clone, Copy)]
 pub enum Unread {
     /// The line has not the form.
     Malformed,
@@ -23,9 +24,8 @@ impl From<NoMemory> for Unread {
 /// Why there is no tree.
 #[derive(Clone, Copy, Debug, PartialEq, Eq)]
 pub enum ParseFault {
-    /// A rule refuses this line. Where something is missing at the end of the file, it is the line
-    /// behind the last. The rules are listed in `specs/Rules.antt`.
-    At { line: u32, rule: u8 },
+    /// The rules are listed in `specs/Rules.antt`.
+    At(Refusal),
     NoMemory,
 }
 

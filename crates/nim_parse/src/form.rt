@@ -1,7 +1,7 @@
 use crate::{Block, Line, Stage, Steps, Var};
 
 /// What a line of a driver is.
-#[derive(Debug, Drop)]
+#[derive(Drop)]
 pub enum Form {
     /// `nimbus 1`.
     Header,
@@ -16,7 +16,7 @@ pub enum Form {
 }
 
 /// The first word of a line, where a line of the grammar may begin with it.
-#[derive(Clone, Copy, Debug, PartialEq, Eq)]
+#[derive(Clone, Copy)]
 pub enum Head {
     Nimbus,
     Steps,
@@ -36,7 +36,7 @@ pub enum Head {
 }
 
 /// What was read of a line.
-#[derive(Debug, Drop)]
+#[derive(Drop)]
 pub struct Found {
     pub head: Head,
     /// What the line is, if it has the form of one.

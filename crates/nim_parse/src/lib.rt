@@ -2,27 +2,23 @@
 #![tactic(auto)]
 
 mod cursor;
-mod data;
-mod data_lines;
 mod driver;
 mod fault;
 mod form;
 mod lines;
+mod lists;
 mod nest;
-mod part;
 mod parts;
 mod rules;
+mod sections;
 mod state;
 mod statements;
-#[cfg(test)]
-mod tests;
 mod tree;
 
-pub use data::parse_data;
-pub use driver::{line_count, parse};
+pub use driver::parse;
 pub use fault::ParseFault;
-pub use part::Part;
-pub use tree::{
-    Atom, Block, Condition, Expression, Index, Init, Line, Operator, Ref, Relation, Stage,
-    Statement, Steps, Tree, Var,
+pub use sections::{
+    Atom, Block, Condition, Expression, Index, Init, Line, Operator, Ref, Relation, Sections,
+    Stage, Statement, Steps, Var,
 };
+pub use tree::Tree;

@@ -7,7 +7,7 @@ use std::alloc::Global;
 use std::marker::Model;
 
 /// What an `end` would close.
-#[derive(Clone, Copy, Debug, PartialEq, Eq)]
+#[derive(Clone, Copy)]
 pub enum Open {
     /// A `loop` or a `while`.
     Turns,
@@ -18,7 +18,7 @@ pub enum Open {
 }
 
 /// The loops, whiles and ifs that stand open. Contracts see them as a list, the innermost first.
-#[derive(Debug, Drop)]
+#[derive(Drop)]
 pub struct Nest {
     stack: Vec<Open>,
 }

@@ -6,39 +6,40 @@ ghost use Rattle.nim_parse.specs.Input.{Reads, name};
 
 use crate::cursor::Cursor;
 use crate::fault::Unread;
+use crate::lists::{Item, ends, listed, some_after};
 use crate::{Atom, Condition, Expression, Index, Init, Operator, Ref, Relation};
 use nim_base::Seq;
 use std::alloc::Global;
 
-fn more_names(
-    alloc: Global,
-    cursor: &mut Cursor<'_>,
-    first: Seq<u8>,
-) -> Result<Seq<Seq<u8>>, Unread>
-    ensures { Reads (spec.more name first cursor.old) result cursor.new }
-{
-    let mut found = Seq::new(alloc);
-    found.push(first)?;
-    for _turn in 0..cursor.left() {
-        if cursor.eat(b")") {
-            return Ok(found);
-        }
-        cursor.expect(b",")?;
-        found.push(cursor.name(alloc)?)?;
+impl Item for Seq<u8> {
+    ghost parser = { name };
+
+    fn read(alloc: Global, cursor: &mut Cursor<'_>) -> Result<Seq<u8>, Unread> {
+        cursor.name(alloc)
     }
-    Err(Unread::Malformed)
+}
+
+impl Item for Atom {
+    ghost parser = { spec.atom };
+
+    fn read(alloc: Global, cursor: &mut Cursor<'_>) -> Result<Atom, Unread> {
+        atom(alloc, cursor)
+    }
+}
+
+impl Item for Ref {
+    ghost parser = { spec.reference };
+
+    fn read(alloc: Global, cursor: &mut Cursor<'_>) -> Result<Ref, Unread> {
+        reference(alloc, cursor)
+    }
 }
 
 #[tactic(auto, unfolding(crate::specs::Grammar::names))]
 pub fn names(alloc: Global, cursor: &mut Cursor<'_>) -> Result<Seq<Seq<u8>>, Unread>
     ensures { Reads (spec.names cursor.old) result cursor.new }
 {
-    cursor.expect(b"(")?;
-    if cursor.eat(b")") {
-        return Ok(Seq::new(alloc));
-    }
-    let first = cursor.name(alloc)?;
-    more_names(alloc, cursor, first)
+    listed(alloc, cursor)
 }
 
 #[tactic(auto, unfolding(crate::specs::Grammar::atom))]
@@ -52,31 +53,11 @@ pub fn atom(alloc: Global, cursor: &mut Cursor<'_>) -> Result<Atom, Unread>
     }
 }
 
-fn more_atoms(alloc: Global, cursor: &mut Cursor<'_>, first: Atom) -> Result<Seq<Atom>, Unread>
-    ensures { Reads (spec.more spec.atom first cursor.old) result cursor.new }
-{
-    let mut found = Seq::new(alloc);
-    found.push(first)?;
-    for _turn in 0..cursor.left() {
-        if cursor.eat(b")") {
-            return Ok(found);
-        }
-        cursor.expect(b",")?;
-        found.push(atom(alloc, cursor)?)?;
-    }
-    Err(Unread::Malformed)
-}
-
 #[tactic(auto, unfolding(crate::specs::Grammar::atoms))]
 pub fn atoms(alloc: Global, cursor: &mut Cursor<'_>) -> Result<Seq<Atom>, Unread>
     ensures { Reads (spec.atoms cursor.old) result cursor.new }
 {
-    cursor.expect(b"(")?;
-    if cursor.eat(b")") {
-        return Ok(Seq::new(alloc));
-    }
-    let first = atom(alloc, cursor)?;
-    more_atoms(alloc, cursor, first)
+    listed(alloc, cursor)
 }
 
 #[tactic(auto, unfolding(crate::specs::Grammar::own_index))]
@@ -141,47 +122,12 @@ pub fn reads(alloc: Global, cursor: &mut Cursor<'_>) -> Result<Seq<Ref>, Unread>
     Err(Unread::Malformed)
 }
 
-#[tactic(auto, unfolding(crate::specs::Grammar::ends))]
-fn ends(cursor: &Cursor<'_>) -> bool
-    ensures { result ≡ spec.ends cursor.now }
-{
-    cursor.left() == 0 || cursor.sees(b"with") || cursor.sees(b"each")
-}
-
-fn more_writes(alloc: Global, cursor: &mut Cursor<'_>, first: Ref) -> Result<Seq<Ref>, Unread>
-    ensures { Reads (spec.writes_after first cursor.old) result cursor.new }
-{
-    let mut found = Seq::new(alloc);
-    found.push(first)?;
-    for _turn in 0..cursor.left() {
-        if ends(cursor) {
-            return Ok(found);
-        }
-        found.push(reference(alloc, cursor)?)?;
-    }
-    Ok(found)
-}
-
 #[tactic(auto, unfolding(crate::specs::Grammar::writes))]
 pub fn writes(alloc: Global, cursor: &mut Cursor<'_>) -> Result<Seq<Ref>, Unread>
     ensures { Reads (spec.writes cursor.old) result cursor.new }
 {
     let first = reference(alloc, cursor)?;
-    more_writes(alloc, cursor, first)
-}
-
-fn more_values(alloc: Global, cursor: &mut Cursor<'_>, first: Atom) -> Result<Seq<Atom>, Unread>
-    ensures { Reads (spec.values_after first cursor.old) result cursor.new }
-{
-    let mut found = Seq::new(alloc);
-    found.push(first)?;
-    for _turn in 0..cursor.left() {
-        if ends(cursor) {
-            return Ok(found);
-        }
-        found.push(atom(alloc, cursor)?)?;
-    }
-    Ok(found)
+    some_after(alloc, cursor, first)
 }
 
 #[tactic(auto, unfolding(crate::specs::Grammar::values))]
@@ -192,7 +138,7 @@ fn values(alloc: Global, cursor: &mut Cursor<'_>) -> Result<Seq<Atom>, Unread>
         return Err(Unread::Malformed);
     }
     let first = atom(alloc, cursor)?;
-    more_values(alloc, cursor, first)
+    some_after(alloc, cursor, first)
 }
 
 #[tactic(auto, unfolding(crate::specs::Grammar::parameters))]

@@ -3,12 +3,12 @@ ghost use Rattle.nim_parse.specs.States.{after, first, with_block_end, with_stag
 
 use crate::form::Form;
 use crate::nest::Nest;
-use crate::{Block, Line, Stage, Tree};
+use crate::{Block, Line, Sections, Stage};
 use nim_base::{NoMemory, Seq};
 use std::alloc::Global;
 
 /// How far a driver was read.
-#[derive(Clone, Copy, Debug, PartialEq, Eq)]
+#[derive(Clone, Copy)]
 pub enum Phase {
     /// No line with tokens yet.
     Start,
@@ -22,14 +22,14 @@ pub enum Phase {
 }
 
 /// What the lines so far were.
-#[derive(Debug, Drop)]
+#[derive(Drop)]
 pub struct State {
     pub phase: Phase,
     /// The loops, whiles and ifs that stand open.
     pub opened: Nest,
     /// The block that stands open.
     pub block: Option<Block>,
-    pub tree: Tree,
+    pub sections: Sections,
 }
 
 impl State {
@@ -41,7 +41,7 @@ impl State {
             phase: Phase::Start,
             opened: Nest::new(alloc),
             block: None,
-            tree: Tree {
+            sections: Sections {
                 steps: None,
                 vars: Seq::new(alloc),
                 blocks: Seq::new(alloc),
@@ -64,7 +64,7 @@ impl State {
     {
         self.phase = Phase::Blocks;
         if let Some(block) = self.block.take() {
-            self.tree.blocks.push(block)?;
+            self.sections.blocks.push(block)?;
         }
         Ok(())
     }
@@ -74,7 +74,7 @@ impl State {
     {
         self.phase = Phase::Statements;
         self.opened.take(&line.statement)?;
-        self.tree.statements.push(line)?;
+        self.sections.statements.push(line)?;
         Ok(())
     }
 
@@ -89,12 +89,12 @@ impl State {
             }
             Form::Steps(steps) => {
                 self.phase = Phase::Vars;
-                self.tree.steps = Some(steps);
+                self.sections.steps = Some(steps);
                 Ok(())
             }
             Form::Var(var) => {
                 self.phase = Phase::Vars;
-                self.tree.vars.push(var)
+                self.sections.vars.push(var)
             }
             Form::Block(block) => {
                 self.phase = Phase::Blocks;

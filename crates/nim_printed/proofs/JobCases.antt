@@ -20,9 +20,9 @@ use Rattle.nim_job.specs.Whole as whole
 use Rattle.nim_job.specs.Whole.{Scan, is_call, scan_all, scan_body, scan_of, scan_stmt}
 use Rattle.nim_parse.specs.declared.nest.Open.{Open}
 use Rattle.nim_parse.specs.declared.nest.Open.TheVariants as opening
-use Rattle.nim_parse.specs.declared.tree.Block.{Block}
-use Rattle.nim_parse.specs.declared.tree.Statement.{Statement}
-use Rattle.nim_parse.specs.declared.tree.Statement.TheVariants.{Do, Let, Get, Loop, While, If, Checkpoint, Output}
+use Rattle.nim_parse.specs.declared.sections.Block.{Block}
+use Rattle.nim_parse.specs.declared.sections.Statement.{Statement}
+use Rattle.nim_parse.specs.declared.sections.Statement.TheVariants.{Do, Let, Get, Loop, While, If, Checkpoint, Output}
 use Rattle.nim_check.specs.Body.{Body, atom_of, cond_of, first_of, onto, opened, rest_of}
 use Rattle.nim_check.specs.Made.{block_names}
 use Rattle.nim_check.specs.Names.{Word, has_twice, place_in}

@@ -5,10 +5,10 @@ use Rattle.std.specs.Prelude.{◌&&◌, nat_le, if◌then◌else◌}
 use Rattle.std.specs.List.{list_all, list_any}
 use Rattle.std.proofs.lemmas.Bool.{le-ltb, not_from_true}
 use Rattle.nim_parse.specs.declared.nest.Open.{Open}
-use Rattle.nim_parse.specs.declared.tree.Block.{Block}
-use Rattle.nim_parse.specs.declared.tree.Line.{Line}
-use Rattle.nim_parse.specs.declared.tree.Statement.{Statement}
-use Rattle.nim_parse.specs.declared.tree.Tree.{Tree}
+use Rattle.nim_parse.specs.declared.sections.Block.{Block}
+use Rattle.nim_parse.specs.declared.sections.Line.{Line}
+use Rattle.nim_parse.specs.declared.sections.Statement.{Statement}
+use Rattle.nim_parse.specs.declared.sections.Sections.{Sections}
 use Rattle.nim_parse.specs.Nesting.{may_stand, nested, open_after}
 use Rattle.nim_check.specs.declared.body.Names.{Names}
 use Rattle.nim_check.specs.Body.{Body, bodies_of, no_body, with_line}
@@ -89,7 +89,7 @@ pub sound_both : (vars : List Word) (blocks : List Block) (past : Past) (xs ys :
 sound_both vars blocks past [] ys first second = second
 sound_both vars blocks past (x ∷ xs) ys first second = (first.0, sound_both vars blocks (past_with past x) xs ys first.1 second)
 
-statement_passes : (tree : Tree) (past : Past) (line : Line) → IsSound (var_names tree.vars) tree.blocks past line.statement → rule_of (at_statement tree past line) ≡ None
+statement_passes : (tree : Sections) (past : Past) (line : Line) → IsSound (var_names tree.vars) tree.blocks past line.statement → rule_of (at_statement tree past line) ≡ None
 unfolding rule_of
 statement_passes tree past line sound =
     let site = at_statement tree past line in
@@ -100,7 +100,7 @@ statement_passes tree past line sound =
     (no_rule (rule_53 site) 53 _ (not_from_true (list_all (is_known past.scalars) (read_by line.statement)) sound.known)
     (no_rule (rule_54 site) 54 _ sound.shallow refl)))))
 
-pub statements_pass : (tree : Tree) (past : Past) (line : ℕ) (ss : List Statement) → AreSound (var_names tree.vars) tree.blocks past ss
+pub statements_pass : (tree : Sections) (past : Past) (line : ℕ) (ss : List Statement) → AreSound (var_names tree.vars) tree.blocks past ss
     → first_refusal (statement_sites tree past (lines_for line ss)) ≡ None
 statements_pass tree past line [] sound = refl
 statements_pass tree past line (s ∷ ss) sound =

@@ -2,7 +2,7 @@
 use Rattle.std.proofs.Common.{Option, ap, ◌∙◌}
 use Rattle.std.specs.Option.{option_or}
 use Rattle.nim_job.specs.declared.job.Job.{Job}
-use Rattle.nim_lex.specs.Source.{Refusal}
+use Rattle.nim_lex.specs.declared.fault.Refusal.{Refusal}
 use Rattle.nim_parse.specs.Driver as parse
 use Rattle.nim_check.specs.Made.{job_of}
 use Rattle.nim_check.specs.Refusals.{refusal_of}

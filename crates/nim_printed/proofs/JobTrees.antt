@@ -13,9 +13,9 @@ use Rattle.nim_job.specs.declared.stmt.Stmt.TheOpen.{Stmt-F}
 use Rattle.nim_job.specs.Whole as whole
 use Rattle.nim_job.specs.Whole.{Scan, is_call, scalars_of, scan_all, scan_body, scan_of, scan_stmt}
 use Rattle.nim_parse.specs.declared.nest.Open.TheVariants as opening
-use Rattle.nim_parse.specs.declared.tree.Block.{Block}
-use Rattle.nim_parse.specs.declared.tree.Statement.{Statement}
-use Rattle.nim_parse.specs.declared.tree.Statement.TheVariants.{Do, Let, Get, Loop, While, If, Checkpoint, Output}
+use Rattle.nim_parse.specs.declared.sections.Block.{Block}
+use Rattle.nim_parse.specs.declared.sections.Statement.{Statement}
+use Rattle.nim_parse.specs.declared.sections.Statement.TheVariants.{Do, Let, Get, Loop, While, If, Checkpoint, Output}
 use Rattle.nim_printed.specs.Printer.{atom_for, block_name, condition_for, else_for, joined, scalar_name, statements_of, stmt_for, value_for, var_name}
 use Rattle.nim_printed.specs.Spelled as spelled
 use Rattle.nim_printed.specs.Spelled.{all_true, is_small, is_stmt}

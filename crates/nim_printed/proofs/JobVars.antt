@@ -11,7 +11,7 @@ use Rattle.nim_job.specs.declared.job.Init.TheVariants as init
 use Rattle.nim_job.specs.declared.job.Var.{Var as job_var}
 use Rattle.nim_job.specs.Objects.{objects_of}
 use Rattle.nim_job.specs.Whole.{cells_in, is_var}
-use Rattle.nim_parse.specs.declared.tree.Var.{Var}
+use Rattle.nim_parse.specs.declared.sections.Var.{Var}
 use Rattle.nim_check.specs.Made.{init_of, var_names, var_of}
 use Rattle.nim_check.specs.Names.{Word, has_twice, is_in, reserved}
 use Rattle.nim_check.specs.Refusals.{first_refusal}

@@ -11,11 +11,11 @@ use Rattle.nim_job.specs.declared.job.Job.{Job}
 use Rattle.nim_job.specs.declared.job.Var.{Var as job_var}
 use Rattle.nim_job.specs.declared.stmt.Stmt.{Stmt, fold-Stmt}
 use Rattle.nim_job.specs.Whole.{are_vars, is_between, is_block, is_checked, is_var, scalars_of}
-use Rattle.nim_parse.specs.declared.tree.Block.{Block}
-use Rattle.nim_parse.specs.declared.tree.Line.{Line}
-use Rattle.nim_parse.specs.declared.tree.Statement.{Statement}
-use Rattle.nim_parse.specs.declared.tree.Steps.{Steps}
-use Rattle.nim_parse.specs.declared.tree.Var.{Var}
+use Rattle.nim_parse.specs.declared.sections.Block.{Block}
+use Rattle.nim_parse.specs.declared.sections.Line.{Line}
+use Rattle.nim_parse.specs.declared.sections.Statement.{Statement}
+use Rattle.nim_parse.specs.declared.sections.Steps.{Steps}
+use Rattle.nim_parse.specs.declared.sections.Var.{Var}
 use Rattle.nim_parse.specs.Nesting.{open_after}
 use Rattle.nim_check.specs.declared.body.Names.{Names}
 use Rattle.nim_check.specs.Body.{body_of, first_body, no_body}

@@ -2,21 +2,21 @@
 use Rattle.std.proofs.Common.{◌≡◌, suc, true, false, List, [], ◌∷◌, ◌++◌, pos, negsuc, refl, sym, ap, append_assoc, Some, None}
 use Rattle.std.specs.Prelude.{ℤ, codes, decimal}
 use Rattle.std.proofs.lemmas.Bool.{and_parts}
-use Rattle.nim_parse.specs.declared.tree.Atom.{Atom}
-use Rattle.nim_parse.specs.declared.tree.Atom.TheVariants.{Number, Name}
-use Rattle.nim_parse.specs.declared.tree.Condition.{Condition}
-use Rattle.nim_parse.specs.declared.tree.Condition.TheVariants.{NotZero, Holds}
-use Rattle.nim_parse.specs.declared.tree.Expression.{Expression}
-use Rattle.nim_parse.specs.declared.tree.Expression.TheVariants.{Alone, Two}
-use Rattle.nim_parse.specs.declared.tree.Index.{Index}
-use Rattle.nim_parse.specs.declared.tree.Index.TheVariants.{Part, Own, After, Before}
-use Rattle.nim_parse.specs.declared.tree.Init.{Init}
-use Rattle.nim_parse.specs.declared.tree.Init.TheVariants.{Fill, Iota, Load}
-use Rattle.nim_parse.specs.declared.tree.Operator.{Operator}
-use Rattle.nim_parse.specs.declared.tree.Operator.TheVariants.{Add, Subtract, Multiply, Divide, Remainder}
-use Rattle.nim_parse.specs.declared.tree.Ref.{Ref}
-use Rattle.nim_parse.specs.declared.tree.Relation.{Relation}
-use Rattle.nim_parse.specs.declared.tree.Relation.TheVariants.{Less, AtMost, Equal, NotEqual, Greater, AtLeast}
+use Rattle.nim_parse.specs.declared.sections.Atom.{Atom}
+use Rattle.nim_parse.specs.declared.sections.Atom.TheVariants.{Number, Name}
+use Rattle.nim_parse.specs.declared.sections.Condition.{Condition}
+use Rattle.nim_parse.specs.declared.sections.Condition.TheVariants.{NotZero, Holds}
+use Rattle.nim_parse.specs.declared.sections.Expression.{Expression}
+use Rattle.nim_parse.specs.declared.sections.Expression.TheVariants.{Alone, Two}
+use Rattle.nim_parse.specs.declared.sections.Index.{Index}
+use Rattle.nim_parse.specs.declared.sections.Index.TheVariants.{Part, Own, After, Before}
+use Rattle.nim_parse.specs.declared.sections.Init.{Init}
+use Rattle.nim_parse.specs.declared.sections.Init.TheVariants.{Fill, Iota, Load}
+use Rattle.nim_parse.specs.declared.sections.Operator.{Operator}
+use Rattle.nim_parse.specs.declared.sections.Operator.TheVariants.{Add, Subtract, Multiply, Divide, Remainder}
+use Rattle.nim_parse.specs.declared.sections.Ref.{Ref}
+use Rattle.nim_parse.specs.declared.sections.Relation.{Relation}
+use Rattle.nim_parse.specs.declared.sections.Relation.TheVariants.{Less, AtMost, Equal, NotEqual, Greater, AtLeast}
 use Rattle.nim_parse.specs.Grammar.{atom, condition, expression, index, init, one_of, operator, operators, own_index, reference, relation, relations}
 use Rattle.nim_parse.specs.Input.{Input, ◌<$>◌, int, name, sees_name}
 use Rattle.nim_printed.specs.Lines.{atom_words, condition_words, index_words, init_words, int_words, operator_word, ref_words, relation_word, value_words}

@@ -3,10 +3,10 @@ use Rattle.std.proofs.Common.{◌≡◌, ℕ, zero, suc, ◌<◌, ◌≤◌, ◌
 use Rattle.std.specs.Prelude.{pos, negsuc, bytes_eq, codes, decimal}
 use Rattle.std.specs.List.{flat_map, list_all}
 use Rattle.std.proofs.lemmas.Bool.{and_parts, false≢true}
-use Rattle.nim_parse.specs.declared.tree.Atom.{Atom}
-use Rattle.nim_parse.specs.declared.tree.Atom.TheVariants.{Number, Name}
-use Rattle.nim_parse.specs.declared.tree.Ref.{Ref}
-use Rattle.nim_parse.specs.Grammar.{atom, atoms, each, ends, listed, more, more_from, names, parameters, reads, reads_from, values, values_after, values_from, writes, writes_after, writes_from}
+use Rattle.nim_parse.specs.declared.sections.Atom.{Atom}
+use Rattle.nim_parse.specs.declared.sections.Atom.TheVariants.{Number, Name}
+use Rattle.nim_parse.specs.declared.sections.Ref.{Ref}
+use Rattle.nim_parse.specs.Grammar.{atom, atoms, each, ends, listed, more, more_from, names, parameters, reads, reads_from, reference, some_after, some_from, values, writes}
 use Rattle.nim_parse.specs.Input.{Input, Parser, has_text, left, name, pure, refuse, sees}
 use Rattle.nim_check.specs.Names.{reserved}
 use Rattle.nim_printed.specs.Lines.{atom_words, each_words, listed_words, more_words, ref_words, with_words}
@@ -199,22 +199,44 @@ each_is_taken : is_free (codes "each") ≡ false
 unfolding reserved
 each_is_taken = refl
 
-refs_written : (n : ℕ) (refs found : List Ref) (rest : List Word) → Ends rest → length refs ≤ n → list_all is_ref refs ≡ true
-    → Reads (writes_from n found) (flat_map ref_words refs ++ rest) (found ++ refs) rest
-unfolding writes_from
-refs_written zero [] found rest end turns are = regives (sym (append-nil found)) (pure_reads found rest)
-refs_written zero (ref ∷ refs) found rest end turns are = absurd (omega arith)
-refs_written (suc n) [] found rest end turns are =
+-- how an item is printed and read in a list without brackets, which goes on with it
+record Plain {A : Type 0} (item : Parser A) (words_of : A → List Word) (passes : A → Bool) : Type 0 where
+  reads_one : (x : A) (rest : List Word) → passes x ≡ true → Reads item (words_of x ++ rest) x rest
+  goes : (x : A) (rest : List Word) → passes x ≡ true → (i : Input) → Spells i.source i.tokens (words_of x ++ rest) → ends i ≡ false
+  longer : (xs : List A) → length xs ≤ length (flat_map words_of xs)
+
+some_given : {A : Type 0} (item : Parser A) (words_of : A → List Word) (passes : A → Bool) → Plain item words_of passes
+    → (n : ℕ) (xs found : List A) (rest : List Word) → Ends rest → length xs ≤ n → list_all passes xs ≡ true
+    → Reads (some_from item n found) (flat_map words_of xs ++ rest) (found ++ xs) rest
+unfolding some_from
+some_given item words_of passes how zero [] found rest end turns are = regives (sym (append-nil found)) (pure_reads found rest)
+some_given item words_of passes how zero (x ∷ xs) found rest end turns are = absurd (omega arith)
+some_given item words_of passes how (suc n) [] found rest end turns are =
     taken_true ends (pure found) _ end.ended (regives (sym (append-nil found)) (pure_reads found rest))
-refs_written (suc n) (ref ∷ refs) found rest end turns are =
-    let both = and_parts (is_ref ref) (list_all is_ref refs) are in
-    let after : List Word = flat_map ref_words refs ++ rest in
-    let later = refs_written n refs (found ++ ref ∷ []) rest end (omega arith) both.1 in
-    respells (sym (append_assoc (ref_words ref) (flat_map ref_words refs) rest))
-    (regives (append_assoc found (ref ∷ []) refs)
-    (taken_false ends (pure found) _
-    (goes_on ref.name _ (ref_differs ref (codes "with") both.0 with_is_taken) (ref_differs ref (codes "each") both.0 each_is_taken))
-    (then_reads _ (reference_reads ref after both.0) later)))
+some_given item words_of passes how (suc n) (x ∷ xs) found rest end turns are =
+    let both = and_parts (passes x) (list_all passes xs) are in
+    let after : List Word = flat_map words_of xs ++ rest in
+    let later = some_given item words_of passes how n xs (found ++ x ∷ []) rest end (omega arith) both.1 in
+    respells (sym (append_assoc (words_of x) (flat_map words_of xs) rest))
+    (regives (append_assoc found (x ∷ []) xs)
+    (taken_false ends (pure found) _ (how.goes x after both.0) (then_reads _ (how.reads_one x after both.0) later)))
+
+-- the items behind the first
+some_at : {A : Type 0} (item : Parser A) (words_of : A → List Word) (passes : A → Bool) → Plain item words_of passes
+    → (x : A) (xs : List A) (rest : List Word) → Ends rest → list_all passes xs ≡ true
+    → Reads (some_after item x) (flat_map words_of xs ++ rest) (x ∷ xs) rest
+some_at item words_of passes how x xs rest end are =
+    let words : List Word = flat_map words_of xs in
+    counted_reads (λ n. some_from item n (x ∷ []))
+    (some_given item words_of passes how (length (words ++ rest)) xs (x ∷ []) rest end (omega (arith, how.longer xs, length-append words rest)) are)
+
+ref_plain : Plain reference ref_words is_ref
+ref_plain = record {
+  reads_one = reference_reads;
+  goes = λ ref rest are.
+      goes_on ref.name _ (ref_differs ref (codes "with") are with_is_taken) (ref_differs ref (codes "each") are each_is_taken);
+  longer = refs_length;
+}
 
 pub writes_reads : (refs : List Ref) (rest : List Word) → Ends rest → is_some_refs refs ≡ true → Reads writes (flat_map ref_words refs ++ rest) refs rest
 unfolding writes
@@ -222,9 +244,8 @@ writes_reads [] rest end are = absurd (false≢true are)
 writes_reads (ref ∷ refs) rest end are =
     let both = and_parts (is_ref ref) (list_all is_ref refs) are in
     let words : List Word = flat_map ref_words refs in
-    let later = counted_reads (λ n. writes_from n (ref ∷ []))
-    (refs_written (length (words ++ rest)) refs (ref ∷ []) rest end (omega (arith, refs_length refs, length-append words rest)) both.1) in
-    respells (sym (append_assoc (ref_words ref) words rest)) (then_reads writes_after (reference_reads ref (words ++ rest) both.0) later)
+    let later = some_at reference ref_words is_ref ref_plain ref refs rest end both.1 in
+    respells (sym (append_assoc (ref_words ref) words rest)) (then_reads (some_after reference) (reference_reads ref (words ++ rest) both.0) later)
 
 atoms_length : (xs : List Atom) → length xs ≤ length (flat_map atom_words xs)
 atoms_length [] = omega arith
@@ -238,20 +259,8 @@ atom_goes_on x rest are i spelled =
     (atom_differs x (codes "each") are each_is_taken (λ n small. decimal_differs n (codes "each") small refl) refl)
     i (subst (λ (ws : List Word). Spells i.source i.tokens (ws ++ rest)) (atom_begins x) spelled)
 
-atoms_given : (n : ℕ) (xs found : List Atom) (rest : List Word) → Ends rest → length xs ≤ n → list_all is_atom xs ≡ true
-    → Reads (values_from n found) (flat_map atom_words xs ++ rest) (found ++ xs) rest
-unfolding values_from
-atoms_given zero [] found rest end turns are = regives (sym (append-nil found)) (pure_reads found rest)
-atoms_given zero (x ∷ xs) found rest end turns are = absurd (omega arith)
-atoms_given (suc n) [] found rest end turns are =
-    taken_true ends (pure found) _ end.ended (regives (sym (append-nil found)) (pure_reads found rest))
-atoms_given (suc n) (x ∷ xs) found rest end turns are =
-    let both = and_parts (is_atom x) (list_all is_atom xs) are in
-    let after : List Word = flat_map atom_words xs ++ rest in
-    let later = atoms_given n xs (found ++ x ∷ []) rest end (omega arith) both.1 in
-    respells (sym (append_assoc (atom_words x) (flat_map atom_words xs) rest))
-    (regives (append_assoc found (x ∷ []) xs)
-    (taken_false ends (pure found) _ (atom_goes_on x after both.0) (then_reads _ (atom_reads x after both.0) later)))
+atom_plain : Plain atom atom_words is_atom
+atom_plain = record { reads_one = atom_reads; goes = atom_goes_on; longer = atoms_length }
 
 values_reads : (x : Atom) (xs : List Atom) (rest : List Word) → Ends rest → list_all is_atom (x ∷ xs) ≡ true
     → Reads values (flat_map atom_words (x ∷ xs) ++ rest) (x ∷ xs) rest
@@ -259,10 +268,9 @@ unfolding values
 values_reads x xs rest end are =
     let both = and_parts (is_atom x) (list_all is_atom xs) are in
     let words : List Word = flat_map atom_words xs in
-    let later = counted_reads (λ n. values_from n (x ∷ []))
-    (atoms_given (length (words ++ rest)) xs (x ∷ []) rest end (omega (arith, atoms_length xs, length-append words rest)) both.1) in
+    let later = some_at atom atom_words is_atom atom_plain x xs rest end both.1 in
     respells (sym (append_assoc (atom_words x) words rest))
-    (taken_false ends refuse _ (atom_goes_on x (words ++ rest) both.0) (then_reads values_after (atom_reads x (words ++ rest) both.0) later))
+    (taken_false ends refuse _ (atom_goes_on x (words ++ rest) both.0) (then_reads (some_after atom) (atom_reads x (words ++ rest) both.0) later))
 
 -- ---- what stands behind the refs of a stage
 

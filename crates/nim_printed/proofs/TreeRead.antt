@@ -4,15 +4,16 @@ use Rattle.std.specs.List.{flat_map, list_all}
 use Rattle.std.proofs.lemmas.Bool.{and_parts, false≢true}
 use Rattle.std.proofs.lemmas.List.{length-map}
 use Rattle.nim_lex.specs.declared.token.Token.{Token}
-use Rattle.nim_lex.specs.Source.{tokens_of}
+use Rattle.nim_lex.specs.Refusals.{refused}
+use Rattle.nim_lex.specs.Source.{line_count, tokens_of}
 use Rattle.nim_parse.specs.declared.nest.Open.{Open}
 use Rattle.nim_parse.specs.declared.state.Phase.{Phase}
 use Rattle.nim_parse.specs.declared.state.Phase.TheVariants as phase
 use Rattle.nim_parse.specs.declared.state.State.{State}
-use Rattle.nim_parse.specs.declared.tree.Line.{Line}
-use Rattle.nim_parse.specs.declared.tree.Steps.{Steps}
-use Rattle.nim_parse.specs.declared.tree.Tree.{Tree}
-use Rattle.nim_parse.specs.Driver.{after_lines, first_refusal, line_count, lines, refused}
+use Rattle.nim_parse.specs.declared.sections.Line.{Line}
+use Rattle.nim_parse.specs.declared.sections.Steps.{Steps}
+use Rattle.nim_parse.specs.declared.sections.Sections.{Sections}
+use Rattle.nim_parse.specs.Driver.{after_lines, first_refusal, lines}
 use Rattle.nim_parse.specs.Nesting.{open_after}
 use Rattle.nim_parse.specs.Rules.{rule_at_end}
 use Rattle.nim_parse.specs.States.{first}
@@ -44,21 +45,21 @@ steps_go None small = refl
 steps_go (Some steps) small = (outside phase.Vars [] (record empty { steps = steps_numbered (Some steps) }), steps_passes empty steps.most small, refl)
 
 -- the phase at the end
-abbrev last_phase : Tree → Phase
+abbrev last_phase : Sections → Phase
 last_phase tree = moved (moved (moved (begun_in tree.steps) phase.Vars tree.vars) phase.Blocks tree.blocks) phase.Statements tree.statements
 
-abbrev at_end : Tree → State
+abbrev at_end : Sections → State
 at_end tree = outside (last_phase tree) [] (numbered tree)
 
 -- which lines a tree can be printed in
-record Parts (tree : Tree) : Type 0 where
+record Parts (tree : Sections) : Type 0 where
   steps : is_steps tree.steps ≡ true
   vars : list_all is_var tree.vars ≡ true
   blocks : list_all is_block tree.blocks ≡ true
   statements : list_all (λ (line : Line). is_statement line.statement) tree.statements ≡ true
   nest : open_after [] tree.statements ≡ Some []
 
-parts_of : (tree : Tree) → is_printable tree ≡ true → Parts tree
+parts_of : (tree : Sections) → is_printable tree ≡ true → Parts tree
 parts_of tree printable =
     let a = and_parts _ _ printable in
     let b = and_parts _ _ a.0 in
@@ -66,18 +67,18 @@ parts_of tree printable =
     let e = and_parts (is_steps tree.steps) (list_all is_var tree.vars) d.0 in
     record { steps = e.0; vars = e.1; blocks = d.1; statements = b.1; nest = closed_all (open_after [] tree.statements) a.1 }
 
-middle_vars : (tree : Tree) → is_middle (moved (begun_in tree.steps) phase.Vars tree.vars) ≡ true
+middle_vars : (tree : Sections) → is_middle (moved (begun_in tree.steps) phase.Vars tree.vars) ≡ true
 middle_vars tree = early_middle _ (moved_passes is_early (begun_in tree.steps) phase.Vars tree.vars (begun_early tree.steps) refl)
 
-begun_blocks : (tree : Tree) → is_begun (moved (moved (begun_in tree.steps) phase.Vars tree.vars) phase.Blocks tree.blocks) ≡ true
+begun_blocks : (tree : Sections) → is_begun (moved (moved (begun_in tree.steps) phase.Vars tree.vars) phase.Blocks tree.blocks) ≡ true
 begun_blocks tree =
     middle_begun _ (moved_passes is_middle (moved (begun_in tree.steps) phase.Vars tree.vars) phase.Blocks tree.blocks (middle_vars tree) refl)
 
-begun_end : (tree : Tree) → is_begun (last_phase tree) ≡ true
+begun_end : (tree : Sections) → is_begun (last_phase tree) ≡ true
 begun_end tree = moved_passes is_begun (moved (moved (begun_in tree.steps) phase.Vars tree.vars) phase.Blocks tree.blocks) phase.Statements tree.statements (begun_blocks tree) refl
 
 -- no line of a tree is refused, and they make the tree with its lines' numbers
-tree_goes : (tree : Tree) → Parts tree → Goes first 1 (tree_words tree) (at_end tree)
+tree_goes : (tree : Sections) → Parts tree → Goes first 1 (tree_words tree) (at_end tree)
 tree_goes tree parts =
     let steps : List (List Word) = steps_lines tree.steps in
     let vars : List (List Word) = map var_words tree.vars in
@@ -86,9 +87,9 @@ tree_goes tree parts =
     let at_vars : ℕ = 2 + length steps in
     let at_blocks : ℕ = at_vars + length tree.vars in
     let at_statements : ℕ = at_blocks + length blocks in
-    let a : Tree = record empty { steps = steps_numbered tree.steps } in
-    let b : Tree = record a { vars = vars_numbered at_vars tree.vars } in
-    let d : Tree = record b { blocks = blocks_numbered at_blocks tree.blocks } in
+    let a : Sections = record empty { steps = steps_numbered tree.steps } in
+    let b : Sections = record a { vars = vars_numbered at_vars tree.vars } in
+    let d : Sections = record b { blocks = blocks_numbered at_blocks tree.blocks } in
     let p : Phase = begun_in tree.steps in
     let q : Phase = moved p phase.Vars tree.vars in
     let r : Phase = moved q phase.Blocks tree.blocks in
@@ -101,11 +102,11 @@ tree_goes tree parts =
     (statements_go r [] d at_statements tree.statements [] (begun_blocks tree) parts.statements parts.nest) in
     (outside phase.Header [] empty, header_passes, to_end)
 
-sound_end : (p : Phase) (t : Tree) → is_begun p ≡ true → rule_at_end (outside p [] t) ≡ None
+sound_end : (p : Phase) (t : Sections) → is_begun p ≡ true → rule_at_end (outside p [] t) ≡ None
 unfolding rule_at_end
 sound_end p t begun = rw (begun_no_start p begun) refl
 
-pub tree_read : (tree : Tree) → is_printable tree ≡ true → numbered tree ≡ tree → IsLexed (tree_words tree) → IsParsed tree
+pub tree_read : (tree : Sections) → is_printable tree ≡ true → numbered tree ≡ tree → IsLexed (tree_words tree) → IsParsed tree
 tree_read tree printable same lexed =
     let all : List (List Word) = tree_words tree in
     let source : List ℕ = lines_text all in
@@ -116,9 +117,9 @@ tree_read tree printable same lexed =
     let walk = walked source first 1 all (at_end tree) (grouped 1 0 all) goes (lines_spell source 1 0 all are lexed.texts) in
     record {
       sound = ap (first_refusal source first) groups ∙ walk.1 ∙ ap (refused (line_count source + 1)) (sound_end (last_phase tree) (numbered tree) (begun_end tree));
-      tree_is = ap (λ (tss : List (List Token)). (after_lines source first tss).tree) groups ∙ ap (λ (st : State). st.tree) walk.0 ∙ same;
+      tree_is = ap (λ (tss : List (List Token)). (after_lines source first tss).sections) groups ∙ ap (λ (st : State). st.sections) walk.0 ∙ same;
     }
 
 -- A tree is read back where its words are.
-pub tree_read_by_words : (tree : Tree) → WordsAreRead (tree_words tree) → TreeIsRead tree
+pub tree_read_by_words : (tree : Sections) → WordsAreRead (tree_words tree) → TreeIsRead tree
 tree_read_by_words tree words printable same short = tree_read tree printable same (words (tree_words_are tree printable) short)

@@ -5,7 +5,8 @@ use Rattle.std.proofs.lemmas.Int.{ints}
 use Rattle.std.proofs.lemmas.Bool.{ne_eqb}
 use Rattle.nim_lex.specs.declared.token.Token.{Token}
 use Rattle.nim_lex.specs.Texts.{is_name, text_of}
-use Rattle.nim_parse.specs.Input.{Input, Parser, and_then, ◌>>=◌, pure, after, done, eat, expect, first_name, first_number, has_text, in_range, int, left, name, next, number, sees, sees_name, signed, with_sign}
+use Rattle.nim_lex.specs.Numbers.{in_range, signed}
+use Rattle.nim_parse.specs.Input.{Input, Parser, and_then, ◌>>=◌, pure, after, done, eat, expect, first_name, first_number, has_text, int, left, name, next, number, sees, sees_name, with_sign}
 use Rattle.nim_printed.specs.Lines.{int_words}
 use Rattle.nim_printed.specs.Spelled.{is_int, is_small}
 use Rattle.nim_printed.specs.Words.{Word, kind_of}

@@ -9,14 +9,14 @@ use Rattle.nim_parse.specs.declared.nest.Open.{Open}
 use Rattle.nim_parse.specs.declared.state.Phase.{Phase}
 use Rattle.nim_parse.specs.declared.state.Phase.TheVariants as phase
 use Rattle.nim_parse.specs.declared.state.State.{State}
-use Rattle.nim_parse.specs.declared.tree.Block.{Block}
-use Rattle.nim_parse.specs.declared.tree.Line.{Line}
-use Rattle.nim_parse.specs.declared.tree.Stage.{Stage}
-use Rattle.nim_parse.specs.declared.tree.Statement.{Statement}
-use Rattle.nim_parse.specs.declared.tree.Statement.TheVariants.{Do, Let, Get, Loop, While, If, Else, End, Checkpoint, Output}
-use Rattle.nim_parse.specs.declared.tree.Steps.{Steps}
-use Rattle.nim_parse.specs.declared.tree.Tree.{Tree}
-use Rattle.nim_parse.specs.declared.tree.Var.{Var}
+use Rattle.nim_parse.specs.declared.sections.Block.{Block}
+use Rattle.nim_parse.specs.declared.sections.Line.{Line}
+use Rattle.nim_parse.specs.declared.sections.Stage.{Stage}
+use Rattle.nim_parse.specs.declared.sections.Statement.{Statement}
+use Rattle.nim_parse.specs.declared.sections.Statement.TheVariants.{Do, Let, Get, Loop, While, If, Else, End, Checkpoint, Output}
+use Rattle.nim_parse.specs.declared.sections.Steps.{Steps}
+use Rattle.nim_parse.specs.declared.sections.Sections.{Sections}
+use Rattle.nim_parse.specs.declared.sections.Var.{Var}
 use Rattle.nim_parse.specs.Grammar.{on_line}
 use Rattle.nim_parse.specs.Nesting.{may_stand, nested, open_after}
 use Rattle.nim_parse.specs.Rules.{begins_block, begins_steps, begins_var, is_start, rule_of}
@@ -30,12 +30,12 @@ use Rattle.nim_printed.proofs.TreeWalk.{Goes, Passes, as_found, begins_with, fre
 -- ---- states
 
 -- a state outside blocks
-abbrev pub outside : Phase → List Open → Tree → State
-outside p opened t = record { phase = p; opened = opened; block = None; tree = t }
+abbrev pub outside : Phase → List Open → Sections → State
+outside p opened t = record { phase = p; opened = opened; block = None; sections = t }
 
 -- a state inside a block
-abbrev within : Block → Tree → State
-within b t = record { phase = phase.Blocks; opened = []; block = Some b; tree = t }
+abbrev within : Block → Sections → State
+within b t = record { phase = phase.Blocks; opened = []; block = Some b; sections = t }
 
 -- the phase behind some lines of a kind
 abbrev pub moved : {A : Type 0} → Phase → Phase → List A → Phase
@@ -89,7 +89,7 @@ begun_no_start phase.Statements begun = refl
 
 -- ---- the first lines
 
-abbrev pub empty : Tree
+abbrev pub empty : Sections
 empty = record { steps = None; vars = []; blocks = []; statements = [] }
 
 header_sound : rule_of first (as_found head.Nimbus form.Header) ≡ None
@@ -99,11 +99,11 @@ header_sound = refl
 pub header_passes : Passes first 1 (codes "nimbus" ∷ codes "1" ∷ []) (outside phase.Header [] empty)
 header_passes = line_passes first 1 _ head.Nimbus form.Header (begins_with head.Nimbus (codes "nimbus") _ refl) (header_line 1) header_sound
 
-steps_sound : (t : Tree) (s : Steps) → rule_of (outside phase.Header [] t) (as_found head.Steps (form.Steps s)) ≡ None
+steps_sound : (t : Sections) (s : Steps) → rule_of (outside phase.Header [] t) (as_found head.Steps (form.Steps s)) ≡ None
 unfolding rule_of
 steps_sound t s = refl
 
-pub steps_passes : (t : Tree) (most : ℕ) → is_small most ≡ true
+pub steps_passes : (t : Sections) (most : ℕ) → is_small most ≡ true
     → Passes (outside phase.Header [] t) 2 (codes "steps" ∷ decimal most ∷ []) (outside phase.Vars [] (record t { steps = Some (record { line = 2; most = most }) }))
 steps_passes t most small =
     line_passes (outside phase.Header [] t) 2 _ head.Steps (form.Steps (record { line = 2; most = most }))
@@ -111,7 +111,7 @@ steps_passes t most small =
 
 -- ---- variables
 
-var_sound : (p : Phase) (t : Tree) (v : Var) → is_early p ≡ true → rule_of (outside p [] t) (as_found head.Var (form.Var v)) ≡ None
+var_sound : (p : Phase) (t : Sections) (v : Var) → is_early p ≡ true → rule_of (outside p [] t) (as_found head.Var (form.Var v)) ≡ None
 unfolding rule_of
 var_sound phase.Start t v early = absurd (false≢true early)
 var_sound phase.Header t v early = refl
@@ -119,14 +119,14 @@ var_sound phase.Vars t v early = refl
 var_sound phase.Blocks t v early = absurd (false≢true early)
 var_sound phase.Statements t v early = absurd (false≢true early)
 
-pub vars_go : (p : Phase) (t : Tree) (line : ℕ) (vars : List Var) → is_early p ≡ true → list_all is_var vars ≡ true
+pub vars_go : (p : Phase) (t : Sections) (line : ℕ) (vars : List Var) → is_early p ≡ true → list_all is_var vars ≡ true
     → Goes (outside p [] t) line (map var_words vars) (outside (moved p phase.Vars vars) [] (record t { vars = t.vars ++ vars_numbered line vars }))
 vars_go p t line [] early are = ap (λ (vs : List Var). outside p [] (record t { vars = vs })) (sym (append-nil t.vars))
 vars_go p t line (v ∷ vars) early are =
     let both = and_parts (is_var v) (list_all is_var vars) are in
     let here : Var = record v { line = line } in
     let more : List Var = vars_numbered (line + 1) vars in
-    let now : Tree = record t { vars = t.vars ++ here ∷ [] } in
+    let now : Sections = record t { vars = t.vars ++ here ∷ [] } in
     let passes = line_passes (outside p [] t) line (var_words v) head.Var (form.Var here) (begins_with head.Var (codes "var") _ refl) (var_line line v both.0) (var_sound p t here early) in
     let later = vars_go phase.Vars now (line + 1) vars refl both.1 in
     let end : outside (moved phase.Vars phase.Vars vars) [] (record now { vars = now.vars ++ more }) ≡ outside phase.Vars [] (record t { vars = t.vars ++ here ∷ more }) =
@@ -136,11 +136,11 @@ vars_go p t line (v ∷ vars) early are =
 
 -- ---- blocks
 
-stage_sound : (b : Block) (t : Tree) (s : Stage) → rule_of (within b t) (as_found head.Other (form.Stage s)) ≡ None
+stage_sound : (b : Block) (t : Sections) (s : Stage) → rule_of (within b t) (as_found head.Other (form.Stage s)) ≡ None
 unfolding rule_of
 stage_sound b t s = refl
 
-stages_go : (b : Block) (t : Tree) (line : ℕ) (stages : List Stage) → list_all is_stage stages ≡ true
+stages_go : (b : Block) (t : Sections) (line : ℕ) (stages : List Stage) → list_all is_stage stages ≡ true
     → Goes (within b t) line (map stage_words stages) (within (record b { stages = b.stages ++ stages_numbered line stages }) t)
 stages_go b t line [] are = ap (λ (ss : List Stage). within (record b { stages = ss }) t) (sym (append-nil b.stages))
 stages_go b t line (s ∷ stages) are =
@@ -157,7 +157,7 @@ stages_go b t line (s ∷ stages) are =
     ap (λ (ss : List Stage). within (record b { stages = ss }) t) (append_assoc b.stages (here ∷ []) more) in
     (within now t, passes, goes_same _ (line + 1) (map stage_words stages) _ _ end later)
 
-block_sound : (p : Phase) (t : Tree) (b : Block) → is_middle p ≡ true → rule_of (outside p [] t) (as_found head.Block (form.Block b)) ≡ None
+block_sound : (p : Phase) (t : Sections) (b : Block) → is_middle p ≡ true → rule_of (outside p [] t) (as_found head.Block (form.Block b)) ≡ None
 unfolding rule_of
 block_sound phase.Start t b middle = absurd (false≢true middle)
 block_sound phase.Header t b middle = refl
@@ -165,14 +165,14 @@ block_sound phase.Vars t b middle = refl
 block_sound phase.Blocks t b middle = refl
 block_sound phase.Statements t b middle = absurd (false≢true middle)
 
-end_sound : (b : Block) (t : Tree) → rule_of (within b t) (as_found head.End form.BlockEnd) ≡ None
+end_sound : (b : Block) (t : Sections) → rule_of (within b t) (as_found head.End form.BlockEnd) ≡ None
 unfolding rule_of
 end_sound b t = refl
 
 abbrev block_numbered : ℕ → Block → Block
 block_numbered line b = record b { line = line; stages = stages_numbered (line + 1) b.stages }
 
-block_goes : (p : Phase) (t : Tree) (line : ℕ) (b : Block) → is_middle p ≡ true → is_block b ≡ true
+block_goes : (p : Phase) (t : Sections) (line : ℕ) (b : Block) → is_middle p ≡ true → is_block b ≡ true
     → Goes (outside p [] t) line (block_words b) (outside phase.Blocks [] (record t { blocks = t.blocks ++ block_numbered line b ∷ [] }))
 block_goes p t line b middle are =
     let both = and_parts _ (list_all is_stage b.stages) are in
@@ -189,7 +189,7 @@ block_goes p t line b middle are =
           (stages_go bare t (line + 1) b.stages both.1) (outside phase.Blocks [] (record t { blocks = t.blocks ++ whole ∷ [] }), closes, refl),
     )
 
-pub blocks_go : (p : Phase) (t : Tree) (line : ℕ) (blocks : List Block) → is_middle p ≡ true → list_all is_block blocks ≡ true
+pub blocks_go : (p : Phase) (t : Sections) (line : ℕ) (blocks : List Block) → is_middle p ≡ true → list_all is_block blocks ≡ true
     → Goes (outside p [] t) line (flat_map block_words blocks) (outside (moved p phase.Blocks blocks) [] (record t { blocks = t.blocks ++ blocks_numbered line blocks }))
 blocks_go p t line [] middle are = ap (λ (bs : List Block). outside p [] (record t { blocks = bs })) (sym (append-nil t.blocks))
 blocks_go p t line (b ∷ blocks) middle are =
@@ -197,7 +197,7 @@ blocks_go p t line (b ∷ blocks) middle are =
     let here : Block = block_numbered line b in
     let next : ℕ = line + length (block_words b) in
     let more : List Block = blocks_numbered next blocks in
-    let now : Tree = record t { blocks = t.blocks ++ here ∷ [] } in
+    let now : Sections = record t { blocks = t.blocks ++ here ∷ [] } in
     let later = blocks_go phase.Blocks now next blocks refl both.1 in
     let end : outside (moved phase.Blocks phase.Blocks blocks) [] (record now { blocks = now.blocks ++ more }) ≡ outside phase.Blocks [] (record t { blocks = t.blocks ++ here ∷ more }) =
     ap (λ q. outside q [] (record now { blocks = now.blocks ++ more })) (moved_same phase.Blocks blocks)
@@ -222,7 +222,7 @@ plain End = (refl, refl, refl)
 plain Checkpoint = (refl, refl, refl)
 plain (Output variable) = (refl, refl, refl)
 
-statement_sound : (p : Phase) (opened : List Open) (t : Tree) (l : Line) → is_begun p ≡ true → may_stand opened l.statement ≡ true
+statement_sound : (p : Phase) (opened : List Open) (t : Sections) (l : Line) → is_begun p ≡ true → may_stand opened l.statement ≡ true
     → rule_of (outside p opened t) (as_found (head_for l.statement) (form.Statement l)) ≡ None
 unfolding rule_of
 statement_sound p opened t l begun may =
@@ -234,7 +234,7 @@ stands : (m : Bool) (o : Option (List Open)) (now : List Open) → cond m o None
 stands true o now nests = (refl, nests)
 stands false o now nests = cc
 
-pub statements_go : (p : Phase) (opened : List Open) (t : Tree) (line : ℕ) (ls : List Line) (now : List Open) → is_begun p ≡ true
+pub statements_go : (p : Phase) (opened : List Open) (t : Sections) (line : ℕ) (ls : List Line) (now : List Open) → is_begun p ≡ true
     → list_all (λ (l : Line). is_statement l.statement) ls ≡ true → open_after opened ls ≡ Some now
     → Goes (outside p opened t) line (map (λ (l : Line). statement_words l.statement) ls)
     (outside (moved p phase.Statements ls) now (record t { statements = t.statements ++ lines_numbered line ls }))
@@ -246,7 +246,7 @@ statements_go p opened t line (l ∷ ls) now begun are nests =
     let may = stands (may_stand opened l.statement) (open_after (nested l.statement opened) ls) now nests in
     let here : Line = record l { line = line } in
     let more : List Line = lines_numbered (line + 1) ls in
-    let step : Tree = record t { statements = t.statements ++ here ∷ [] } in
+    let step : Sections = record t { statements = t.statements ++ here ∷ [] } in
     let passes = line_passes (outside p opened t) line (statement_words l.statement) (head_for l.statement) (on_line line l.statement)
     (statement_headed l.statement) (statement_line line l.statement both.0) (statement_sound p opened t here begun may.0) in
     let later = statements_go phase.Statements (nested l.statement opened) step (line + 1) ls now refl both.1 may.1 in

@@ -2,14 +2,16 @@
 use Rattle.std.proofs.Common.{◌≡◌, ℕ, ◌+◌, if◌then◌else◌, true, false, List, [], ◌∷◌, ◌++◌, length, refl, sym, subst, ◌∙◌, ap, arith, Some, None}
 use Rattle.std.specs.Prelude.{bytes_eq, codes, is_some}
 use Rattle.nim_lex.specs.declared.token.Token.{Token}
+use Rattle.nim_lex.specs.Refusals.{refused}
+use Rattle.nim_lex.specs.Source.{line_count}
 use Rattle.nim_parse.specs.declared.form.Form.{Form}
 use Rattle.nim_parse.specs.declared.form.Found.{Found}
 use Rattle.nim_parse.specs.declared.form.Head.{Head}
 use Rattle.nim_parse.specs.declared.form.Head.TheVariants as head
 use Rattle.nim_parse.specs.declared.state.State.{State}
-use Rattle.nim_parse.specs.declared.tree.Statement.{Statement}
-use Rattle.nim_parse.specs.declared.tree.Statement.TheVariants.{Do, Let, Get, Loop, While, If, Else, End, Checkpoint, Output}
-use Rattle.nim_parse.specs.Driver.{after_form, after_lines, begun, first_refusal, found, line_count, next, number_of, refused, with_head}
+use Rattle.nim_parse.specs.declared.sections.Statement.{Statement}
+use Rattle.nim_parse.specs.declared.sections.Statement.TheVariants.{Do, Let, Get, Loop, While, If, Else, End, Checkpoint, Output}
+use Rattle.nim_parse.specs.Driver.{after_form, after_lines, begun, first_refusal, found, next, number_of, with_head}
 use Rattle.nim_parse.specs.Grammar.{head_in, head_of, heads, line_form}
 use Rattle.nim_parse.specs.Input.{Input, sees, start}
 use Rattle.nim_parse.specs.Rules.{rule_at_end, rule_of}

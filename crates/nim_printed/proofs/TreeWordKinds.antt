@@ -9,7 +9,7 @@ use Rattle.std.proofs.lemmas.List.Folds.{list_all-append}
 use Rattle.std.proofs.lemmas.Slice.Eq.{bytes_eq-Decides}
 use Rattle.std.proofs.lemmas.Bool.Decides.{nat_tests}
 use Rattle.nim_lex.specs.declared.token.TokenKind.TheVariants.{Name, Number}
-use Rattle.nim_lex.specs.Pieces.{number_of}
+use Rattle.nim_lex.specs.Numbers.{number_of}
 use Rattle.nim_lex.specs.Texts.{is_name, is_numeral}
 use Rattle.nim_printed.specs.Spelled.{is_free, is_small}
 use Rattle.nim_printed.specs.Words.{Word, is_short_name, is_small_numeral, kind_of}

@@ -2,17 +2,19 @@
 use Rattle.std.proofs.Common.{◌≡◌, ℕ, ◌≤◌, ◌&&◌, ◌||◌, Bool, true, false, List, [], ◌∷◌, ◌++◌, length, map, take, refl, sym, subst, ◌∙◌, ap, arith, None, Some}
 use Rattle.std.specs.Prelude.{bytes_eq, codes, nat_le, nat_lt, not, ◌==◌}
 use Rattle.std.specs.Char.{is_ascii_alphabetic, is_ascii_digit}
-use Rattle.std.specs.Int.{is_in_range}
 use Rattle.std.specs.List.{list_all, list_any, prefix_len, take_while}
 use Rattle.std.proofs.lemmas.Bool.{and_parts, false≢true, le-ltb, leb-true, ne_eqb}
 use Rattle.std.proofs.lemmas.List.{take_at}
 use Rattle.std.proofs.lemmas.Slice.Eq.{bytes_eq-Decides}
 use Rattle.nim_lex.specs.declared.token.TokenKind.{TokenKind}
 use Rattle.nim_lex.specs.declared.token.TokenKind.TheVariants.{Name, Number, Sign}
-use Rattle.nim_lex.specs.Bytes.{is_blank, is_hash, is_name_byte, is_newline}
-use Rattle.nim_lex.specs.Pieces.{Front, front_of, number_of, piece}
+use Rattle.nim_lex.specs.Bytes.{is_blank, is_hash, is_name_byte}
+use Rattle.nim_lex.specs.Numbers.{number_of}
+use Rattle.nim_lex.specs.Pieces.{Front, front_of, piece}
 use Rattle.nim_lex.specs.Rules.{broken_by}
 use Rattle.nim_lex.specs.Texts.{is_name, is_numeral}
+use Rattle.nim_lex.proofs.FrontTexts.{letter_is_name_byte}
+use Rattle.nim_lex.proofs.SourceSteps.{is_inner}
 use Rattle.nim_printed.specs.Words.{Word, is_short_name, is_sign, is_small_numeral, is_word, kind_of}
 use Rattle.nim_printed.proofs.TreeWordKinds.{kind_name, numeral_no_name}
 use Rattle.nim_printed.proofs.TreeWordKinds.{digit_no_letter}
@@ -25,10 +27,6 @@ front_at word kind = record { len = length word; kind = Some kind }
 abbrev pub starts : Word → Bool
 starts [] = false
 starts (b ∷ rest) = not (is_hash b) && not (is_blank b)
-
--- a byte within a line
-abbrev pub is_inner : ℕ → Bool
-is_inner b = not (is_newline b)
 
 -- A word is a token of this kind where the text ends behind it, or goes on with a space. No rule refuses it.
 pub record ReadsAs (word : Word) (sort : TokenKind) : Type 0 where
@@ -59,15 +57,6 @@ start_from p b rest passes hash space tab back =
 
 inner_from : (p : ℕ → Bool) → p 10 ≡ false → (b : ℕ) → p b ≡ true → is_inner b ≡ true
 inner_from p fails b passes = ap not (not_that p b 10 passes fails)
-
-or_more : (d u l o : Bool) → (u || l) ≡ true → (((d || u) || l) || o) ≡ true
-or_more true u l o h = refl
-or_more false true l o h = refl
-or_more false false true o h = refl
-or_more false false false o h = cc
-
-letter_is_name_byte : (b : ℕ) → is_ascii_alphabetic b ≡ true → is_name_byte b ≡ true
-letter_is_name_byte b h = or_more (is_in_range 48 57 b) (is_in_range 65 90 b) (is_in_range 97 122 b) (b == 95) h
 
 -- ---- names and numerals
 

@@ -11,7 +11,8 @@ use Rattle.nim_lex.specs.Rules.{broken_by, smaller}
 use Rattle.nim_lex.specs.Source.{token_of}
 use Rattle.nim_lex.proofs.LineSteps.{broken-cons, broken-nil, broken-piece}
 use Rattle.nim_printed.specs.Words.{Word, is_word, kind_of, line_tokens_of}
-use Rattle.nim_printed.proofs.WordsFronts.{Reads, front_at, is_inner, word_reads}
+use Rattle.nim_lex.proofs.SourceSteps.{is_inner}
+use Rattle.nim_printed.proofs.WordsFronts.{Reads, front_at, word_reads}
 
 -- words with a space before each
 abbrev pub more_bytes : List Word → List ℕ

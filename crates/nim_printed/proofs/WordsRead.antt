@@ -2,17 +2,15 @@
 use Rattle.std.proofs.Common.{◌≡◌, ℕ, ◌+◌, true, false, List, [], ◌∷◌, ◌++◌, append_assoc, length, map, take, drop, refl, sym, ◌∙◌, ap, ap₂, arith, length-append, None}
 use Rattle.std.specs.Prelude.{nat_lt}
 use Rattle.std.specs.List.{filter_map, flat_map, list_all}
-use Rattle.std.proofs.lemmas.Bool.{and_parts, le-ltb, not-true}
+use Rattle.std.proofs.lemmas.Bool.{and_parts, le-ltb}
 use Rattle.std.proofs.lemmas.List.{append-nil, drop-drop, drop_at, map-append, take_at}
 use Rattle.nim_lex.specs.declared.token.Token.{Token}
-use Rattle.nim_lex.specs.Bytes.{is_newline}
 use Rattle.nim_lex.specs.Rules.{broken_by}
-use Rattle.nim_lex.specs.Source.{before_lines, cut, first_refusal, line_at, line_tokens, numbered, token_of}
+use Rattle.nim_lex.specs.Source.{cut, first_refusal, line_at, line_tokens, numbered, token_of}
 use Rattle.nim_lex.specs.Texts.{text_of}
-use Rattle.nim_lex.proofs.SourceSteps.{refusal_later}
+use Rattle.nim_lex.proofs.SourceSteps.{cut_line, refusal_later}
 use Rattle.nim_printed.specs.Laws.{WordsAreRead, most_bytes}
 use Rattle.nim_printed.specs.Words.{Word, is_word, line_text, line_tokens_of, lines_text, lines_tokens_of}
-use Rattle.nim_printed.proofs.WordsFronts.{is_inner}
 use Rattle.nim_printed.proofs.WordsPieces.{line_bytes, line_inner, line_pieces, more_bytes, pieces_sound, pieces_tokens}
 
 -- each line is of words
@@ -36,13 +34,6 @@ line_text_long words = ap length (line_text_is words) ∙ length-append (line_by
 lines_text_is : (words : List Word) (lines : List (List Word)) → lines_text (words ∷ lines) ≡ line_bytes words ++ 10 ∷ lines_text lines
 lines_text_is words lines =
     ap (λ (xs : List ℕ). xs ++ lines_text lines) (line_text_is words) ∙ append_assoc (line_bytes words) (10 ∷ []) (lines_text lines)
-
-cut_line : (bs after : List ℕ) → list_all is_inner bs ≡ true → cut (bs ++ 10 ∷ after) ≡ bs ∷ cut after
-cut_line [] after are = refl
-cut_line (b ∷ bs) after are =
-    let both = and_parts (is_inner b) (list_all is_inner bs) are in
-    let inner : is_newline b ≡ false = not-true (is_newline b) both.0 in
-    rw inner (ap (before_lines b) (cut_line bs after both.1))
 
 cut_lines : (lines : List (List Word)) → AreLines lines → cut (lines_text lines) ≡ map line_bytes lines
 cut_lines [] are = refl

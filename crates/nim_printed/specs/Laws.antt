@@ -5,7 +5,7 @@ use Rattle.nim_job.specs.declared.job.Job.{Job}
 use Rattle.nim_job.specs.Whole.{is_checked}
 use Rattle.nim_lex.specs.Source as lex
 use Rattle.nim_lex.specs.Texts.{text_of}
-use Rattle.nim_parse.specs.declared.tree.Tree.{Tree}
+use Rattle.nim_parse.specs.declared.sections.Sections.{Sections}
 use Rattle.nim_parse.specs.Driver as parse
 use Rattle.nim_check.specs.Made.{job_of}
 use Rattle.nim_check.specs.Refusals as check
@@ -29,16 +29,16 @@ pub record IsLexed (lines : List (List Word)) : Type 0 where
 abbrev pub WordsAreRead : List (List Word) → Type 0
 WordsAreRead lines = list_all (list_all is_word) lines ≡ true → length (lines_text lines) ≤ most_bytes → IsLexed lines
 
-abbrev pub tree_text : Tree → List ℕ
+abbrev pub tree_text : Sections → List ℕ
 tree_text tree = lines_text (tree_words tree)
 
 -- the text of a tree is taken, and is read as this tree
-pub record IsParsed (tree : Tree) : Type 0 where
+pub record IsParsed (tree : Sections) : Type 0 where
   pub sound : parse.refusal_of (tree_text tree) ≡ None
   pub tree_is : parse.tree_of (tree_text tree) ≡ tree
 
 -- a tree whose lines have their numbers is read back
-abbrev pub TreeIsRead : Tree → Type 0
+abbrev pub TreeIsRead : Sections → Type 0
 TreeIsRead tree = is_printable tree ≡ true → numbered tree ≡ tree → length (tree_text tree) ≤ most_bytes → IsParsed tree
 
 -- The tree that a printer gives a job can be printed, no rule refuses it, and it stands for that job.

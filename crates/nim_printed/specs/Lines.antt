@@ -1,29 +1,29 @@
 -- The words of a tree, line by line.
 use Rattle.std.specs.Prelude.{ℕ, ℤ, pos, negsuc, ◌+◌, suc, Bool, if◌then◌else◌, List, [], ◌∷◌, ◌++◌, length, map, codes, decimal, Option, None, Some}
 use Rattle.std.specs.List.{flat_map}
-use Rattle.nim_parse.specs.declared.tree.Atom.{Atom}
-use Rattle.nim_parse.specs.declared.tree.Atom.TheVariants.{Number, Name}
-use Rattle.nim_parse.specs.declared.tree.Block.{Block}
-use Rattle.nim_parse.specs.declared.tree.Condition.{Condition}
-use Rattle.nim_parse.specs.declared.tree.Condition.TheVariants.{NotZero, Holds}
-use Rattle.nim_parse.specs.declared.tree.Expression.{Expression}
-use Rattle.nim_parse.specs.declared.tree.Expression.TheVariants.{Alone, Two}
-use Rattle.nim_parse.specs.declared.tree.Index.{Index}
-use Rattle.nim_parse.specs.declared.tree.Index.TheVariants.{Part, Own, After, Before}
-use Rattle.nim_parse.specs.declared.tree.Init.{Init}
-use Rattle.nim_parse.specs.declared.tree.Init.TheVariants.{Fill, Iota, Load}
-use Rattle.nim_parse.specs.declared.tree.Line.{Line}
-use Rattle.nim_parse.specs.declared.tree.Operator.{Operator}
-use Rattle.nim_parse.specs.declared.tree.Operator.TheVariants.{Add, Subtract, Multiply, Divide, Remainder}
-use Rattle.nim_parse.specs.declared.tree.Ref.{Ref}
-use Rattle.nim_parse.specs.declared.tree.Relation.{Relation}
-use Rattle.nim_parse.specs.declared.tree.Relation.TheVariants.{Less, AtMost, Equal, NotEqual, Greater, AtLeast}
-use Rattle.nim_parse.specs.declared.tree.Stage.{Stage}
-use Rattle.nim_parse.specs.declared.tree.Statement.{Statement}
-use Rattle.nim_parse.specs.declared.tree.Statement.TheVariants.{Do, Let, Get, Loop, While, If, Else, End, Checkpoint, Output}
-use Rattle.nim_parse.specs.declared.tree.Steps.{Steps}
-use Rattle.nim_parse.specs.declared.tree.Tree.{Tree}
-use Rattle.nim_parse.specs.declared.tree.Var.{Var}
+use Rattle.nim_parse.specs.declared.sections.Atom.{Atom}
+use Rattle.nim_parse.specs.declared.sections.Atom.TheVariants.{Number, Name}
+use Rattle.nim_parse.specs.declared.sections.Block.{Block}
+use Rattle.nim_parse.specs.declared.sections.Condition.{Condition}
+use Rattle.nim_parse.specs.declared.sections.Condition.TheVariants.{NotZero, Holds}
+use Rattle.nim_parse.specs.declared.sections.Expression.{Expression}
+use Rattle.nim_parse.specs.declared.sections.Expression.TheVariants.{Alone, Two}
+use Rattle.nim_parse.specs.declared.sections.Index.{Index}
+use Rattle.nim_parse.specs.declared.sections.Index.TheVariants.{Part, Own, After, Before}
+use Rattle.nim_parse.specs.declared.sections.Init.{Init}
+use Rattle.nim_parse.specs.declared.sections.Init.TheVariants.{Fill, Iota, Load}
+use Rattle.nim_parse.specs.declared.sections.Line.{Line}
+use Rattle.nim_parse.specs.declared.sections.Operator.{Operator}
+use Rattle.nim_parse.specs.declared.sections.Operator.TheVariants.{Add, Subtract, Multiply, Divide, Remainder}
+use Rattle.nim_parse.specs.declared.sections.Ref.{Ref}
+use Rattle.nim_parse.specs.declared.sections.Relation.{Relation}
+use Rattle.nim_parse.specs.declared.sections.Relation.TheVariants.{Less, AtMost, Equal, NotEqual, Greater, AtLeast}
+use Rattle.nim_parse.specs.declared.sections.Stage.{Stage}
+use Rattle.nim_parse.specs.declared.sections.Statement.{Statement}
+use Rattle.nim_parse.specs.declared.sections.Statement.TheVariants.{Do, Let, Get, Loop, While, If, Else, End, Checkpoint, Output}
+use Rattle.nim_parse.specs.declared.sections.Steps.{Steps}
+use Rattle.nim_parse.specs.declared.sections.Sections.{Sections}
+use Rattle.nim_parse.specs.declared.sections.Var.{Var}
 use Rattle.nim_printed.specs.Words.{Word}
 
 abbrev pub number_words : ℕ → List Word
@@ -121,7 +121,7 @@ statement_words Checkpoint = codes "checkpoint" ∷ []
 statement_words (Output variable) = codes "output" ∷ variable ∷ []
 
 -- all lines of a tree
-abbrev pub tree_words : Tree → List (List Word)
+abbrev pub tree_words : Sections → List (List Word)
 tree_words tree =
     (codes "nimbus" ∷ codes "1" ∷ []) ∷ steps_lines tree.steps ++ map var_words tree.vars ++ flat_map block_words tree.blocks
     ++ map (λ (line : Line). statement_words line.statement) tree.statements
@@ -150,7 +150,7 @@ abbrev pub steps_numbered : Option Steps → Option Steps
 steps_numbered None = None
 steps_numbered (Some steps) = Some (record steps { line = 2 })
 
-abbrev pub numbered : Tree → Tree
+abbrev pub numbered : Sections → Sections
 numbered tree =
     let vars = 2 + length (steps_lines tree.steps) in
     let blocks = vars + length tree.vars in

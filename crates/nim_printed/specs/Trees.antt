@@ -3,25 +3,25 @@
 use Rattle.std.specs.Prelude.{Bool, true, false, ◌&&◌, List, [], ◌∷◌, Option, None, Some}
 use Rattle.std.specs.List.{list_all}
 use Rattle.nim_parse.specs.declared.nest.Open.{Open}
-use Rattle.nim_parse.specs.declared.tree.Atom.{Atom}
-use Rattle.nim_parse.specs.declared.tree.Atom.TheVariants.{Number, Name}
-use Rattle.nim_parse.specs.declared.tree.Block.{Block}
-use Rattle.nim_parse.specs.declared.tree.Condition.{Condition}
-use Rattle.nim_parse.specs.declared.tree.Condition.TheVariants.{NotZero, Holds}
-use Rattle.nim_parse.specs.declared.tree.Expression.{Expression}
-use Rattle.nim_parse.specs.declared.tree.Expression.TheVariants.{Alone, Two}
-use Rattle.nim_parse.specs.declared.tree.Index.{Index}
-use Rattle.nim_parse.specs.declared.tree.Index.TheVariants.{Part, Own, After, Before}
-use Rattle.nim_parse.specs.declared.tree.Init.{Init}
-use Rattle.nim_parse.specs.declared.tree.Init.TheVariants.{Fill}
-use Rattle.nim_parse.specs.declared.tree.Line.{Line}
-use Rattle.nim_parse.specs.declared.tree.Ref.{Ref}
-use Rattle.nim_parse.specs.declared.tree.Stage.{Stage}
-use Rattle.nim_parse.specs.declared.tree.Statement.{Statement}
-use Rattle.nim_parse.specs.declared.tree.Statement.TheVariants.{Do, Let, Get, Loop, While, If, Else, End, Checkpoint, Output}
-use Rattle.nim_parse.specs.declared.tree.Steps.{Steps}
-use Rattle.nim_parse.specs.declared.tree.Tree.{Tree}
-use Rattle.nim_parse.specs.declared.tree.Var.{Var}
+use Rattle.nim_parse.specs.declared.sections.Atom.{Atom}
+use Rattle.nim_parse.specs.declared.sections.Atom.TheVariants.{Number, Name}
+use Rattle.nim_parse.specs.declared.sections.Block.{Block}
+use Rattle.nim_parse.specs.declared.sections.Condition.{Condition}
+use Rattle.nim_parse.specs.declared.sections.Condition.TheVariants.{NotZero, Holds}
+use Rattle.nim_parse.specs.declared.sections.Expression.{Expression}
+use Rattle.nim_parse.specs.declared.sections.Expression.TheVariants.{Alone, Two}
+use Rattle.nim_parse.specs.declared.sections.Index.{Index}
+use Rattle.nim_parse.specs.declared.sections.Index.TheVariants.{Part, Own, After, Before}
+use Rattle.nim_parse.specs.declared.sections.Init.{Init}
+use Rattle.nim_parse.specs.declared.sections.Init.TheVariants.{Fill}
+use Rattle.nim_parse.specs.declared.sections.Line.{Line}
+use Rattle.nim_parse.specs.declared.sections.Ref.{Ref}
+use Rattle.nim_parse.specs.declared.sections.Stage.{Stage}
+use Rattle.nim_parse.specs.declared.sections.Statement.{Statement}
+use Rattle.nim_parse.specs.declared.sections.Statement.TheVariants.{Do, Let, Get, Loop, While, If, Else, End, Checkpoint, Output}
+use Rattle.nim_parse.specs.declared.sections.Steps.{Steps}
+use Rattle.nim_parse.specs.declared.sections.Sections.{Sections}
+use Rattle.nim_parse.specs.declared.sections.Var.{Var}
 use Rattle.nim_parse.specs.Nesting.{is_empty, open_after}
 use Rattle.nim_printed.specs.Spelled.{is_free, is_int, is_small}
 
@@ -84,6 +84,6 @@ abbrev pub is_closed : Option (List Open) → Bool
 is_closed None = false
 is_closed (Some opened) = is_empty opened
 
-abbrev pub is_printable : Tree → Bool
+abbrev pub is_printable : Sections → Bool
 is_printable tree = is_steps tree.steps && list_all is_var tree.vars && list_all is_block tree.blocks
     && list_all (λ (line : Line). is_statement line.statement) tree.statements && is_closed (open_after [] tree.statements)

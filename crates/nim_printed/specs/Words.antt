@@ -4,7 +4,8 @@ use Rattle.std.specs.List.{flat_map, list_any}
 use Rattle.nim_lex.specs.declared.token.Token.{Token}
 use Rattle.nim_lex.specs.declared.token.TokenKind.{TokenKind}
 use Rattle.nim_lex.specs.declared.token.TokenKind.TheVariants.{Name, Number, Sign}
-use Rattle.nim_lex.specs.Pieces.{number_of, signs}
+use Rattle.nim_lex.specs.Numbers.{number_of}
+use Rattle.nim_lex.specs.Pieces.{signs}
 use Rattle.nim_lex.specs.Texts.{is_name, is_numeral}
 
 -- a word is its bytes

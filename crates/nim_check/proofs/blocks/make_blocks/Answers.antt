@@ -1,7 +1,9 @@
 use Rattle.std.proofs.Common.{◌∙◌, ◌<◌, sym, [], length, rules, arith}
 use Rattle.std.proofs.lemmas.Grind.{common_steps}
 use Rattle.std.proofs.lemmas.List.{length-take}
-use Rattle.nim_check.specs.Refusals.{IsRefusal, first_refusal}
+use Rattle.nim_lex.specs.Refusals.{Tells}
+use Rattle.nim_check.specs.Faults.{told}
+use Rattle.nim_check.specs.Refusals.{first_refusal}
 use Rattle.nim_check.specs.Sites.{block_sites}
 use Rattle.nim_check.proofs.Refused.{blocks_here, blocks_later}
 use Rattle.nim_check.proofs.blocks.make_blocks.Goals as goal
@@ -10,10 +12,10 @@ pub returns-in_err-make_block-clause-answers : goal.returns-in_err-make_block-cl
 returns-in_err-make_block-clause-answers c =
     let vars = c.args.vars.now in
     let blocks = c.args.blocks.now in
-    let fault = c.in_err-make_block.field-0.0 in
+    let one = told c.in_err-make_block.field-0.0 in
     let there : c.loop-at.at < length blocks = first_of (search rules, grind (arith, common_steps)) in
-    let e = blocks_here vars blocks c.loop-at.at c.index-blocks-at.result fault there c.index-blocks-at.is c.in_err-make_block.ensures.answers in
-    let f : IsRefusal (first_refusal (block_sites vars [] blocks)) fault = (rw c.loop-at.invariant.sites at e) in
+    let e = blocks_here vars blocks c.loop-at.at c.index-blocks-at.result one there c.index-blocks-at.is c.in_err-make_block.ensures.answers in
+    let f : Tells (first_refusal (block_sites vars [] blocks)) one = (rw c.loop-at.invariant.sites at e) in
     first_of (search rules, grind (arith, common_steps))
 
 pub loop-at-preserved : goal.loop-at-preserved

@@ -6,45 +6,47 @@ use Rattle.nim_job.specs.Whole.{are_vars, is_block}
 use Rattle.nim_check.specs.Body.{body_of}
 use Rattle.nim_check.specs.Made.{block_of, var_names, var_of}
 use Rattle.std.proofs.lemmas.Grind.{common_steps}
-use Rattle.nim_check.specs.Refusals.{IsRefusal, first_refusal, refusal_of}
+use Rattle.nim_lex.specs.Refusals.{Tells}
+use Rattle.nim_check.specs.Faults.{told}
+use Rattle.nim_check.specs.Refusals.{first_refusal, refusal_of}
 use Rattle.nim_check.specs.Sites.{block_sites, no_past, past_of, statement_sites, steps_sites, var_sites}
 use Rattle.nim_check.proofs.Checked.{Ties, body_whole, job_whole, names_for}
 use Rattle.nim_check.proofs.Places.{length_names}
 use Rattle.nim_check.proofs.Refused.{kinds, none_refused, refused_fourth, refused_second, refused_third}
 use Rattle.nim_check.proofs.driver.check.Goals as goal
 
-pub returns-in_err-vars-clause-refused : goal.returns-in_err-vars-clause-refused
-returns-in_err-vars-clause-refused c =
+pub returns-in_err-job_vars-clause-answers : goal.returns-in_err-job_vars-clause-answers
+returns-in_err-job_vars-clause-answers c =
     let tree = c.args.tree.now in
-    let fault = c.in_err-vars.field-0.0 in
+    let one = told c.in_err-job_vars.field-0.0 in
     let steps : first_refusal (steps_sites tree.steps) ≡ None = first_of (search rules, grind (arith, common_steps)) in
-    let here : IsRefusal (first_refusal (var_sites [] tree.vars)) fault = first_of (search rules, grind (arith, common_steps)) in
-    let whole : IsRefusal (refusal_of tree) fault = rw (kinds tree) (refused_second _ _ _ fault steps here) in
+    let here : Tells (first_refusal (var_sites [] tree.vars)) one = first_of (search rules, grind (arith, common_steps)) in
+    let whole : Tells (refusal_of tree) one = rw (kinds tree) (refused_second _ _ _ one steps here) in
     first_of (search rules, grind (arith, common_steps))
 
-pub returns-in_err-blocks-clause-refused : goal.returns-in_err-blocks-clause-refused
-returns-in_err-blocks-clause-refused c =
+pub returns-in_err-job_blocks-clause-answers : goal.returns-in_err-job_blocks-clause-answers
+returns-in_err-job_blocks-clause-answers c =
     let tree = c.args.tree.now in
-    let fault = c.in_err-blocks.field-0.0 in
+    let one = told c.in_err-job_blocks.field-0.0 in
     let steps : first_refusal (steps_sites tree.steps) ≡ None = first_of (search rules, grind (arith, common_steps)) in
     let vars : first_refusal (var_sites [] tree.vars) ≡ None = first_of (search rules, grind (arith, common_steps)) in
-    let here : IsRefusal (first_refusal (block_sites tree.vars [] tree.blocks)) fault = first_of (search rules, grind (arith, common_steps)) in
-    let whole : IsRefusal (refusal_of tree) fault = rw (kinds tree) (refused_third _ _ _ _ fault steps vars here) in
+    let here : Tells (first_refusal (block_sites tree.vars [] tree.blocks)) one = first_of (search rules, grind (arith, common_steps)) in
+    let whole : Tells (refusal_of tree) one = rw (kinds tree) (refused_third _ _ _ _ one steps vars here) in
     first_of (search rules, grind (arith, common_steps))
 
-pub returns-in_err-scalars-clause-refused : goal.returns-in_err-scalars-clause-refused
-returns-in_err-scalars-clause-refused c =
+pub returns-in_err-scalars-clause-answers : goal.returns-in_err-scalars-clause-answers
+returns-in_err-scalars-clause-answers c =
     let tree = c.args.tree.now in
-    let fault = c.in_err-scalars.field-0.0 in
+    let one = told c.in_err-scalars.field-0.0 in
     let steps : first_refusal (steps_sites tree.steps) ≡ None = first_of (search rules, grind (arith, common_steps)) in
     let vars : first_refusal (var_sites [] tree.vars) ≡ None = first_of (search rules, grind (arith, common_steps)) in
     let blocks : first_refusal (block_sites tree.vars [] tree.blocks) ≡ None = first_of (search rules, grind (arith, common_steps)) in
-    let here : IsRefusal (first_refusal (statement_sites tree no_past tree.statements)) fault = first_of (search rules, grind (arith, common_steps)) in
-    let whole : IsRefusal (refusal_of tree) fault = rw (kinds tree) (refused_fourth _ _ _ _ fault steps vars blocks here) in
+    let here : Tells (first_refusal (statement_sites tree no_past tree.statements)) one = first_of (search rules, grind (arith, common_steps)) in
+    let whole : Tells (refusal_of tree) one = rw (kinds tree) (refused_fourth _ _ _ _ one steps vars blocks here) in
     first_of (search rules, grind (arith, common_steps))
 
-pub returns-clause-accepted : goal.returns-clause-accepted
-returns-clause-accepted c =
+pub returns-clause-answers : goal.returns-clause-answers
+returns-clause-answers c =
     let tree = c.args.tree.now in
     let steps : first_refusal (steps_sites tree.steps) ≡ None = first_of (search rules, grind (arith, common_steps)) in
     let vars : first_refusal (var_sites [] tree.vars) ≡ None = first_of (search rules, grind (arith, common_steps)) in
@@ -55,16 +57,16 @@ returns-clause-accepted c =
 pub returns-clause-checked : goal.returns-clause-checked
 returns-clause-checked c =
     let tree = c.args.tree.now in
-    let job : Job = record { steps = c.in_ok-steps.steps; vars = c.in_ok-vars.vars; blocks = c.in_ok-blocks.blocks; body = c.in_ok-body.body } in
+    let job : Job = record { steps = c.in_ok-steps.steps; vars = c.in_ok-job_vars.job_vars; blocks = c.in_ok-job_blocks.job_blocks; body = c.in_ok-body.body } in
     let low : 1 ≤ job.steps = c.in_ok-steps.ensures.some in
     let high : job.steps ≤ 1000000 = c.in_ok-steps.ensures.few in
-    let made : c.in_ok-vars.vars ≡ map var_of tree.vars = first_of (cc, search rules, grind (arith, common_steps)) in
-    let vars : are_vars c.in_ok-vars.vars ≡ true = c.in_ok-vars.ensures.whole in
-    let blocks : c.in_ok-blocks.blocks ≡ map (block_of (var_names tree.vars)) tree.blocks = first_of (cc, search rules, grind (arith, common_steps)) in
-    let number : length c.in_ok-blocks.blocks ≤ 32 = c.in_ok-blocks.ensures.number in
-    let each : list_all (is_block c.in_ok-vars.vars) c.in_ok-blocks.blocks ≡ true = first_of (cc, search rules, grind (arith, common_steps)) in
+    let made : c.in_ok-job_vars.job_vars ≡ map var_of tree.vars = first_of (cc, search rules, grind (arith, common_steps)) in
+    let vars : are_vars c.in_ok-job_vars.job_vars ≡ true = c.in_ok-job_vars.ensures.whole in
+    let blocks : c.in_ok-job_blocks.job_blocks ≡ map (block_of (var_names tree.vars)) tree.blocks = first_of (cc, search rules, grind (arith, common_steps)) in
+    let number : length c.in_ok-job_blocks.job_blocks ≤ 32 = c.in_ok-job_blocks.ensures.number in
+    let each : list_all (is_block c.in_ok-job_vars.job_vars) c.in_ok-job_blocks.job_blocks ≡ true = first_of (cc, search rules, grind (arith, common_steps)) in
     let statements : first_refusal (statement_sites tree no_past tree.statements) ≡ None = first_of (cc, search rules, grind (arith, common_steps)) in
     let body : c.in_ok-body.body ≡ body_of (names_for tree (past_of no_past tree.statements).scalars) tree.statements = first_of (cc, search rules, grind (arith, common_steps)) in
-    let names : length c.in_ok-vars.vars ≡ length (var_names tree.vars) = ap length made ∙ length-map tree.vars var_of ∙ sym (length_names tree.vars) in
+    let names : length c.in_ok-job_vars.job_vars ≡ length (var_names tree.vars) = ap length made ∙ length-map tree.vars var_of ∙ sym (length_names tree.vars) in
     let ties : Ties tree job = record { vars = names; blocks = blocks } in
-    job_whole job low high vars number each (body_whole tree job ties body c.requires.nests statements)
+    job_whole job low high vars number each (body_whole tree job ties body c.sections-lines.ensures.nest statements)

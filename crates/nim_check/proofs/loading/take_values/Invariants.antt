@@ -1,13 +1,10 @@
--- the values so far, and the parts that are left
-use Rattle.std.proofs.Common.{◌≡◌, ◌-◌, List, ◌++◌, length}
+-- the values so far, and those that are left
+use Rattle.std.proofs.Common.{◌≡◌, drop, take}
 use Rattle.std.specs.Vec.Iter.{into_iter_items}
-use Rattle.nim_check.specs.Loading.{Wanted, first_fault, values_of, wants}
 use Rattle.nim_check.proofs.loading.take_values.Given as goal
 
-abbrev pub invariant-loop-number : goal.invariant-loop-number
-invariant-loop-number l = record {
-  values : values_of (into_iter_items l.fn.parts) ≡ l.values ++ values_of (into_iter_items l.parts);
-  count : length l.values ≡ l.number;
-  fault : (ws : List Wanted) → first_fault l.end (wants l.v 0 l.v.parts ++ ws) (into_iter_items l.fn.parts)
-      ≡ first_fault l.end (wants l.v l.number (l.v.parts - l.number) ++ ws) (into_iter_items l.parts);
+abbrev pub invariant-loop-turn : goal.invariant-loop-turn
+invariant-loop-turn l = record {
+  taken : l.taken ≡ take l._turn (into_iter_items l.fn.values);
+  rest : into_iter_items l.values ≡ drop l._turn (into_iter_items l.fn.values);
 }

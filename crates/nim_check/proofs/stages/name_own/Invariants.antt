@@ -1,6 +1,6 @@
 use Rattle.std.proofs.Common.{◌≡◌, false, take}
 use Rattle.std.specs.List.{list_any}
-use Rattle.nim_parse.specs.declared.tree.Ref.{Ref}
+use Rattle.nim_parse.specs.declared.sections.Ref.{Ref}
 use Rattle.nim_check.specs.Rules.{is_own}
 use Rattle.nim_check.proofs.stages.name_own.Given as goal
 

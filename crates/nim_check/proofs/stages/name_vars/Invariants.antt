@@ -1,6 +1,6 @@
 use Rattle.std.proofs.Common.{◌≡◌, true, take}
 use Rattle.std.specs.List.{list_all}
-use Rattle.nim_parse.specs.declared.tree.Ref.{Ref}
+use Rattle.nim_parse.specs.declared.sections.Ref.{Ref}
 use Rattle.nim_check.specs.Made.{var_names}
 use Rattle.nim_check.specs.Names.{is_in}
 use Rattle.nim_check.proofs.stages.name_vars.Given as goal

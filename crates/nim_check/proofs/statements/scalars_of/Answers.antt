@@ -5,7 +5,7 @@ use Rattle.nim_check.proofs.statements.scalars_of.Goals as goal
 
 pub loop-at-preserved : goal.loop-at-preserved
 loop-at-preserved c =
-    let tree = c.args.tree.now in
+    let tree = c.args.sections.now in
     let there : c.loop-at.at < length tree.statements = first_of (search rules, grind (arith, common_steps)) in
     record {
       sites = first_of (search rules, grind (arith, common_steps, statements_later));

@@ -11,8 +11,8 @@ use Rattle.nim_lex.proofs.SourceSteps.{step_line, refusal_here, refusal_later}
 use Rattle.nim_lex.proofs.SourceTexts.{texts, order}
 use Rattle.nim_lex.proofs.scan.tokens.Goals as goal
 
-pub returns-in-Some-clause-refused : goal.returns-in-Some-clause-refused
-returns-in-Some-clause-refused c =
+pub returns-in-Some-clause-answers : goal.returns-in-Some-clause-answers
+returns-in-Some-clause-answers c =
     let bytes = c.args.bytes.now in
     let i = c.loop-at.at in
     let len = c.line_len-len.result in

@@ -5,13 +5,13 @@ use Rattle.std.proofs.lemmas.Grind.{common_steps}
 use Rattle.std.proofs.lemmas.List.{take_rest, length-drop}
 use Rattle.nim_parse.specs.Driver.{after_lines, first_refusal, found, lines, next, number_of, refusal_of, tree_of}
 use Rattle.nim_parse.specs.Rules.{rule_of}
-use Rattle.nim_parse.proofs.Counts.{cut-within, short}
+use Rattle.nim_lex.proofs.Counts.{short}
 use Rattle.nim_parse.proofs.LineSteps.{step_lines, refusal_here, refusal_later}
 use Rattle.nim_parse.proofs.Nests.{all_nest}
 use Rattle.nim_parse.proofs.driver.parse.Goals as goal
 
-pub returns-in-Some-clause-refused : goal.returns-in-Some-clause-refused
-returns-in-Some-clause-refused c =
+pub returns-in-Some-clause-answers : goal.returns-in-Some-clause-answers
+returns-in-Some-clause-answers c =
     let ts = c.args.tokens.now in
     let source = c.args.bytes.now in
     let at = c.loop-at.at in
@@ -45,17 +45,11 @@ loop-at-preserved c =
       tree = rw moved (sym (ap (after_lines source c.loop-at.state) step) ∙ c.loop-at.invariant.tree);
     }
 
-pub line_count-requires : goal.line_count-requires
-line_count-requires c = omega (arith, short c.args.bytes.now c.requires.sound)
+pub end_line-line-requires : goal.end_line-line-requires
+end_line-line-requires c = omega (arith, short c.args.bytes.now c.requires.sound)
 
-pub overflow_cast-line : goal.overflow_cast-line
-overflow_cast-line c = omega (arith, short c.args.bytes.now c.requires.sound, cut-within c.args.bytes.now, c.line_count.ensures)
-
-pub overflow_add-line : goal.overflow_add-line
-overflow_add-line c = omega (arith, short c.args.bytes.now c.requires.sound, cut-within c.args.bytes.now, c.line_count.ensures)
-
-pub returns-clause-nest : goal.returns-clause-nest
-returns-clause-nest c =
+pub new-requires : goal.new-requires
+new-requires c =
     let accepted : refusal_of c.args.bytes.now ≡ None = first_of (search rules, grind (arith, common_steps)) in
-    let whole : c.loop-at.state.tree ≡ tree_of c.args.bytes.now = first_of (search rules, grind (arith, common_steps)) in
+    let whole : c.loop-at.state.sections ≡ tree_of c.args.bytes.now = first_of (search rules, grind (arith, common_steps)) in
     rw whole (all_nest c.args.bytes.now accepted)

@@ -1,7 +1,7 @@
 use Rattle.std.proofs.Common.{rules, arith}
 use Rattle.std.proofs.lemmas.Grind.{common_steps}
 use Rattle.nim_parse.specs.Grammar.{reads, reads_from}
-use Rattle.nim_parse.proofs.Turns.{one_more, no_more}
+use Rattle.nim_lex.proofs.Turns.{one_more, no_more}
 use Rattle.nim_parse.proofs.parts.reads.Goals as goal
 
 pub returns-then-eat : goal.returns-then-eat

@@ -1,5 +1,0 @@
-mod files;
-mod jobs;
-mod limits;
-mod load;
-mod refusals;

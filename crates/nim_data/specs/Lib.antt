@@ -1,0 +1,5 @@
+pub mod Fault
+pub mod Lines
+pub mod Parts
+pub mod Reading
+pub mod Wanted

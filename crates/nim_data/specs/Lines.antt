@@ -1,0 +1,72 @@
+-- The lines of a data file: their words, and the numbers that they write.
+use Rattle.std.specs.Prelude.{ℕ, zero, suc, ◌==◌, nat_le, nat_lt, ◌&&◌, not, Bool, true, false, if◌then◌else◌, List, [], ◌∷◌, ◌++◌, length, take, drop, slice_index, ℤ, Option, None, Some}
+use Rattle.std.specs.List.{list_all, prefix_len}
+use Rattle.std.specs.Char.{is_ascii_alphabetic, is_ascii_digit}
+use Rattle.nim_lex.specs.Bytes.{is_blank, is_name_byte}
+use Rattle.nim_lex.specs.Numbers.{in_range, number_of, signed}
+use Rattle.nim_data.specs.declared.lines.Heading.{Heading}
+
+abbrev pub is_word_byte : ℕ → Bool
+is_word_byte b = not (is_blank b)
+
+-- a text from its first word on
+abbrev pub unblanked : List ℕ → List ℕ
+unblanked text = drop (prefix_len is_blank text) text
+
+-- the first word of a text, without bytes where there is none
+unfoldable pub word : List ℕ → List ℕ
+word text = take (prefix_len is_word_byte (unblanked text)) (unblanked text)
+
+-- the text behind its first word
+unfoldable pub behind : List ℕ → List ℕ
+behind text = drop (prefix_len is_word_byte (unblanked text)) (unblanked text)
+
+-- a text without words
+abbrev pub is_bare : List ℕ → Bool
+is_bare text = list_all is_blank text
+
+abbrev pub then_read : {A B : Type 0} → Option A → (A → Option B) → Option B
+then_read None f = None
+then_read (Some x) f = f x
+
+-- one digit or more
+abbrev pub is_numeral : List ℕ → Bool
+is_numeral text = not (length text == 0) && list_all is_ascii_digit text
+
+-- digits, of a number that is at most this
+unfoldable pub bounded : ℕ → List ℕ → Option ℕ
+bounded most digits = if is_numeral digits && nat_le (number_of digits) most then Some (number_of digits) else None
+
+-- digits behind a sign, of a number in the range
+unfoldable pub whole : Bool → List ℕ → Option ℤ
+whole negative digits = if is_numeral digits && in_range negative (number_of digits) then Some (signed negative (number_of digits)) else None
+
+-- an optional `-` directly followed by digits
+unfoldable pub cell : List ℕ → Option ℤ
+cell [] = None
+cell (b ∷ rest) = if b == 45 then whole true rest else whole false (b ∷ rest)
+
+-- so many cells, and no word behind them
+unfoldable pub cells_from : ℕ → List ℤ → List ℕ → Option (List ℤ)
+cells_from zero found text = if is_bare text then Some found else None
+cells_from (suc n) found text = then_read (cell (word text)) (λ x. cells_from n (found ++ x ∷ []) (behind text))
+
+-- a row of a width
+abbrev pub row : ℕ → List ℕ → Option (List ℤ)
+row width text = cells_from width [] text
+
+-- a name of at most 16 bytes: a letter, then letters, digits and underscores
+unfoldable pub is_short_name : List ℕ → Bool
+is_short_name text = (nat_le (length text) 16 && is_ascii_alphabetic (slice_index text 0)) && list_all is_name_byte text
+
+abbrev pub heading_of : List ℕ → List ℕ → ℕ → ℕ → ℕ → Option Heading
+heading_of name rest part rows width =
+    if is_short_name name && (nat_lt 0 width && is_bare rest) then Some (record { name = name; part = part; rows = rows; width = width }) else None
+
+-- NAME PART ROWS WIDTH, and no word behind them
+unfoldable pub heading : List ℕ → Option Heading
+heading text =
+    then_read (bounded 63 (word (behind text))) (λ part.
+    then_read (bounded 65536 (word (behind (behind text)))) (λ rows.
+    then_read (bounded 65536 (word (behind (behind (behind text))))) (λ width.
+    heading_of (word text) (behind (behind (behind (behind text)))) part rows width)))

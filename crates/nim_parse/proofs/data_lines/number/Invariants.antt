@@ -1,7 +1,0 @@
--- the number of the digits read so far
-use Rattle.std.proofs.Common.{◌≡◌, ◌^◌, ◌-◌, min, take}
-use Rattle.nim_lex.specs.Pieces.{number_of}
-use Rattle.nim_parse.proofs.data_lines.number.Given as goal
-
-abbrev pub invariant-loop-digit : goal.invariant-loop-digit
-invariant-loop-digit l = l.value ≡ min (number_of (take l.digit-index l.digits)) (2 ^ 64 - 1)

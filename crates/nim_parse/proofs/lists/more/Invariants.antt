@@ -1,0 +1,7 @@
+-- what the rest of the turns gives is what the production gives
+use Rattle.std.proofs.Common.{◌≡◌, ◌-◌}
+use Rattle.nim_parse.specs.Grammar.{more, more_from}
+use Rattle.nim_parse.proofs.lists.more.Given as goal
+
+abbrev pub invariant-loop-turn : goal.invariant-loop-turn
+invariant-loop-turn g l = more g.T.Item.parser l.fn.first l.initial.cursor ≡ more_from g.T.Item.parser (l._turn-end - l._turn) l.found l.cursor
