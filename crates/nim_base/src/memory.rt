@@ -32,6 +32,12 @@ impl Copied for u8 {
     }
 }
 
+impl Copied for u16 {
+    fn copy(&self) -> Result<u16, NoMemory> {
+        Ok(*self)
+    }
+}
+
 impl Copied for u32 {
     fn copy(&self) -> Result<u32, NoMemory> {
         Ok(*self)
