@@ -6,6 +6,7 @@ mod copies;
 mod edit;
 mod entry;
 mod half;
+mod moved;
 mod rank;
 mod slots;
 mod template;

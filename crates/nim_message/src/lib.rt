@@ -1,10 +1,12 @@
-//! What controller and workers tell each other: orders and reports.
+//! What controller and workers tell each other: orders, reports and frames of data.
 #![tactic(auto)]
 
+mod frame;
+mod message;
 mod order;
 mod report;
-#[cfg(test)]
-mod tests;
 
+pub use frame::Data;
+pub use message::Message;
 pub use order::ToWorker;
 pub use report::FromWorker;
