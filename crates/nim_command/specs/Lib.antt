@@ -2,6 +2,7 @@ pub mod Before
 pub mod Created
 pub mod Edits
 pub mod Expansion
+pub mod Free
 pub mod Holds
 pub mod Numbers
 pub mod Ranks

@@ -2,11 +2,13 @@
 #![tactic(auto)]
 
 mod command;
+mod before;
 mod copies;
 mod edit;
 mod entry;
 mod half;
 mod moved;
+mod numbers;
 mod rank;
 mod slots;
 mod template;

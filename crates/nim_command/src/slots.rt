@@ -2,13 +2,14 @@ ghost use Rattle.std.specs.Prelude.{◌≡◌, IfOk};
 ghost use Rattle.nim_command.specs.Slots as spec;
 ghost use Rattle.nim_command.specs.Slots.{reads_of, writes_of};
 
+use crate::numbers::SLOTS;
 use crate::{Command, Kind};
 use nim_base::{NoMemory, Object, Slot};
 use std::alloc::Global;
 use std::slice;
 
-/// From this many on, slots are scratch slots of the same objects.
-const SLOTS: u16 = 512;
+
+
 
 /// The object that a slot is of.
 pub fn object_of(slot: Slot) -> Object
