@@ -1,6 +1,6 @@
 -- What an edit does to a half: which entries it takes away, and which it puts in their place.
-use Rattle.std.specs.Prelude.{ℕ, ◌+◌, ◌/◌, ◌%◌, ◌==◌, nat_lt, Bool, not, ◌&&◌, if◌then◌else◌, List, [], ◌∷◌, ◌++◌, length, map}
-use Rattle.std.specs.List.{filter, fold, list_any}
+use Rattle.std.specs.Prelude.{ℕ, ◌+◌, ◌/◌, ◌%◌, ◌==◌, nat_le, Bool, true, false, not, ◌&&◌, if◌then◌else◌, List, [], ◌∷◌, ◌++◌, length, map}
+use Rattle.std.specs.List.{filter, fold, insert, list_any}
 use Rattle.nim_base.specs.declared.number.Object.{Object}
 use Rattle.nim_base.specs.declared.number.Slot.{Slot}
 use Rattle.nim_base.specs.declared.number.Worker.{Worker}
@@ -41,10 +41,22 @@ forward_receive task read =
     entry_of (entry_number task 3 read.index)
     (if read.there then EntryKind.Copy (main_slot read.object) (scratch_slot read.object) else EntryKind.Receive (scratch_slot read.object) read.offset)
 
--- the run, over main slots or over scratch slots
-abbrev pub run_over : (Object → Slot) → ℕ → Spec → Entry
-run_over slot task spec =
-    entry_of (entry_number task 4 0) (EntryKind.Run spec.func spec.params (map (λ (r : Object × ℕ). slot r.0) spec.reads) (map slot spec.writes))
+-- the scratch slot of an object, or its main slot
+abbrev pub slot_for : Bool → Object → Slot
+slot_for scratch object = if scratch then scratch_slot object else main_slot object
+
+-- the slots of what is read
+abbrev pub read_slots : Bool → List (Object × ℕ) → List Slot
+read_slots scratch reads = map (λ (r : Object × ℕ). slot_for scratch r.0) reads
+
+-- the slots of what is written
+abbrev pub written_slots : Bool → List Object → List Slot
+written_slots scratch objects = map (slot_for scratch) objects
+
+-- the run, over scratch slots or over main slots
+abbrev pub run_over : Bool → ℕ → Spec → Entry
+run_over scratch task spec =
+    entry_of (entry_number task 4 0) (EntryKind.Run spec.func spec.params (read_slots scratch spec.reads) (written_slots scratch spec.writes))
 
 -- at the new owner, what the task wrote is sent to the home
 abbrev pub return_sends : ℕ → Worker → ℕ → List Object → List Entry
@@ -63,30 +75,38 @@ abbrev pub put_by : Edit → List Entry
 put_by (Away task to mask spec) =
     map (forward_send task to) (filter (λ (r : FirstRead). not r.there) (first_reads [] mask spec.reads)) ++ return_receives task 0 spec.writes
 put_by (Here task from mask spec) =
-    map (forward_receive task) (first_reads [] mask spec.reads) ++ run_over scratch_slot task spec ∷ return_sends task from 0 spec.writes
+    map (forward_receive task) (first_reads [] mask spec.reads) ++ run_over true task spec ∷ return_sends task from 0 spec.writes
 put_by (Gone task) = []
-put_by (Home task spec) = run_over main_slot task spec ∷ []
+put_by (Home task spec) = run_over false task spec ∷ []
 
--- whether an entry is a task's, of one of these phases
-abbrev pub is_of : ℕ → List ℕ → Entry → Bool
-is_of task phases entry = (task_of entry.id == task) && list_any (λ (phase : ℕ). phase == phase_of entry.id) phases
+-- whether a number is that of a task's entry, of one of these phases
+abbrev pub is_of_number : ℕ → List ℕ → ℕ → Bool
+is_of_number task phases number = (task_of number == task) && list_any (λ (phase : ℕ). phase_of number == phase) phases
 
 -- Whether an edit takes an entry away: at the home what sent, ran and received there, at an owner what received, ran
 -- and sent.
 abbrev pub is_taken : Edit → Entry → Bool
-is_taken (Away task to mask spec) entry = is_of task (2 ∷ 4 ∷ 6 ∷ []) entry
-is_taken (Here task from mask spec) entry = is_of task (3 ∷ 4 ∷ 5 ∷ []) entry
-is_taken (Gone task) entry = is_of task (3 ∷ 4 ∷ 5 ∷ []) entry
-is_taken (Home task spec) entry = is_of task (2 ∷ 4 ∷ 6 ∷ []) entry
+is_taken (Away task to mask spec) entry = is_of_number task (2 ∷ 4 ∷ 6 ∷ []) entry.id
+is_taken (Here task from mask spec) entry = is_of_number task (3 ∷ 4 ∷ 5 ∷ []) entry.id
+is_taken (Gone task) entry = is_of_number task (3 ∷ 4 ∷ 5 ∷ []) entry.id
+is_taken (Home task spec) entry = is_of_number task (2 ∷ 4 ∷ 6 ∷ []) entry.id
+
+-- those that an edit doesn't take away
+abbrev pub kept_by : Edit → List Entry → List Entry
+kept_by edit entries = filter (λ (e : Entry). not (is_taken edit e)) entries
+
+-- the place of the first entry of a greater number
+abbrev pub place_for : List Entry → ℕ → ℕ
+place_for [] number = 0
+place_for (first ∷ rest) number = if nat_le first.id number then place_for rest number + 1 else 0
 
 -- with one entry more, before the first of a greater number
 abbrev pub with_entry : List Entry → Entry → List Entry
-with_entry [] entry = entry ∷ []
-with_entry (first ∷ rest) entry = if nat_lt entry.id first.id then entry ∷ (first ∷ rest) else first ∷ with_entry rest entry
+with_entry entries entry = insert entries (place_for entries entry.id) entry
 
 -- the entries of a half after an edit, all before sets those of the rule
 abbrev pub edited : Edit → List Entry → List Entry
-edited edit entries = entries_by_rule [] (fold with_entry (filter (λ (e : Entry). not (is_taken edit e)) entries) (put_by edit))
+edited edit entries = entries_by_rule [] (fold with_entry (kept_by edit entries) (put_by edit))
 
 -- after edits in order
 abbrev pub edited_by : List Edit → List Entry → List Entry

@@ -36,16 +36,16 @@ takes_version _ = false
 abbrev pub taken_after : ℕ → EntryKind → ℕ
 taken_after taken kind = if takes_version kind then taken + 1 else taken
 
+-- the command of an entry
+abbrev pub command_for : ℕ → List ℤ → ℕ → Entry → Command
+command_for base args named entry = record { id = entry.id; kind = kind_for base args named entry.id entry.kind; before = entry.before }
+
 -- The commands of entries once so many versions are taken: with the position of the block's task 0, the arguments,
 -- and the versions that the order names. A missing version is 0.
 abbrev pub expanded : ℕ → List ℤ → List ℕ → ℕ → List Entry → List Command
 expanded base args versions taken [] = []
 expanded base args versions taken (entry ∷ entries) =
-    record {
-      id = entry.id;
-      kind = kind_for base args (slice_index_or versions taken 0) entry.id entry.kind;
-      before = entry.before;
-    } ∷ expanded base args versions (taken_after taken entry.kind) entries
+    command_for base args (slice_index_or versions taken 0) entry ∷ expanded base args versions (taken_after taken entry.kind) entries
 
 -- what one end of a copy does, with the version that the order names for it
 abbrev pub part_kind : ℕ → PatchPart → Kind
@@ -56,11 +56,15 @@ part_kind named part =
 abbrev pub taken_past : ℕ → PatchPart → ℕ
 taken_past taken part = if part.receives then taken + 1 else taken
 
--- the commands of a patch's copies, before sets aside
+-- one end of a copy as a command, its before set aside
+abbrev pub command_of : ℕ → PatchPart → Command
+command_of named part = record { id = patch_number part.number; kind = part_kind named part; before = [] }
+
+-- the commands of a patch's copies
 abbrev pub copied : List ℕ → ℕ → List PatchPart → List Command
 copied versions taken [] = []
 copied versions taken (part ∷ parts) =
-    record { id = patch_number part.number; kind = part_kind (slice_index_or versions taken 0) part; before = [] } ∷ copied versions (taken_past taken part) parts
+    command_of (slice_index_or versions taken 0) part ∷ copied versions (taken_past taken part) parts
 
 -- the commands of a patch
 abbrev pub patch_commands : List ℕ → List PatchPart → List Command

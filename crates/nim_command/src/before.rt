@@ -72,13 +72,19 @@ pub(crate) fn before_set<T: Waits>(
     while at > 0 {
         at -= 1;
         let earlier = &past[at];
-        let waited = has_free(free.as_slice(), earlier.writes())
-            || has_rewritten(free.as_slice(), later.writes(), earlier.reads());
+        let waited = is_waited(earlier, free.as_slice(), later);
         keep_free(&mut free, earlier.writes());
         push_if(&mut numbers, waited, earlier.number())?;
     }
     numbers.reverse();
     Ok(Seq::from_vec(numbers))
+}
+
+/// Whether one waits for an earlier one while these slots are free.
+fn is_waited<T: Waits>(earlier: &T, free: &[Slot], later: &T) -> bool
+    ensures { result ≡ free_spec.is_before_free (T.footprint earlier.now) free.now (T.footprint later.now) }
+{
+    has_free(free, earlier.writes()) || has_rewritten(free, later.writes(), earlier.reads())
 }
 
 /// Drops the slots that are written.
@@ -118,4 +124,33 @@ pub(crate) fn is_among(slots: &[Slot], slot: Slot) -> bool
     ensures { result ≡ free_spec.is_among slots.now slot }
 {
     slots.iter().any(|one| one.0 == slot.0)
+}
+
+/// Entries, each with the before set of the rule in place of its own.
+pub(crate) fn entries_by_rule(alloc: Global, entries: Vec<Entry>) -> Result<Vec<Entry>, NoMemory>
+    ensures { IfOk result (λ all. all.items ≡ ruled.entries_by_rule [] entries.items) }
+{
+    let mut done = Vec::new(alloc);
+    for entry in entries {
+        let before = before_set(alloc, done.as_slice(), &entry)?;
+        let Entry { id, kind, .. } = entry;
+        done.push(Entry { id, kind, before })?;
+    }
+    Ok(done)
+}
+
+/// Commands, each with the before set of the rule in place of its own.
+pub(crate) fn commands_by_rule(
+    alloc: Global,
+    commands: Vec<Command>,
+) -> Result<Vec<Command>, NoMemory>
+    ensures { IfOk result (λ all. all.items ≡ ruled.commands_by_rule [] commands.items) }
+{
+    let mut done = Vec::new(alloc);
+    for command in commands {
+        let before = before_set(alloc, done.as_slice(), &command)?;
+        let Command { id, kind, .. } = command;
+        done.push(Command { id, kind, before })?;
+    }
+    Ok(done)
 }

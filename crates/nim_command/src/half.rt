@@ -1,7 +1,11 @@
-ghost use Rattle.std.specs.Prelude.{◌≡◌, []};
+ghost use Rattle.std.specs.Prelude.{◌≡◌, [], IfOk, OnOk, OnErr};
+ghost use Rattle.nim_command.specs.Edits as edits;
+ghost use Rattle.nim_command.specs.Expansion as expansion;
 
-use crate::Entry;
-use nim_base::{Copied, NoMemory, Seq};
+use crate::edited::edited;
+use crate::expansion::expanded;
+use crate::{Command, Edit, Entry};
+use nim_base::{Copied, NoMemory, Position, Seq, Version};
 use std::alloc::Global;
 use std::marker::Model;
 
@@ -45,6 +49,37 @@ impl Half {
         ensures { result.now ≡ self.now }
     {
         self.entries.as_slice()
+    }
+
+    /// What the half stands for in an instance of its block: the position of the block's task 0, its arguments, and
+    /// the versions of what is received as the block began with it. A missing argument or version is 0. Its meaning is
+    /// `expanded` of `specs/Expansion.antt`.
+    pub fn commands(
+        &self,
+        base: Position,
+        args: &[i64],
+        versions: &[Version],
+    ) -> Result<Vec<Command>, NoMemory>
+        ensures { IfOk result (λ commands. commands.items ≡ expansion.expanded base args.now versions.now 0 self.now) }
+    {
+        expanded(
+            self.entries.alloc(),
+            self.entries.as_slice(),
+            base,
+            args,
+            versions,
+        )
+    }
+
+    /// Takes away and puts what the edit says, and makes all before sets anew. Its meaning is `edited` of
+    /// `specs/Edits.antt`. Where memory is refused the half is as it was.
+    pub fn apply_edit(&mut self, edit: &Edit) -> Result<(), NoMemory>
+        ensures ok { OnOk result (self.new ≡ edits.edited edit.now self.old) }
+        ensures err { OnErr result (self.new ≡ self.old) }
+    {
+        let after = edited(self.entries.alloc(), self.entries.as_slice(), edit)?;
+        self.entries = Seq::from_vec(after);
+        Ok(())
     }
 }
 

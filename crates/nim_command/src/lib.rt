@@ -1,11 +1,13 @@
 //! What a worker is asked to do: commands on its slots, and the halves of templates that commands are made of.
 #![tactic(auto)]
 
-mod command;
 mod before;
+mod command;
 mod copies;
 mod edit;
+mod edited;
 mod entry;
+mod expansion;
 mod half;
 mod moved;
 mod numbers;
@@ -16,6 +18,7 @@ mod template;
 pub use command::{Command, Kind};
 pub use edit::{Edit, PatchPart, Spec};
 pub use entry::{Entry, EntryKind};
+pub use expansion::patch_commands;
 pub use half::Half;
 pub use rank::Rank;
 pub use slots::{object_of, reads, writes};

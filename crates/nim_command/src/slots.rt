@@ -8,9 +8,6 @@ use nim_base::{NoMemory, Object, Slot};
 use std::alloc::Global;
 use std::slice;
 
-
-
-
 /// The object that a slot is of.
 pub fn object_of(slot: Slot) -> Object
     ensures { result ≡ spec.object_of slot }

@@ -1,6 +1,7 @@
 -- What a list of orders that one worker was given comes to.
-use Rattle.std.specs.Prelude.{ℕ, ◌==◌, Bool, true, false, ◌&&◌, if◌then◌else◌, List, [], ◌∷◌, ◌++◌, ℤ}
+use Rattle.std.specs.Prelude.{ℕ, ◌==◌, Bool, true, false, ◌&&◌, if◌then◌else◌, ℤ, List, [], ◌∷◌, ◌++◌, Option, None, Some}
 use Rattle.std.specs.List.{fold}
+use Rattle.std.specs.Option.{option_map_or}
 use Rattle.nim_base.specs.declared.number.Shape.{Shape}
 use Rattle.nim_command.specs.declared.edit.PatchPart.{PatchPart}
 use Rattle.nim_command.specs.declared.entry.Entry.{Entry}
@@ -62,23 +63,36 @@ abbrev pub patch_group : ℕ → ℕ → List ℕ → List PatchPart → Group
 patch_group epoch instance versions copies =
     record { epoch = epoch; instance = instance; source = FromPatch; commands = patch_commands versions copies }
 
+-- the epoch that an order names, if it is of one
+abbrev pub epoch_named : ToWorker → Option ℕ
+epoch_named (Single epoch instance commands) = Some epoch
+epoch_named (InstallTemplate epoch block entries) = Some epoch
+epoch_named (Instantiate epoch instance block base args versions edits) = Some epoch
+epoch_named (InstallPatch epoch patch copies) = Some epoch
+epoch_named (RunPatch epoch instance patch versions) = Some epoch
+epoch_named (Reset epoch worker workers shapes) = None
+epoch_named Stop = None
+
+-- whether an order counts
+abbrev pub does_count : Session → ToWorker → Bool
+does_count session order = option_map_or (is_current session) (epoch_named order) false
+
+-- after one more order that counts: an instance first edits the half of its block
+abbrev pub counted : Session → ToWorker → Session
+counted session (Single epoch instance commands) = with_group session (single_group epoch instance commands)
+counted session (InstallTemplate epoch block entries) = with_half session block entries
+counted session (Instantiate epoch instance block base args versions edits) =
+    let half : List Entry = edited_by edits (session.halves block) in
+    with_group (with_half session block half) (instance_group epoch instance base args versions half)
+counted session (InstallPatch epoch patch copies) = with_patch session patch copies
+counted session (RunPatch epoch instance patch versions) = with_group session (patch_group epoch instance versions (session.patches patch))
+counted session (Reset epoch worker workers shapes) = session
+counted session Stop = session
+
 -- after one more order; one of another epoch is passed over
 abbrev pub after_order : Session → ToWorker → Session
-after_order session (Single epoch instance commands) =
-    if is_current session epoch then with_group session (single_group epoch instance commands) else session
-after_order session (InstallTemplate epoch block entries) =
-    if is_current session epoch then with_half session block entries else session
-after_order session (Instantiate epoch instance block base args versions edits) =
-    if is_current session epoch
-    then (let half : List Entry = edited_by edits (session.halves block) in
-    with_group (with_half session block half) (instance_group epoch instance base args versions half))
-    else session
-after_order session (InstallPatch epoch patch copies) =
-    if is_current session epoch then with_patch session patch copies else session
-after_order session (RunPatch epoch instance patch versions) =
-    if is_current session epoch then with_group session (patch_group epoch instance versions (session.patches patch)) else session
 after_order session (Reset epoch worker workers shapes) = new_session epoch shapes
-after_order session Stop = session
+after_order session order = if does_count session order then counted session order else session
 
 abbrev pub session_of : List ToWorker → Session
 session_of orders = fold after_order no_session orders

@@ -1,6 +1,7 @@
 pub mod Covered
 pub mod Free
 pub mod Good
+pub mod Installed
 pub mod Legal
 pub mod Listing
 pub mod Origins

@@ -1,4 +1,4 @@
-ghost use Rattle.std.specs.Prelude.{◌≡◌, ◌≤◌, length};
+ghost use Rattle.std.specs.Prelude.{◌≡◌};
 ghost use Rattle.nim_command.specs.Holds as spec;
 ghost use Rattle.nim_plan.specs.Origins.{content_from};
 
@@ -15,13 +15,12 @@ pub(crate) enum Origin {
 }
 
 /// The object and version that a slot holds before the command at a place, when commands run in the order of their
-/// list; nothing where the slot is empty. Takes no memory. Its meaning is `holds` of `specs/Holds.antt` of the crate
+/// list; nothing where the slot is empty. Past the end it is what all of them leave. Takes no memory. Its meaning is `holds` of `specs/Holds.antt` of the crate
 /// `nim_command`.
 pub fn holds(commands: &[Command], before: usize, slot: Slot) -> Option<(Object, Version)>
-    requires { before ≤ length commands.now }
     ensures { result ≡ spec.holds commands.now before slot }
 {
-    let mut at = before;
+    let mut at = before.min(commands.len());
     let mut current = slot;
     while at > 0 {
         at -= 1;
