@@ -15,6 +15,6 @@ abbrev pub patches_of : Installed → ℕ → List PatchPart
 patches_of installed = λ patch. unwrap_or (get nat_cmp installed.patches patch) []
 
 -- they are these
-pub record Has (installed : Installed) (halves : ℕ → List Entry) (patches : ℕ → List PatchPart) : Type 0 where
-  pub halves : halves_of installed ≡ halves
-  pub patches : patches_of installed ≡ patches
+pub record Has (installed : Installed) (by_block : ℕ → List Entry) (by_patch : ℕ → List PatchPart) : Type 0 where
+  pub halves : halves_of installed ≡ by_block
+  pub patches : patches_of installed ≡ by_patch

@@ -5,4 +5,5 @@ pub mod Installed
 pub mod Legal
 pub mod Listing
 pub mod Origins
+pub mod Paired
 pub mod Reached

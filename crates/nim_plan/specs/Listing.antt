@@ -1,5 +1,5 @@
 -- What a listing of orders has, of what the orders come to.
-use Rattle.std.specs.Prelude.{◌≡◌, ℕ, ◌==◌, Bool, false, if◌then◌else◌, List, ◌∷◌, ◌++◌, ◌+◌, length, map, Option, None, Some}
+use Rattle.std.specs.Prelude.{◌≡◌, ℕ, ◌==◌, Bool, false, if◌then◌else◌, List, ◌++◌, ◌+◌, length, map, Option, None, Some}
 use Rattle.std.specs.Option.{option_map_or}
 use Rattle.nim_command.specs.declared.command.Command.{Command}
 use Rattle.nim_command.specs.Waits.{Member, members_of}

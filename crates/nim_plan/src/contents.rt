@@ -1,4 +1,4 @@
-ghost use Rattle.std.specs.Prelude.{◌≡◌};
+ghost use Rattle.std.specs.Prelude.{◌≡◌, ◌≤◌, length};
 ghost use Rattle.nim_command.specs.Holds as spec;
 ghost use Rattle.nim_plan.specs.Origins.{content_from};
 
@@ -20,7 +20,15 @@ pub(crate) enum Origin {
 pub fn holds(commands: &[Command], before: usize, slot: Slot) -> Option<(Object, Version)>
     ensures { result ≡ spec.holds commands.now before slot }
 {
-    let mut at = before.min(commands.len());
+    held(commands, before.min(commands.len()), slot)
+}
+
+/// The same before a place of the list, or at its end.
+fn held(commands: &[Command], before: usize, slot: Slot) -> Option<(Object, Version)>
+    requires { before ≤ length commands.now }
+    ensures { result ≡ spec.holds commands.now before slot }
+{
+    let mut at = before;
     let mut current = slot;
     while at > 0 {
         at -= 1;

@@ -71,7 +71,7 @@ impl Installed {
     pub fn run_patch(&self, patch: u8, versions: &[Version]) -> Result<Vec<Command>, NoMemory>
         ensures { IfOk result (λ commands. commands.items ≡ expansion.patch_commands versions.now (patches_of self.now patch)) }
     {
-        match self.patches.get(patch) {
+        match self.patches.get(&patch) {
             Some(copies) => patch_commands(self.alloc, versions, copies.as_slice()),
             None => patch_commands(self.alloc, versions, &[]),
         }
@@ -92,7 +92,7 @@ impl Installed {
     fn half(&self, block: u8) -> Result<Half, NoMemory>
         ensures { IfOk result (λ half. half ≡ halves_of self.now block) }
     {
-        match self.halves.get(block) {
+        match self.halves.get(&block) {
             Some(half) => half.copy(),
             None => Ok(Half::empty(self.alloc)),
         }

@@ -4,6 +4,7 @@
 mod contents;
 mod covering;
 mod installed;
+mod laws;
 mod listing;
 mod member;
 mod ranks;
@@ -13,6 +14,7 @@ mod waits;
 pub use contents::holds;
 pub use covering::covered;
 pub use installed::Installed;
+pub use laws::legal_by_steps;
 pub use listing::commands;
 pub use nim_command::Rank;
 pub use ranks::rank;

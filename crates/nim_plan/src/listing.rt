@@ -32,7 +32,8 @@ fn placed(alloc: Global, members: &[Member], place: usize) -> Result<Command, No
     requires few { length members.now < 2 ^ 32 }
     ensures { IfOk result (λ command. IsSomeAnd (slice_get members.now place) (λ m. command ≡ record m.command { id = place; before = waits_of members.now place })) }
 {
-    let command = &members[place].command;
+    let member = &members[place];
+    let command = &member.command;
     Ok(Command {
         id: number(place),
         kind: command.kind.copy()?,

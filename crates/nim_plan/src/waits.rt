@@ -11,11 +11,7 @@ use std::alloc::Global;
 
 /// The places of the earlier commands that the one at a place waits for, in order. Walks down from the place with the
 /// slots that the command touches and no command passed so far writes.
-pub(crate) fn waits(
-    alloc: Global,
-    members: &[Member],
-    place: usize,
-) -> Result<Seq<u32>, NoMemory>
+pub(crate) fn waits(alloc: Global, members: &[Member], place: usize) -> Result<Seq<u32>, NoMemory>
     requires place { place < length members.now }
     requires few { length members.now < 2 ^ 32 }
     ensures { IfOk result (λ waits. waits ≡ waits_of members.now place) }

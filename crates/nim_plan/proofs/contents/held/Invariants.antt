@@ -1,7 +1,7 @@
 -- what the current slot holds at the place is what was asked for
 use Rattle.std.proofs.Common.{◌≡◌, ◌≤◌}
 use Rattle.nim_command.specs.Holds as spec
-use Rattle.nim_plan.proofs.contents.holds.Given as goal
+use Rattle.nim_plan.proofs.contents.held.Given as goal
 
 abbrev pub invariant-loop-at : goal.invariant-loop-at
 invariant-loop-at l = record {
