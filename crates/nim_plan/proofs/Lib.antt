@@ -5,3 +5,4 @@ pub mod Past
 pub mod Reach
 pub mod Steps
 pub mod Walk
+pub mod WorkedRows
