@@ -55,6 +55,11 @@ impl<T> Seq<T> {
     {
         self.items.len()
     }
+
+    /// Where its memory comes from.
+    pub fn alloc(&self) -> Global {
+        *self.items.allocator()
+    }
 }
 
 impl<T: Drop> Seq<T> {

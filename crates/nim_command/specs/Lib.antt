@@ -1,5 +1,11 @@
+pub mod Before
 pub mod Created
+pub mod Edits
+pub mod Expansion
+pub mod Free
 pub mod Holds
+pub mod Numbers
 pub mod Ranks
+pub mod Ruled
 pub mod Slots
 pub mod Waits

@@ -1,5 +1,7 @@
 -- The order of commands in which every wait goes to a smaller one.
 use Rattle.std.specs.Prelude.{ℕ, Bool, true, false, nat_le, if◌then◌else◌}
+use Rattle.std.specs.Ordering.{bool_cmp, nat_cmp, ordering_then}
+use Rattle.std.specs.declared.cmp.Ordering.{Ordering}
 use Rattle.nim_command.specs.declared.command.Command.{Command}
 use Rattle.nim_command.specs.declared.command.Kind.{Kind}
 use Rattle.nim_command.specs.declared.command.Kind.TheVariants.{Create, Load, Send, Receive, Fetch}
@@ -32,3 +34,10 @@ rank_of position command = record {
   number = command.id;
   later = is_later command.kind;
 }
+
+-- ranks compare by position, then by stage, then by number, and a Send comes before the rest
+abbrev pub ranks_compared : Rank → Rank → Ordering
+ranks_compared first second =
+    ordering_then (nat_cmp first.position second.position)
+    (ordering_then (nat_cmp first.stage second.stage)
+    (ordering_then (nat_cmp first.number second.number) (bool_cmp first.later second.later)))

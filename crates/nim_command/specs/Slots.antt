@@ -4,6 +4,7 @@ use Rattle.std.specs.List.{list_any}
 use Rattle.nim_base.specs.declared.number.Object.{Object}
 use Rattle.nim_base.specs.declared.number.Slot.{Slot}
 use Rattle.nim_command.specs.declared.command.Kind.{Kind}
+use Rattle.nim_command.specs.declared.entry.EntryKind.{EntryKind}
 use Rattle.nim_command.specs.declared.command.Kind.TheVariants.{Create, Load, Send, Receive, Copy, Run, Fetch}
 
 -- Slot s and slot 512 + s are of one object, the main slot and the scratch slot.
@@ -26,6 +27,20 @@ writes_of (Receive slot version) = slot ∷ []
 writes_of (Copy from to) = to ∷ []
 writes_of (Run position func params reads writes) = writes
 writes_of _ = []
+
+-- the slots that an entry reads
+abbrev pub entry_reads : EntryKind → List Slot
+entry_reads (EntryKind.Send slot peer entry) = slot ∷ []
+entry_reads (EntryKind.Copy from to) = from ∷ []
+entry_reads (EntryKind.Run func params reads writes) = reads
+entry_reads (EntryKind.Receive slot offset) = []
+
+-- the slots that an entry writes
+abbrev pub entry_writes : EntryKind → List Slot
+entry_writes (EntryKind.Receive slot offset) = slot ∷ []
+entry_writes (EntryKind.Copy from to) = to ∷ []
+entry_writes (EntryKind.Run func params reads writes) = writes
+entry_writes (EntryKind.Send slot peer entry) = []
 
 -- whether a slot is one of these
 abbrev pub is_among : List Slot → Slot → Bool

@@ -6,11 +6,22 @@ use Rattle.nim_base.specs.declared.number.Slot.{Slot}
 use Rattle.nim_command.specs.declared.command.Command.{Command}
 use Rattle.nim_command.specs.Slots.{does_touch, does_write, reads_of, writes_of}
 
+-- Which order a group came from. Of an instance it has the position of the block's task 0.
+pub data Source : Type 0 where
+  FromSingle : Source
+  FromInstance : (base : ℕ) → Source
+  FromPatch : Source
+
 -- what one order stands for: commands that name each other by their numbers
 pub record Group : Type 0 where
   pub epoch : ℕ
   pub instance : ℕ
+  pub source : Source
   pub commands : List Command
+
+-- what a Single stands for
+abbrev pub single_group : ℕ → ℕ → List Command → Group
+single_group epoch instance commands = record { epoch = epoch; instance = instance; source = FromSingle; commands = commands }
 
 -- a command, and which of the groups it is of
 pub record Member : Type 0 where

@@ -1,4 +1,4 @@
-use nim_base::{Copied, Epoch, NoMemory, Object, Position, Seq, Value, Version};
+use nim_base::{Copied, Epoch, Instance, NoMemory, Object, Position, Seq, Value, Version, Worker};
 
 /// A report of a worker to the controller.
 #[derive(Debug, Drop)]
@@ -17,8 +17,17 @@ pub enum FromWorker {
         position: Position,
         reads: Seq<(Object, Version)>,
     },
+    /// All commands of an instance are complete.
+    Through {
+        epoch: Epoch,
+        instance: Instance,
+    },
     /// Memory was refused: the worker does nothing any more.
     NoMemory,
+    /// The link to another worker failed.
+    PeerDown {
+        peer: Worker,
+    },
 }
 
 impl Copied for FromWorker {
@@ -46,7 +55,12 @@ impl Copied for FromWorker {
                 position: *position,
                 reads: reads.copy()?,
             },
+            FromWorker::Through { epoch, instance } => FromWorker::Through {
+                epoch: *epoch,
+                instance: *instance,
+            },
             FromWorker::NoMemory => FromWorker::NoMemory,
+            FromWorker::PeerDown { peer } => FromWorker::PeerDown { peer: *peer },
         })
     }
 }

@@ -1,32 +1,15 @@
 -- Numbers counted from 0 one by one, and tests of lists.
-use Rattle.std.proofs.Common.{◌≡◌, ℕ, ◌+◌, Bool, true, false, List, [], ◌∷◌, ◌++◌, map, refl, ap, ap₂, sym, ◌∙◌, arith}
-use Rattle.std.specs.Prelude.{◌&&◌, ◌||◌, if◌then◌else◌}
-use Rattle.std.specs.List.{filter, list_any, range_with_len}
+use Rattle.std.proofs.Common.{◌≡◌, ℕ, ◌+◌, Bool, true, false, List, [], ◌∷◌, ◌++◌, map, refl, ap₂, sym, ◌∙◌, arith}
+use Rattle.std.specs.Prelude.{◌&&◌}
+use Rattle.std.specs.List.{range_with_len}
 use Rattle.std.proofs.lemmas.List.FromFn.{map-range_with_len_more}
+pub use Rattle.nim_command.proofs.Lists.{any_and, any_filter, any_nothing, any_same, filter_all, filter_twice}
 pub use Rattle.nim_job.proofs.Lists.{all_more, all_not, range_more}
 
 -- one more item of a function of the numbers from 0 is pushed
 pub pushed : {A : Type 0} (f : ℕ → A) (old next : List A) (item : A) (n : ℕ) → next ≡ old ++ item ∷ [] → old ≡ map f (range_with_len 0 n) → item ≡ f n → next ≡ map f (range_with_len 0 (n + 1))
 pushed {A} f old next item n push before is =
     push ∙ ap₂ (λ (xs : List A) (x : A). xs ++ x ∷ []) before is ∙ sym (map-range_with_len_more f 0 n n (omega arith))
-
-first_counts : {X : Type 0} (p q : X → Bool) (x : X) (rest : List X) (found : Bool) → list_any p rest ≡ found → (b : Bool)
-    → list_any p (if b then x ∷ rest else rest) ≡ ((b && p x) || found)
-first_counts p q x rest found same true = ap (λ (b : Bool). p x || b) same
-first_counts p q x rest found same false = same
-
--- a test of the items that pass another one
-pub any_filter : {X : Type 0} (p q : X → Bool) (xs : List X) → list_any p (filter q xs) ≡ list_any (λ x. q x && p x) xs
-any_filter p q [] = refl
-any_filter {X} p q (x ∷ xs) = first_counts p q x (filter q xs) (list_any (λ (y : X). q y && p y) xs) (any_filter p q xs) (q x)
-
-pub any_same : {X : Type 0} (p q : X → Bool) → ((x : X) → p x ≡ q x) → (xs : List X) → list_any p xs ≡ list_any q xs
-any_same p q same [] = refl
-any_same p q same (x ∷ xs) = ap₂ (λ (a b : Bool). a || b) (same x) (any_same p q same xs)
-
-pub any_nothing : {X : Type 0} (p : X → Bool) → ((x : X) → p x ≡ false) → (xs : List X) → list_any p xs ≡ false
-any_nothing p none [] = refl
-any_nothing p none (x ∷ xs) = ap₂ (λ (a b : Bool). a || b) (none x) (any_nothing p none xs)
 
 -- the second of two tests counts only where the first holds
 pub both_same : (b x y : Bool) → (b ≡ true → x ≡ y) → (b && x) ≡ (b && y)
@@ -36,31 +19,3 @@ both_same false x y same = refl
 pub both_none : (b x : Bool) → (b ≡ true → x ≡ false) → (b && x) ≡ false
 both_none true x none = none refl
 both_none false x none = refl
-
-and_true : (b : Bool) → (b && true) ≡ b
-and_true true = refl
-and_true false = refl
-
-and_false : (b : Bool) → (b && false) ≡ false
-and_false true = refl
-and_false false = refl
-
--- a second test that is the same for all items
-pub any_and : {X : Type 0} (p : X → Bool) (b : Bool) (xs : List X) → list_any (λ x. p x && b) xs ≡ (list_any p xs && b)
-any_and {X} p true xs = any_same (λ (x : X). p x && true) p (λ x. and_true (p x)) xs ∙ sym (and_true (list_any p xs))
-any_and {X} p false xs = any_nothing (λ (x : X). p x && false) (λ x. and_false (p x)) xs ∙ sym (and_false (list_any p xs))
-
-kept_twice : {X : Type 0} (p : X → Bool) (x : X) (rest : List X) (q : Bool) → filter p (if q then x ∷ rest else rest) ≡ (if q && p x then x ∷ filter p rest else filter p rest)
-kept_twice p x rest true = refl
-kept_twice p x rest false = refl
-
--- items that pass two tests, one after the other
-pub filter_twice : {X : Type 0} (p q r : X → Bool) → ((x : X) → r x ≡ (q x && p x)) → (xs : List X) → filter p (filter q xs) ≡ filter r xs
-filter_twice p q r both [] = refl
-filter_twice {X} p q r both (x ∷ xs) =
-    kept_twice p x (filter q xs) (q x)
-    ∙ ap₂ (λ (b : Bool) (rest : List X). if b then x ∷ rest else rest) (sym (both x)) (filter_twice p q r both xs)
-
-pub filter_all : {X : Type 0} (p : X → Bool) → ((x : X) → p x ≡ true) → (xs : List X) → filter p xs ≡ xs
-filter_all p all [] = refl
-filter_all {X} p all (x ∷ xs) = ap₂ (λ (b : Bool) (rest : List X). if b then x ∷ rest else rest) (all x) (filter_all p all xs)

@@ -1,7 +1,8 @@
--- Which reports are true of a job.
+-- Which reports and frames are true of a job.
 use Rattle.std.specs.Prelude.{◌≡◌, true, IsSomeAnd, slice_get}
+use Rattle.nim_message.specs.declared.frame.Data.{Data}
 use Rattle.nim_message.specs.declared.report.FromWorker.{FromWorker}
-use Rattle.nim_message.specs.declared.report.FromWorker.TheVariants.{Ran, Value, NoMemory}
+use Rattle.nim_message.specs.declared.report.FromWorker.TheVariants.{Value, Ran, Through, NoMemory, PeerDown}
 use Rattle.nim_job.specs.declared.job.Job.{Job}
 use Rattle.nim_job.specs.Serial.{tasks_of}
 use Rattle.nim_job.specs.Versions.{version_value}
@@ -13,4 +14,10 @@ abbrev pub IsGood : Job → FromWorker → Type 0
 IsGood job (Value epoch ticket object version value) =
     (is_version job object version ≡ true) × (value ≡ version_value job object version)
 IsGood job (Ran epoch position reads) = IsSomeAnd (slice_get (tasks_of job) position) (λ task. reads ≡ reads_at job position task)
+IsGood job (Through epoch instance) = Unit {0}
 IsGood job NoMemory = Unit {0}
+IsGood job (PeerDown peer) = Unit {0}
+
+-- What a frame carries is the value of its object and version, which the job has.
+abbrev pub IsGoodFrame : Job → Data → Type 0
+IsGoodFrame job frame = (is_version job frame.object frame.version ≡ true) × (frame.value ≡ version_value job frame.object frame.version)

@@ -9,12 +9,14 @@ use Rattle.nim_command.specs.declared.command.Command.{Command}
 use Rattle.nim_command.specs.declared.command.Kind.{Kind}
 use Rattle.nim_command.specs.declared.command.Kind.TheVariants.{Create, Load, Send, Receive, Copy, Run, Fetch}
 use Rattle.nim_command.specs.Created.{created}
+use Rattle.nim_command.specs.Edits.{edited_by}
+use Rattle.nim_command.specs.Expansion.{expanded, patch_commands}
 use Rattle.nim_command.specs.Holds.{Content, holds}
 use Rattle.nim_command.specs.Slots.{object_of}
 use Rattle.nim_command.specs.Waits.{commands_of}
 use Rattle.nim_message.specs.declared.order.ToWorker.{ToWorker}
-use Rattle.nim_message.specs.declared.order.ToWorker.TheVariants.{Single, Reset, Stop}
-use Rattle.nim_message.specs.Orders.{Session, after_order, no_session}
+use Rattle.nim_message.specs.declared.order.ToWorker.TheVariants.{Single, InstallTemplate, Instantiate, InstallPatch, RunPatch, Reset, Stop}
+use Rattle.nim_message.specs.Orders.{Session, after_order, no_session, session_of}
 use Rattle.nim_job.specs.declared.job.Job.{Job}
 use Rattle.nim_job.specs.Objects.{initial_values, objects_of, shapes_of}
 use Rattle.nim_job.specs.Serial.{tasks_of}
@@ -59,12 +61,26 @@ AreLegal job past [] = Unit {0}
 AreLegal job past (command ∷ commands) =
     IsLegalKind job (holds past (length past)) command.kind × AreLegal job (past ++ command ∷ []) commands
 
--- an order may be given in a session
-abbrev pub IsLegalOrder : Job → Session → ToWorker → Type 0
-IsLegalOrder job session (Single epoch instance commands) =
+-- an order of the session's epoch may ask for commands
+abbrev pub IsLegalGroup : Job → Session → ℕ → List Command → Type 0
+IsLegalGroup job session epoch commands =
     (session.begun ≡ true) × (epoch ≡ session.epoch) × AreLegal job (commands_of session.groups) commands
+
+-- An order may be given in a session: what counts is what it asks for. What is installed asks for nothing.
+abbrev pub IsLegalOrder : Job → Session → ToWorker → Type 0
+IsLegalOrder job session (Single epoch instance commands) = IsLegalGroup job session epoch commands
+IsLegalOrder job session (InstallTemplate epoch block entries) = IsLegalGroup job session epoch []
+IsLegalOrder job session (Instantiate epoch instance block base args versions edits) =
+    IsLegalGroup job session epoch (expanded base args versions 0 (edited_by edits (session.halves block)))
+IsLegalOrder job session (InstallPatch epoch patch copies) = IsLegalGroup job session epoch []
+IsLegalOrder job session (RunPatch epoch instance patch versions) =
+    IsLegalGroup job session epoch (patch_commands versions (session.patches patch))
 IsLegalOrder job session (Reset epoch worker workers shapes) = shapes ≡ shapes_of job.vars
 IsLegalOrder job session Stop = Unit {0}
+
+-- a list of orders may be made longer by this one
+abbrev pub MayFollow : Job → List ToWorker → ToWorker → Type 0
+MayFollow job orders order = IsLegalOrder job (session_of orders) order
 
 -- each of these orders may be given behind those before it
 abbrev pub AreLegalFrom : Job → Session → List ToWorker → Type 0
@@ -74,3 +90,9 @@ AreLegalFrom job session (order ∷ orders) = IsLegalOrder job session order × 
 -- a list of orders, all that one worker is given, may be given for a job
 unfoldable pub IsLegal : Job → List ToWorker → Type 0
 IsLegal job orders = AreLegalFrom job no_session orders
+
+-- One step at a time: a list may be given where its front may be and each order behind it may follow.
+pub record LegalBySteps : Type 0 where
+  pub longer : (job : Job) (orders : List ToWorker) (order : ToWorker) → IsLegal job orders → MayFollow job orders order → IsLegal job (orders ++ order ∷ [])
+  pub last : (job : Job) (orders : List ToWorker) (order : ToWorker) → IsLegal job (orders ++ order ∷ []) → MayFollow job orders order
+  pub front : (job : Job) (orders more : List ToWorker) → IsLegal job (orders ++ more) → IsLegal job orders

@@ -1,7 +1,9 @@
 pub mod Covered
 pub mod Free
 pub mod Good
+pub mod Installed
 pub mod Legal
 pub mod Listing
 pub mod Origins
+pub mod Paired
 pub mod Reached

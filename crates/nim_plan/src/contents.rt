@@ -15,9 +15,16 @@ pub(crate) enum Origin {
 }
 
 /// The object and version that a slot holds before the command at a place, when commands run in the order of their
-/// list; nothing where the slot is empty. Takes no memory. Its meaning is `holds` of `specs/Holds.antt` of the crate
-/// `nim_command`.
+/// list; nothing where the slot is empty. Past the end it is what all of them leave. Takes no memory. Its meaning is
+/// `holds` of `specs/Holds.antt` of the crate `nim_command`.
 pub fn holds(commands: &[Command], before: usize, slot: Slot) -> Option<(Object, Version)>
+    ensures { result ≡ spec.holds commands.now before slot }
+{
+    held(commands, before.min(commands.len()), slot)
+}
+
+/// The same before a place of the list, or at its end.
+fn held(commands: &[Command], before: usize, slot: Slot) -> Option<(Object, Version)>
     requires { before ≤ length commands.now }
     ensures { result ≡ spec.holds commands.now before slot }
 {

@@ -4,7 +4,7 @@ ghost use Rattle.nim_command.specs.Slots.{does_touch, does_write};
 ghost use Rattle.nim_plan.specs.Covered as spec;
 ghost use Rattle.nim_plan.specs.Reached as table;
 
-use crate::slots::{self, reads, writes};
+use crate::slots;
 use nim_base::{NoMemory, Seq, Slot};
 use nim_command::{Command, Kind};
 use std::alloc::Global;
@@ -96,7 +96,7 @@ fn is_kept(earlier: &Kind, later: &Kind, reached: bool) -> bool
 fn do_conflict(earlier: &Kind, later: &Kind) -> bool
     ensures { result ≡ spec.do_conflict earlier.now later.now }
 {
-    touches_any(later, writes(earlier)) || writes_any(later, reads(earlier))
+    touches_any(later, earlier.writes()) || writes_any(later, earlier.reads())
 }
 
 fn touches_any(kind: &Kind, slots: &[Slot]) -> bool

@@ -3,16 +3,18 @@
 
 mod contents;
 mod covering;
+mod installed;
+mod laws;
 mod listing;
 mod member;
 mod ranks;
 mod slots;
-#[cfg(test)]
-mod tests;
 mod waits;
 
 pub use contents::holds;
 pub use covering::covered;
+pub use installed::Installed;
+pub use laws::legal_by_steps;
 pub use listing::commands;
 pub use nim_command::Rank;
 pub use ranks::rank;

@@ -1,22 +1,19 @@
-ghost use Rattle.std.specs.Prelude.{◌≡◌, ◌<◌, ◌++◌, ◌∷◌, [], ◌||◌, length, if◌then◌else◌, IfOk, OnOk};
+ghost use Rattle.std.specs.Prelude.{◌≡◌, ◌<◌, ◌^◌, ◌++◌, ◌∷◌, [], ◌||◌, length, if◌then◌else◌, IfOk, OnOk};
 ghost use Rattle.nim_command.specs.Slots.{reads_of, writes_of};
 ghost use Rattle.nim_command.specs.Waits.{waits_of};
 ghost use Rattle.nim_plan.specs.Free as spec;
 
 use crate::member::Member;
-use crate::slots::{does_write, is_among, reads, writes};
+use crate::slots::{does_write, is_among};
 use nim_base::{NoMemory, Seq, Slot};
 use nim_command::{Command, Kind};
 use std::alloc::Global;
 
 /// The places of the earlier commands that the one at a place waits for, in order. Walks down from the place with the
 /// slots that the command touches and no command passed so far writes.
-pub(crate) fn waits(
-    alloc: Global,
-    members: &[Member<'_>],
-    place: usize,
-) -> Result<Seq<u32>, NoMemory>
-    requires { place < length members.now }
+pub(crate) fn waits(alloc: Global, members: &[Member], place: usize) -> Result<Seq<u32>, NoMemory>
+    requires place { place < length members.now }
+    requires few { length members.now < 2 ^ 32 }
     ensures { IfOk result (λ waits. waits ≡ waits_of members.now place) }
 {
     let later = &members[place];
@@ -37,8 +34,8 @@ pub(crate) fn waits(
 fn touched(alloc: Global, kind: &Kind) -> Result<Vec<Slot>, NoMemory>
     ensures { IfOk result (λ slots. slots.items ≡ spec.touched_by kind.now) }
 {
-    let mut slots = Vec::from_slice(alloc, reads(kind))?;
-    slots.extend_from_slice(writes(kind))?;
+    let mut slots = Vec::from_slice(alloc, kind.reads())?;
+    slots.extend_from_slice(kind.writes())?;
     Ok(slots)
 }
 
@@ -49,32 +46,31 @@ fn keep_free(slots: &mut Vec<Slot>, kind: &Kind)
     slots.retain(|slot| !does_write(kind, *slot));
 }
 
-/// Appends a place where it is waited for. Memory is refused where the place is no number of a command.
+/// Appends a place where it is waited for.
 fn push_if(waits: &mut Vec<u32>, waited: bool, place: usize) -> Result<(), NoMemory>
+    requires { place < 2 ^ 32 }
     ensures { OnOk result (waits.new.items ≡ waits.old.items ++ (if waited then place ∷ [] else [])) }
 {
     if waited {
-        waits.push(number(place)?)?;
+        waits.push(number(place))?;
     }
     Ok(())
 }
 
 /// A place as a command's number.
-pub(crate) fn number(place: usize) -> Result<u32, NoMemory>
-    ensures { IfOk result (λ number. number ≡ place) }
+pub(crate) fn number(place: usize) -> u32
+    requires { place < 2 ^ 32 }
+    ensures { result ≡ place }
 {
-    match u32::try_from(place) {
-        Ok(number) => Ok(number),
-        Err(_) => Err(NoMemory),
-    }
+    place as u32
 }
 
 /// Whether a command waits for an earlier one: in its own group where it names its number, else where they border.
-fn is_waited(earlier: &Member<'_>, free: &[Slot], later: &Member<'_>) -> bool
+fn is_waited(earlier: &Member, free: &[Slot], later: &Member) -> bool
     ensures { result ≡ spec.is_waited_free earlier.now free.now later.now }
 {
     if earlier.group == later.group {
-        does_name(later.command, earlier.command.id)
+        does_name(&later.command, earlier.command.id)
     } else {
         is_border(&earlier.command.kind, free, &later.command.kind)
     }
@@ -90,7 +86,7 @@ fn does_name(command: &Command, id: u32) -> bool
 fn is_border(earlier: &Kind, free: &[Slot], later: &Kind) -> bool
     ensures { result ≡ (spec.has_free free.now (writes_of earlier.now) || spec.has_rewritten free.now later.now (reads_of earlier.now)) }
 {
-    has_free(free, writes(earlier)) || has_rewritten(free, later, reads(earlier))
+    has_free(free, earlier.writes()) || has_rewritten(free, later, earlier.reads())
 }
 
 fn has_free(free: &[Slot], slots: &[Slot]) -> bool

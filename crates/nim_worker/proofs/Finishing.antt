@@ -1,19 +1,19 @@
 -- What a core stands for once more commands are asked for, and once a batch is finished.
-use Rattle.std.proofs.Common.{◌≡◌, ℕ, ◌+◌, ◌≤◌, Bool, true, false, List, [], ◌∷◌, ◌++◌, length, drop, refl, ap, sym, subst, ◌∙◌, arith, rules, append-nil, Option, None, Some, inl, inr}
+use Rattle.std.proofs.Common.{◌≡◌, ℕ, ◌+◌, ◌≤◌, Bool, true, false, not, List, [], ◌∷◌, ◌++◌, length, drop, refl, ap, ap₂, sym, subst, ◌∙◌, arith, rules, append-nil, Option, None, Some, inl, inr}
 use Rattle.std.specs.Prelude.{◌==◌, ◌&&◌, if◌then◌else◌, slice_get, OnOk, Result, Ok, Err}
 use Rattle.std.specs.List.{flat_map, range_with_len}
 use Rattle.std.specs.Option.{is_some, option_map_or}
-use Rattle.std.proofs.lemmas.Bool.{both_ways}
+use Rattle.std.proofs.lemmas.Bool.{and_parts, both_ways, eqb-true}
 use Rattle.std.proofs.lemmas.List.{drop-append-le, length-append}
 use Rattle.std.proofs.lemmas.List.Concat.{flat_map-append}
 use Rattle.std.proofs.lemmas.List.Sums.{fold_push}
 use Rattle.nim_base.specs.declared.number.Shape.{Shape}
 use Rattle.nim_base.specs.declared.number.Slot.{Slot}
 use Rattle.nim_command.specs.declared.command.Command.{Command}
-use Rattle.nim_command.specs.Waits.{commands_of}
+use Rattle.nim_command.specs.Waits.{commands_of, single_group}
 use Rattle.nim_message.specs.declared.order.ToWorker.{ToWorker}
 use Rattle.nim_message.specs.declared.report.FromWorker.{FromWorker}
-use Rattle.nim_message.specs.Orders.{Session, after_order, session_of, with_group}
+use Rattle.nim_message.specs.Orders.{Session, after_order, counted, session_of, with_group}
 use Rattle.nim_plan.proofs.Lists.{range_more}
 use Rattle.nim_worker.specs.declared.batch.Batch.{Batch}
 use Rattle.nim_worker.specs.declared.batch.Work.{Work}
@@ -24,7 +24,7 @@ use Rattle.nim_worker.specs.declared.worker.Out.{Out}
 use Rattle.nim_worker.specs.declared.worker.WorkerCore.{WorkerCore}
 use Rattle.nim_worker.specs.Inputs.{slot_at}
 use Rattle.nim_worker.specs.Kept.{kept, kept_by, report_at, report_of}
-use Rattle.nim_worker.specs.Stands.{AllRun, IsAdmitted, IsAtRest, IsAtWork, MayBeOut, Stands, asked_for, completes, may_run, reported, reports_in}
+use Rattle.nim_worker.specs.Stands.{AllRun, IsAdmitted, IsAtRest, IsAtWork, MayBeOut, Stands, asked_for, completes, done_after, is_current, is_passed, may_run, reported, reports_in}
 use Rattle.nim_worker.specs.Works.{IsWork}
 use Rattle.nim_worker.proofs.Standing.{AllRun-append, AllRun-more, get_within, kept-append, kept_more, last_is, not_empty, out_empty, out_stale, out_ways, out_working, slice_get-append, some_of}
 
@@ -35,15 +35,15 @@ on_ok (Err e) holds draw = record {}
 
 -- a session with one group more
 current : (orders : List ToWorker) (epoch instance : ℕ) (commands : List Command) → (session_of orders).begun ≡ true → epoch ≡ (session_of orders).epoch
-    → session_of (orders ++ ToWorker.Single epoch instance commands ∷ []) ≡ with_group (session_of orders) (record { epoch = epoch; instance = instance; commands = commands })
+    → session_of (orders ++ ToWorker.Single epoch instance commands ∷ []) ≡ with_group (session_of orders) (single_group epoch instance commands)
 current orders epoch instance commands begun same =
     fold_push after_order _ orders (ToWorker.Single epoch instance commands) ∙ either ((session_of orders).begun && (epoch == (session_of orders).epoch)) (search rules) where
-      either : (b : Bool) → b ≡ true → (if b then with_group (session_of orders) (record { epoch = epoch; instance = instance; commands = commands }) else session_of orders)
-          ≡ with_group (session_of orders) (record { epoch = epoch; instance = instance; commands = commands })
+      either : (b : Bool) → b ≡ true → (if b then with_group (session_of orders) (single_group epoch instance commands) else session_of orders)
+          ≡ with_group (session_of orders) (single_group epoch instance commands)
       either true is = refl
       either false is = absurd (both_ways false refl is)
 
-more_asked : (session : Session) (epoch instance : ℕ) (commands : List Command) → commands_of (with_group session (record { epoch = epoch; instance = instance; commands = commands })).groups ≡ commands_of session.groups ++ commands
+more_asked : (session : Session) (epoch instance : ℕ) (commands : List Command) → commands_of (with_group session (single_group epoch instance commands)).groups ≡ commands_of session.groups ++ commands
 more_asked session epoch instance commands = flat_map-append _ session.groups _ ∙ ap (λ (more : List Command). commands_of session.groups ++ more) (append-nil commands)
 
 rest_admitted : (old new : WorkerCore) (shapes : List Shape) (asked commands : List Command) (done : ℕ) → done ≤ length asked → IsAdmitted old commands new → IsAtRest old shapes asked done
@@ -97,6 +97,67 @@ stands_admitted old new out orders done epoch instance commands begun same is st
       out = subst (λ (all : List Command). MayBeOut new out (session_of (orders ++ ToWorker.Single epoch instance commands ∷ [])).shapes all done) (sym asked)
           (subst (λ (all : List Shape). MayBeOut new out all (asked_for orders ++ commands) done) (sym shapes) (out_admitted old new out (session_of orders).shapes (asked_for orders) commands done st.within is st.out));
     }
+
+not_false : (b : Bool) → not b ≡ false → b ≡ true
+not_false true is = refl
+not_false false is = absurd cc
+
+not_true : (b : Bool) → not b ≡ true → b ≡ false
+not_true true is = absurd cc
+not_true false is = refl
+
+-- an order that counts, and isn't passed over
+pub stands_taken : (old new : WorkerCore) (out : Option Batch) (orders : List ToWorker) (order : ToWorker) (done epoch instance : ℕ) (commands : List Command)
+    → order ≡ ToWorker.Single epoch instance commands → is_passed old order ≡ false → IsAdmitted old commands new → Stands old out orders done
+    → Stands new out (orders ++ order ∷ []) (done_after order done)
+stands_taken old new out orders order done epoch instance commands is counts admitted st =
+    let counts_here : not (is_current old epoch) ≡ false = subst (λ (o : ToWorker). is_passed old o ≡ false) is counts in
+    let parts = and_parts old.begun (epoch == old.epoch) (not_false (is_current old epoch) counts_here) in
+    subst (λ (o : ToWorker). Stands new out (orders ++ o ∷ []) (done_after o done)) (sym is)
+    (stands_admitted old new out orders done epoch instance commands parts.0 (eqb-true epoch old.epoch parts.1) admitted st)
+
+-- the session of an order that asks for nothing
+session_same : (core : WorkerCore) (session wider : Session) (epoch : ℕ) → core.begun ≡ session.begun → core.epoch ≡ session.epoch → not (is_current core epoch) ≡ true
+    → (if session.begun && (epoch == session.epoch) then wider else session) ≡ session
+session_same core session wider epoch begun same passed =
+    let none : (session.begun && (epoch == session.epoch)) ≡ false =
+    ap₂ (λ (b : Bool) (e : ℕ). b && (epoch == e)) (sym begun) (sym same) ∙ not_true (is_current core epoch) passed in
+    ap (λ (b : Bool). if b then wider else session) none
+
+stays : (core : WorkerCore) (out : Option Batch) (orders : List ToWorker) (order : ToWorker) (done : ℕ) → after_order (session_of orders) order ≡ session_of orders → Stands core out orders done
+    → Stands core out (orders ++ order ∷ []) done
+stays core out orders order done same st =
+    let all : session_of (orders ++ order ∷ []) ≡ session_of orders = fold_push after_order _ orders order ∙ same in
+    record {
+      failed = st.failed;
+      begun = st.begun ∙ ap (λ (s : Session). s.begun) (sym all);
+      epoch = st.epoch ∙ ap (λ (s : Session). s.epoch) (sym all);
+      shapes = st.shapes ∙ ap (λ (s : Session). s.shapes) (sym all);
+      within = subst (λ (s : Session). done ≤ length (commands_of s.groups)) (sym all) st.within;
+      ran = subst (λ (s : Session). AllRun (commands_of s.groups) done) (sym all) st.ran;
+      busy = st.busy;
+      out = subst (λ (s : Session). MayBeOut core out s.shapes (commands_of s.groups) done) (sym all) st.out;
+    }
+
+-- an order that is passed over
+pub stands_passed : (core : WorkerCore) (out : Option Batch) (orders : List ToWorker) (order : ToWorker) (done : ℕ) → is_passed core order ≡ true → Stands core out orders done
+    → Stands core out (orders ++ order ∷ []) (done_after order done)
+stands_passed core out orders (ToWorker.Single epoch instance commands) done passed st =
+    stays core out orders (ToWorker.Single epoch instance commands) done (session_same core (session_of orders) (counted (session_of orders) (ToWorker.Single epoch instance commands)) epoch st.begun st.epoch passed) st
+stands_passed core out orders (ToWorker.InstallTemplate epoch block entries) done passed st =
+    stays core out orders (ToWorker.InstallTemplate epoch block entries) done
+    (session_same core (session_of orders) (counted (session_of orders) (ToWorker.InstallTemplate epoch block entries)) epoch st.begun st.epoch passed) st
+stands_passed core out orders (ToWorker.Instantiate epoch instance block base args versions edits) done passed st =
+    stays core out orders (ToWorker.Instantiate epoch instance block base args versions edits) done
+    (session_same core (session_of orders) (counted (session_of orders) (ToWorker.Instantiate epoch instance block base args versions edits)) epoch st.begun st.epoch passed) st
+stands_passed core out orders (ToWorker.InstallPatch epoch patch copies) done passed st =
+    stays core out orders (ToWorker.InstallPatch epoch patch copies) done
+    (session_same core (session_of orders) (counted (session_of orders) (ToWorker.InstallPatch epoch patch copies)) epoch st.begun st.epoch passed) st
+stands_passed core out orders (ToWorker.RunPatch epoch instance patch versions) done passed st =
+    stays core out orders (ToWorker.RunPatch epoch instance patch versions) done
+    (session_same core (session_of orders) (counted (session_of orders) (ToWorker.RunPatch epoch instance patch versions)) epoch st.begun st.epoch passed) st
+stands_passed core out orders (ToWorker.Reset epoch worker workers shapes) done passed st = absurd cc
+stands_passed core out orders ToWorker.Stop done passed st = stays core out orders ToWorker.Stop done refl st
 
 -- what finishing a work leaves, and what it tells
 abbrev pub LeavesRight : WorkerCore → Work → Slots → Type 0

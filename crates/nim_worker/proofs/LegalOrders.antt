@@ -10,10 +10,12 @@ use Rattle.std.proofs.lemmas.List.Concat.{flat_map-append}
 use Rattle.nim_base.specs.declared.number.Slot.{Slot}
 use Rattle.nim_command.specs.declared.command.Command.{Command}
 use Rattle.nim_command.specs.Holds.{Content, holds, left_by}
-use Rattle.nim_command.specs.Waits.{Group, commands_of}
+use Rattle.nim_command.specs.declared.entry.Entry.{Entry}
+use Rattle.nim_command.specs.Edits.{edited_by}
+use Rattle.nim_command.specs.Waits.{Group, commands_of, single_group}
 use Rattle.nim_message.specs.declared.order.ToWorker.{ToWorker}
-use Rattle.nim_message.specs.declared.order.ToWorker.TheVariants.{Single, Reset, Stop}
-use Rattle.nim_message.specs.Orders.{Session, after_order, is_current, no_session, session_of, with_group}
+use Rattle.nim_message.specs.declared.order.ToWorker.TheVariants.{Single, InstallTemplate, Instantiate, InstallPatch, RunPatch, Reset, Stop}
+use Rattle.nim_message.specs.Orders.{Session, after_order, instance_group, is_current, no_session, patch_group, session_of, with_group, with_half, with_patch}
 use Rattle.nim_job.specs.declared.job.Job.{Job}
 use Rattle.nim_job.specs.Objects.{shapes_of}
 use Rattle.nim_plan.specs.Legal.{AreLegal, AreLegalFrom, IsLegal, IsLegalKind, IsLegalOrder}
@@ -73,14 +75,36 @@ grown job session group begun more sound =
       none = λ unbegun. absurd (both_ways session.begun unbegun begun);
     }
 
-sound_order : (job : Job) (session : Session) (order : ToWorker) → IsLegalOrder job session order → IsSound job session → IsSound job (after_order session order)
-sound_order job session (Single epoch instance commands) legal sound = either (is_current session epoch) where
-  group : Group
-  group = record { epoch = epoch; instance = instance; commands = commands }
+-- halves and patches don't count
+alike : (job : Job) (session wider : Session) → IsSound job session → wider.groups ≡ session.groups → wider.shapes ≡ session.shapes → wider.begun ≡ session.begun → IsSound job wider
+alike job session wider sound groups shapes same = record {
+  legal = subst (λ (gs : List Group). AreLegal job [] (commands_of gs)) (sym groups) sound.legal;
+  shapes = λ begun. shapes ∙ sound.shapes (sym same ∙ begun);
+  none = λ unbegun. ap commands_of groups ∙ sound.none (sym same ∙ unbegun);
+}
 
-  either : (b : Bool) → IsSound job (if b then with_group session group else session)
-  either true = grown job session group legal.0 legal.2 sound
-  either false = sound
+alike_if : (job : Job) (session wider : Session) → IsSound job session → wider.groups ≡ session.groups → wider.shapes ≡ session.shapes → wider.begun ≡ session.begun
+    → (b : Bool) → IsSound job (if b then wider else session)
+alike_if job session wider sound groups shapes same true = alike job session wider sound groups shapes same
+alike_if job session wider sound groups shapes same false = sound
+
+-- with one more group where it counts
+grown_if : (job : Job) (session wider : Session) (group : Group) → session.begun ≡ true → AreLegal job (commands_of session.groups) group.commands → IsSound job session
+    → wider.groups ≡ session.groups → wider.shapes ≡ session.shapes → wider.begun ≡ session.begun → (b : Bool) → IsSound job (if b then with_group wider group else session)
+grown_if job session wider group begun more sound groups shapes same true =
+    grown job wider group (same ∙ begun) (subst (λ (gs : List Group). AreLegal job (commands_of gs) group.commands) (sym groups) more) (alike job session wider sound groups shapes same)
+grown_if job session wider group begun more sound groups shapes same false = sound
+
+sound_order : (job : Job) (session : Session) (order : ToWorker) → IsLegalOrder job session order → IsSound job session → IsSound job (after_order session order)
+sound_order job session (Single epoch instance commands) legal sound =
+    grown_if job session session (single_group epoch instance commands) legal.0 legal.2 sound refl refl refl (is_current session epoch)
+sound_order job session (InstallTemplate epoch block entries) legal sound = alike_if job session (with_half session block entries) sound refl refl refl (is_current session epoch)
+sound_order job session (Instantiate epoch instance block base args versions edits) legal sound =
+    let half : List Entry = edited_by edits (session.halves block) in
+    grown_if job session (with_half session block half) (instance_group epoch instance base args versions half) legal.0 legal.2 sound refl refl refl (is_current session epoch)
+sound_order job session (InstallPatch epoch patch copies) legal sound = alike_if job session (with_patch session patch copies) sound refl refl refl (is_current session epoch)
+sound_order job session (RunPatch epoch instance patch versions) legal sound =
+    grown_if job session session (patch_group epoch instance versions (session.patches patch)) legal.0 legal.2 sound refl refl refl (is_current session epoch)
 sound_order job session (Reset epoch worker workers shapes) legal sound = record { legal = tt; shapes = λ begun. legal; none = λ unbegun. refl }
 sound_order job session Stop legal sound = sound
 

@@ -7,9 +7,9 @@ use Rattle.std.proofs.lemmas.Bool.{and_parts, both_ways, cases_eq}
 use Rattle.nim_base.specs.declared.number.Shape.{Shape}
 use Rattle.nim_base.specs.declared.number.Slot.{Slot}
 use Rattle.nim_command.specs.declared.command.Command.{Command}
-use Rattle.nim_command.specs.Waits.{commands_of}
+use Rattle.nim_command.specs.Waits.{commands_of, single_group}
 use Rattle.nim_message.specs.declared.order.ToWorker.{ToWorker}
-use Rattle.nim_message.specs.Orders.{Session, after_order, no_session, session_of, with_group}
+use Rattle.nim_message.specs.Orders.{Session, after_order, counted, is_current, no_session, session_of, with_group, with_half, with_patch}
 use Rattle.nim_worker.specs.declared.batch.Batch.{Batch}
 use Rattle.nim_worker.specs.declared.batch.Work.{Work}
 use Rattle.nim_worker.specs.declared.worker.WorkerCore.{WorkerCore}
@@ -135,18 +135,31 @@ AllRun-more commands done command found may ran = λ k below. elim (cases_eq k d
   | inr other ↦ ran k (omega (arith, below, other))
 ]
 
+-- before the first Reset no order counts
+not_current : (session : Session) (epoch : ℕ) → session.begun ≡ false → is_current session epoch ≡ false
+not_current session epoch unbegun = ap (λ (b : Bool). b && (epoch == session.epoch)) unbegun
+
+passed : (session wider : Session) → wider.begun ≡ session.begun → (session.begun ≡ false → session.groups ≡ []) → (current : Bool) → (session.begun ≡ false → current ≡ false)
+    → (if current then wider else session).begun ≡ false → (if current then wider else session).groups ≡ []
+passed session wider same none false unless unbegun = none unbegun
+passed session wider same none true unless unbegun = let never : true ≡ false = unless (sym same ∙ unbegun) in absurd cc
+
+unbegun_step : (order : ToWorker) (session : Session) → (session.begun ≡ false → session.groups ≡ []) → (after_order session order).begun ≡ false → (after_order session order).groups ≡ []
+unbegun_step (ToWorker.Single epoch instance commands) session none =
+    passed session (with_group session (single_group epoch instance commands)) refl none (is_current session epoch) (not_current session epoch)
+unbegun_step (ToWorker.InstallTemplate epoch block entries) session none = passed session (with_half session block entries) refl none (is_current session epoch) (not_current session epoch)
+unbegun_step (ToWorker.Instantiate epoch instance block base args versions edits) session none =
+    passed session (counted session (ToWorker.Instantiate epoch instance block base args versions edits)) refl none (is_current session epoch) (not_current session epoch)
+unbegun_step (ToWorker.InstallPatch epoch patch copies) session none = passed session (with_patch session patch copies) refl none (is_current session epoch) (not_current session epoch)
+unbegun_step (ToWorker.RunPatch epoch instance patch versions) session none =
+    passed session (counted session (ToWorker.RunPatch epoch instance patch versions)) refl none (is_current session epoch) (not_current session epoch)
+unbegun_step (ToWorker.Reset epoch worker workers shapes) session none = λ unbegun. absurd cc
+unbegun_step ToWorker.Stop session none = none
+
 -- before the first Reset nothing is asked for
 unbegun_from : (orders : List ToWorker) (session : Session) → (session.begun ≡ false → session.groups ≡ []) → (fold after_order session orders).begun ≡ false → (fold after_order session orders).groups ≡ []
 unbegun_from [] session none = none
-unbegun_from (ToWorker.Single epoch instance commands ∷ orders) session none = unbegun_from orders (after_order session (ToWorker.Single epoch instance commands)) (either session.begun refl) where
-  either : (b : Bool) → session.begun ≡ b → (after_order session (ToWorker.Single epoch instance commands)).begun ≡ false → (after_order session (ToWorker.Single epoch instance commands)).groups ≡ []
-  either false is unbegun = rw is (none is)
-  either true is unbegun = absurd (both_ways session.begun (stays (session.begun && (epoch == session.epoch)) unbegun) is) where
-    stays : (b : Bool) → (if b then with_group session (record { epoch = epoch; instance = instance; commands = commands }) else session).begun ≡ false → session.begun ≡ false
-    stays true is = is
-    stays false is = is
-unbegun_from (ToWorker.Reset epoch worker workers shapes ∷ orders) session none = unbegun_from orders (after_order session (ToWorker.Reset epoch worker workers shapes)) (λ unbegun. absurd cc)
-unbegun_from (ToWorker.Stop ∷ orders) session none = unbegun_from orders session none
+unbegun_from (order ∷ orders) session none = unbegun_from orders (after_order session order) (unbegun_step order session none)
 
 pub has_begun : (orders : List ToWorker) (k : ℕ) (command : Command) → slice_get (asked_for orders) k ≡ Some command → (session_of orders).begun ≡ true
 has_begun orders k command found = either (session_of orders).begun refl where

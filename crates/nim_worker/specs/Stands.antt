@@ -1,5 +1,5 @@
 -- Which orders a worker's core stands for, and how many of their commands are complete.
-use Rattle.std.specs.Prelude.{◌≡◌, ℕ, ◌+◌, ◌≤◌, ◌<◌, Bool, true, false, ◌&&◌, List, [], ◌∷◌, ◌++◌, length, map, drop, if◌then◌else◌, Option, None, Some, slice_get, IfSome, IsSomeAnd}
+use Rattle.std.specs.Prelude.{◌≡◌, ℕ, ◌+◌, ◌≤◌, ◌<◌, ◌==◌, Bool, true, false, not, ◌&&◌, List, [], ◌∷◌, ◌++◌, length, map, drop, if◌then◌else◌, Option, None, Some, slice_get, IfSome, IsSomeAnd}
 use Rattle.std.specs.Option.{is_some, option_map_or}
 use Rattle.nim_base.specs.declared.number.Shape.{Shape}
 use Rattle.nim_command.specs.declared.command.Command.{Command}
@@ -8,7 +8,7 @@ use Rattle.nim_command.specs.declared.command.Kind.TheVariants.{Send, Receive}
 use Rattle.nim_command.specs.Waits.{commands_of}
 use Rattle.nim_message.specs.declared.order.ToWorker.{ToWorker}
 use Rattle.nim_message.specs.declared.report.FromWorker.{FromWorker}
-use Rattle.nim_message.specs.Orders.{session_of}
+use Rattle.nim_message.specs.Orders.{epoch_named, session_of}
 use Rattle.nim_worker.specs.declared.batch.Batch.{Batch}
 use Rattle.nim_worker.specs.declared.batch.Work.{Work}
 use Rattle.nim_worker.specs.declared.worker.Out.{Out}
@@ -88,6 +88,15 @@ reported orders done = reports_of (session_of orders).epoch (session_of orders).
 abbrev pub done_after : ToWorker → ℕ → ℕ
 done_after (ToWorker.Reset epoch worker workers shapes) done = 0
 done_after order done = done
+
+-- whether an order of this epoch counts
+abbrev pub is_current : WorkerCore → ℕ → Bool
+is_current core epoch = core.begun && (epoch == core.epoch)
+
+-- whether an order asks for nothing: a Stop does, and one of another epoch
+abbrev pub is_passed : WorkerCore → ToWorker → Bool
+is_passed core (ToWorker.Reset epoch worker workers shapes) = false
+is_passed core order = not (option_map_or (is_current core) (epoch_named order) false)
 
 -- whether the first waiting command may be released, and there is room for it
 abbrev pub is_released : WorkerCore → Bool

@@ -84,6 +84,7 @@ impl WorkerCore {
     }
 
     /// Takes an order. One that comes before the first Reset, or names another epoch than the last, is dropped.
+    /// Templates and patches aren't taken yet: memory is refused for each that counts.
     pub fn on_message(&mut self, order: ToWorker) -> Result<(), NoMemory>
         ensures stands { (orders : List order_type) (out : Option batch_type) (done : ℕ) → Stands self.old out orders done
             → OnOk result (Stands self.new out (orders ++ order ∷ []) (done_after order done)) }
@@ -93,15 +94,50 @@ impl WorkerCore {
         if self.failed {
             return Err(NoMemory);
         }
+        if self.passes_over(&order) {
+            return Ok(());
+        }
+        self.take(order)
+    }
+
+    // Takes an order that isn't passed over.
+    fn take(&mut self, order: ToWorker) -> Result<(), NoMemory>
+        requires { spec.is_passed self.old order ≡ false }
+        ensures stands { (orders : List order_type) (out : Option batch_type) (done : ℕ) → Stands self.old out orders done
+            → OnOk result (Stands self.new out (orders ++ order ∷ []) (done_after order done)) }
+        ensures err { (orders : List order_type) (out : Option batch_type) (done : ℕ) → Stands self.old out orders done
+            → OnErr result (Stands self.new out orders done) }
+    {
         match order {
             ToWorker::Reset { epoch, shapes, .. } => self.reset(epoch, shapes),
-            ToWorker::Single {
-                epoch,
-                commands,
-                ..
-            } if self.begun && epoch == self.epoch => self.admit(commands),
-            ToWorker::Single { .. } | ToWorker::Stop => Ok(()),
+            ToWorker::Single { commands, .. } => self.admit(commands),
+            ToWorker::InstallTemplate { .. }
+            | ToWorker::Instantiate { .. }
+            | ToWorker::InstallPatch { .. }
+            | ToWorker::RunPatch { .. }
+            | ToWorker::Stop => Err(NoMemory),
         }
+    }
+
+    // Whether an order asks for nothing: a Stop does, and one of another epoch.
+    fn passes_over(&self, order: &ToWorker) -> bool
+        ensures { result ≡ spec.is_passed self.now order.now }
+    {
+        match order {
+            ToWorker::Reset { .. } => false,
+            ToWorker::Stop => true,
+            ToWorker::Single { epoch, .. }
+            | ToWorker::InstallTemplate { epoch, .. }
+            | ToWorker::Instantiate { epoch, .. }
+            | ToWorker::InstallPatch { epoch, .. }
+            | ToWorker::RunPatch { epoch, .. } => !self.is_current(*epoch),
+        }
+    }
+
+    fn is_current(&self, epoch: Epoch) -> bool
+        ensures { result ≡ spec.is_current self.now epoch }
+    {
+        self.begun && epoch == self.epoch
     }
 
     // Begins an epoch with empty slots. It makes the room of a batch where it isn't there.

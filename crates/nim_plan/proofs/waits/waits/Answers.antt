@@ -25,7 +25,7 @@ loop-at-preserved c =
     let free = c.loop-at.free.items in
     let above : old ≡ next + 1 = omega arith in
     let within : old ≤ place = c.loop-at.invariant.within in
-    let there : place < length members = c.requires in
+    let there : place < length members = c.requires.place in
     let there_too : place ≤ length members = omega arith in
     let waited = waited_at members next old place earlier later free above within there c.index-members-at.is c.index-members-place.is c.loop-at.invariant.free in
     record {

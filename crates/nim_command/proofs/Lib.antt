@@ -1,0 +1,3 @@
+pub mod ByRule
+pub mod Lists
+pub mod Walk
