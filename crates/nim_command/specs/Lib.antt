@@ -1,3 +1,4 @@
+pub mod Covered
 pub mod Created
 pub mod Holds
 pub mod Ranks
