@@ -1,3 +1,4 @@
+pub mod Before
 pub mod Covered
 pub mod Created
 pub mod Holds
