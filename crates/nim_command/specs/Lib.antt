@@ -1,4 +1,5 @@
 pub mod Before
+pub mod Covered
 pub mod Created
 pub mod Edits
 pub mod Expansion

@@ -8,7 +8,7 @@ use Rattle.std.proofs.lemmas.Bool.{cases_lt, ltb-true, ne_eqb, or_from}
 use Rattle.std.proofs.lemmas.List.FromFn.{length-range_with_len, get_or-range_with_len, length-map-range_with_len, get_or-map-range_with_len}
 use Rattle.std.proofs.lemmas.Option.{slice_get-map, slice_get-get_or, slice_get_past}
 use Rattle.nim_command.specs.declared.command.Command.{Command}
-use Rattle.nim_plan.specs.Covered.{do_conflict, is_kept_in_order, is_reached}
+use Rattle.nim_command.specs.Covered.{do_conflict, is_kept_in_order, is_reached}
 use Rattle.nim_plan.specs.Reached.{is_marked, leads_to, row_of}
 use Rattle.nim_plan.proofs.Lists.{any_filter, any_same, any_nothing, both_same, both_none}
 

@@ -1,4 +1,3 @@
-pub mod Covered
 pub mod Free
 pub mod Good
 pub mod Installed

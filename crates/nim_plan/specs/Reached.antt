@@ -3,7 +3,7 @@ use Rattle.std.specs.Prelude.{ℕ, ◌==◌, Bool, false, ◌&&◌, ◌||◌, na
 use Rattle.std.specs.List.{range_with_len}
 use Rattle.std.specs.Option.{option_map_or}
 use Rattle.nim_command.specs.declared.command.Command.{Command}
-use Rattle.nim_plan.specs.Covered.{is_reached}
+use Rattle.nim_command.specs.Covered.{is_reached}
 
 -- of each earlier place, whether it is reached from this one
 abbrev pub row_of : List Command → ℕ → List Bool

@@ -1,7 +1,7 @@
 ghost use Rattle.std.specs.Prelude.{◌≡◌, ◌<◌, ◌||◌, length, map, not, IfOk};
 ghost use Rattle.std.specs.List.{list_all, list_any, range_with_len};
 ghost use Rattle.nim_command.specs.Slots.{does_touch, does_write};
-ghost use Rattle.nim_plan.specs.Covered as spec;
+ghost use Rattle.nim_command.specs.Covered as spec;
 ghost use Rattle.nim_plan.specs.Reached as table;
 
 use crate::slots;
@@ -10,7 +10,7 @@ use nim_command::{Command, Kind};
 use std::alloc::Global;
 
 /// Whether the waits of commands keep every conflict in order; a command's numbers are places of earlier ones. Its
-/// meaning is `is_covered` of `specs/Covered.antt`.
+/// meaning is `is_covered` of `specs/Covered.antt` of `nim_command`.
 pub fn covered(alloc: Global, commands: &[Command]) -> Result<bool, NoMemory>
     ensures { IfOk result (λ covered. covered ≡ spec.is_covered commands.now) }
 {

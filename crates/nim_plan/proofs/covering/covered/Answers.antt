@@ -1,6 +1,6 @@
 use Rattle.std.proofs.Common.{◌∙◌, sym}
 use Rattle.std.specs.List.{list_all, range_with_len}
-use Rattle.nim_plan.specs.Covered.{is_kept_in_order}
+use Rattle.nim_command.specs.Covered.{is_kept_in_order}
 use Rattle.nim_plan.specs.Reached.{row_of}
 use Rattle.nim_plan.proofs.Lists.{all_more, all_not, pushed}
 use Rattle.nim_plan.proofs.covering.covered.Goals as goal

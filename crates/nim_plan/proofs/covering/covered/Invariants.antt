@@ -1,7 +1,7 @@
 -- the table of the places so far, each of which is kept in order
 use Rattle.std.proofs.Common.{◌≡◌, map, true}
 use Rattle.std.specs.List.{list_all, range_with_len}
-use Rattle.nim_plan.specs.Covered.{is_kept_in_order}
+use Rattle.nim_command.specs.Covered.{is_kept_in_order}
 use Rattle.nim_plan.specs.Reached.{row_of}
 use Rattle.nim_plan.proofs.covering.covered.Given as goal
 

@@ -1,5 +1,5 @@
 use Rattle.std.proofs.Common.{◌∙◌, length, sym, ap, arith}
-use Rattle.nim_plan.specs.Covered.{is_kept_in_order}
+use Rattle.nim_command.specs.Covered.{is_kept_in_order}
 use Rattle.nim_plan.proofs.Lists.{all_more, all_not}
 use Rattle.nim_plan.proofs.Reach.{kept_at, length_row}
 use Rattle.nim_plan.proofs.covering.keeps_order.Goals as goal

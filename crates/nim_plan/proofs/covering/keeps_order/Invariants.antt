@@ -1,7 +1,7 @@
 -- each of the places so far is kept in order
 use Rattle.std.proofs.Common.{◌≡◌, true}
 use Rattle.std.specs.List.{list_all, range_with_len}
-use Rattle.nim_plan.specs.Covered.{is_kept_in_order}
+use Rattle.nim_command.specs.Covered.{is_kept_in_order}
 use Rattle.nim_plan.proofs.covering.keeps_order.Given as goal
 
 abbrev pub invariant-loop-earlier : goal.invariant-loop-earlier

@@ -1,6 +1,6 @@
 use Rattle.std.proofs.Common.{◌∙◌, refl}
 use Rattle.std.proofs.lemmas.Option.{slice_get_read}
-use Rattle.nim_plan.specs.Covered.{is_reached}
+use Rattle.nim_command.specs.Covered.{is_reached}
 use Rattle.nim_plan.proofs.Lists.{pushed}
 use Rattle.nim_plan.proofs.Reach.{reached_by_rows}
 use Rattle.nim_plan.proofs.covering.reached.Goals as goal

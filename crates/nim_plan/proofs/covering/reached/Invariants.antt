@@ -1,7 +1,7 @@
 -- what is reached of the places so far
 use Rattle.std.proofs.Common.{◌≡◌, map}
 use Rattle.std.specs.List.{range_with_len}
-use Rattle.nim_plan.specs.Covered.{is_reached}
+use Rattle.nim_command.specs.Covered.{is_reached}
 use Rattle.nim_plan.proofs.covering.reached.Given as goal
 
 abbrev pub invariant-loop-earlier : goal.invariant-loop-earlier
