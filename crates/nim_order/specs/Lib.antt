@@ -1,0 +1,5 @@
+pub mod Contents
+pub mod Laws
+pub mod Longer
+pub mod Progress
+pub mod Rule
