@@ -8,7 +8,7 @@ use Rattle.nim_command.specs.declared.command.Command.{Command}
 use Rattle.nim_command.specs.Covered.{is_covered, waits_at}
 use Rattle.nim_order.specs.Contents.{IsLocal, Leave, held_before, left_at}
 use Rattle.nim_order.specs.Laws.{AnyStep}
-use Rattle.nim_order.specs.Progress.{Completes, IsClosed, IsReleased, conflict_at, held, touches_at, writes_at}
+use Rattle.nim_order.specs.Progress.{GainsPlace, IsClosed, IsReleasedAt, conflict_at, held_when, touches_at, writes_at}
 use Rattle.nim_order.proofs.Conflicts.{conflict_turned, touched_written, writes_touch, written_touched}
 use Rattle.nim_order.proofs.Held.{held_down, held_front, held_same, held_written, kept_at, same_at}
 use Rattle.nim_order.proofs.Items.{all_weaker}
@@ -16,13 +16,13 @@ use Rattle.nim_order.proofs.Reach.{conflict_reached, reached_complete}
 
 -- an earlier command that conflicts with a released one is complete
 earlier_complete : (commands : List Command) (done : ℕ → Bool) → is_covered commands ≡ true → IsClosed commands done → (place earlier : ℕ)
-    → IsReleased commands done place → earlier < place → conflict_at commands earlier place ≡ true → done earlier ≡ true
+    → IsReleasedAt commands done place → earlier < place → conflict_at commands earlier place ≡ true → done earlier ≡ true
 earlier_complete commands done covered closed place earlier released before conflict =
     reached_complete commands done closed place place earlier released.waits (conflict_reached commands place earlier covered released.within before conflict)
 
 -- a later one isn't
 later_waiting : (commands : List Command) (done : ℕ → Bool) → is_covered commands ≡ true → IsClosed commands done → (place later : ℕ)
-    → IsReleased commands done place → later < length commands → place < later → conflict_at commands place later ≡ true → done later ≡ false
+    → IsReleasedAt commands done place → later < length commands → place < later → conflict_at commands place later ≡ true → done later ≡ false
 later_waiting commands done covered closed place later released within behind conflict =
     false_from_ne_true (done later)
     (λ complete. both_ways (done place) released.waiting
@@ -30,12 +30,12 @@ later_waiting commands done covered closed place later released within behind co
 
 -- the complete writers of a slot that a released command touches are those before it
 writers_before : (commands : List Command) (done : ℕ → Bool) → is_covered commands ≡ true → IsClosed commands done → (place : ℕ) (slot : Slot)
-    → IsReleased commands done place → touches_at commands place slot ≡ true → (k : ℕ) → k < place → writes_at commands k slot ≡ true → done k ≡ true
+    → IsReleasedAt commands done place → touches_at commands place slot ≡ true → (k : ℕ) → k < place → writes_at commands k slot ≡ true → done k ≡ true
 writers_before commands done covered closed place slot released touched k before written =
     earlier_complete commands done covered closed place k released before (written_touched commands k place slot written touched)
 
 no_writers_behind : (commands : List Command) (done : ℕ → Bool) → is_covered commands ≡ true → IsClosed commands done → (place : ℕ) (slot : Slot)
-    → IsReleased commands done place → touches_at commands place slot ≡ true → (k : ℕ) → place ≤ k → k < length commands
+    → IsReleasedAt commands done place → touches_at commands place slot ≡ true → (k : ℕ) → place ≤ k → k < length commands
     → (done k && writes_at commands k slot) ≡ false
 no_writers_behind commands done covered closed place slot released touched k from to =
     elim (cases_Bool (writes_at commands k slot)) [
@@ -53,8 +53,8 @@ no_writers_behind commands done covered closed place slot released touched k fro
 
 pub step_finds : {X : Type 0} (leave : Leave X) (start : Slot → X) (commands : List Command) (done : ℕ → Bool) → IsLocal leave
     → is_covered commands ≡ true → IsClosed commands done
-    → (place : ℕ) (slot : Slot) → IsReleased commands done place → touches_at commands place slot ≡ true
-    → held leave start commands done slot ≡ held_before leave start commands place slot
+    → (place : ℕ) (slot : Slot) → IsReleasedAt commands done place → touches_at commands place slot ≡ true
+    → held_when leave start commands done slot ≡ held_before leave start commands place slot
 step_finds leave start commands done local covered closed place slot released touched =
     let within : place ≤ length commands = omega (arith, released.within) in
     held_down leave start commands done (length commands) place slot within (no_writers_behind commands done covered closed place slot released touched)
@@ -68,8 +68,8 @@ same_writer false false w unwritten = refl
 
 pub step_is : {X : Type 0} (leave : Leave X) (start : Slot → X) (commands : List Command) (done : ℕ → Bool) → IsLocal leave → is_covered commands ≡ true
     → IsClosed commands done
-    → (place : ℕ) (now : ℕ → Bool) (slot : Slot) → IsReleased commands done place → Completes done place now
-    → held leave start commands now slot ≡ left_at leave commands place (held leave start commands done) slot
+    → (place : ℕ) (now : ℕ → Bool) (slot : Slot) → IsReleasedAt commands done place → GainsPlace done place now
+    → held_when leave start commands now slot ≡ left_at leave commands place (held_when leave start commands done) slot
 step_is {X} leave start commands done local covered closed place now slot released completes =
     elim (cases_Bool (writes_at commands place slot)) [
       | inl written ↦
@@ -83,7 +83,7 @@ step_is {X} leave start commands done local covered closed place now slot releas
           ∙ same_writer (done k) (place == k) (writes_at commands k slot) (λ same. absurd (both_ways (place == k) other same))
           ∙ no_writers_behind commands done covered closed place slot released touched k (omega arith) to)
           ∙ held_written leave start commands now place slot (and_from (now place) (writes_at commands place slot) complete written)
-          ∙ same_at leave local commands place (held_before leave start commands place) (held leave start commands done)
+          ∙ same_at leave local commands place (held_before leave start commands place) (held_when leave start commands done)
           (λ s touches. sym (step_finds leave start commands done local covered closed place s released touches))
           slot
           written
@@ -92,18 +92,18 @@ step_is {X} leave start commands done local covered closed place now slot releas
           (λ k. ap (λ (b : Bool). b && writes_at commands k slot) (completes k)
           ∙ same_writer (done k) (place == k) (writes_at commands k slot)
           (λ same. subst (λ (x : ℕ). writes_at commands x slot ≡ false) (eqb-true place k same) unwritten))
-          ∙ sym (kept_at leave local commands place (held leave start commands done) slot unwritten)
+          ∙ sym (kept_at leave local commands place (held_when leave start commands done) slot unwritten)
     ]
 
 -- what was complete still is
-still_complete : (done now : ℕ → Bool) (place : ℕ) → Completes done place now → (k : ℕ) → done k ≡ true → now k ≡ true
+still_complete : (done now : ℕ → Bool) (place : ℕ) → GainsPlace done place now → (k : ℕ) → done k ≡ true → now k ≡ true
 still_complete done now place completes k complete = completes k ∙ or_left (done k) (place == k) complete
 
-all_still : (done now : ℕ → Bool) (place : ℕ) → Completes done place now → (places : List ℕ) → list_all done places ≡ true → list_all now places ≡ true
+all_still : (done now : ℕ → Bool) (place : ℕ) → GainsPlace done place now → (places : List ℕ) → list_all done places ≡ true → list_all now places ≡ true
 all_still done now place completes places all = all_weaker done now (still_complete done now place completes) places all
 
-pub step_closed : (commands : List Command) (done : ℕ → Bool) → IsClosed commands done → (place : ℕ) (now : ℕ → Bool) → IsReleased commands done place
-    → Completes done place now
+pub step_closed : (commands : List Command) (done : ℕ → Bool) → IsClosed commands done → (place : ℕ) (now : ℕ → Bool) → IsReleasedAt commands done place
+    → GainsPlace done place now
     → IsClosed commands now
 step_closed commands done closed place now released completes other complete =
     all_still done now place completes (waits_at commands other)
@@ -113,7 +113,7 @@ step_closed commands done closed place now released completes other complete =
     ])
 
 pub step_apart : (commands : List Command) (done : ℕ → Bool) → is_covered commands ≡ true → IsClosed commands done → (one other : ℕ)
-    → IsReleased commands done one → IsReleased commands done other → one ≢ other → conflict_at commands one other ≡ false
+    → IsReleasedAt commands done one → IsReleasedAt commands done other → one ≢ other → conflict_at commands one other ≡ false
 step_apart commands done covered closed one other first second distinct =
     false_from_ne_true (conflict_at commands one other)
     (λ conflict. elim (cases_order one other) [
@@ -131,9 +131,9 @@ pub step_front : (commands : List Command) (done : ℕ → Bool) → is_covered 
 step_front commands done covered closed earlier later before within conflict complete =
     reached_complete commands done closed later later earlier (closed later complete) (conflict_reached commands later earlier covered within before conflict)
 
-pub step_still : (commands : List Command) (done : ℕ → Bool) (one other : ℕ) (now : ℕ → Bool) → IsReleased commands done other → one ≢ other
-    → Completes done one now
-    → IsReleased commands now other
+pub step_still : (commands : List Command) (done : ℕ → Bool) (one other : ℕ) (now : ℕ → Bool) → IsReleasedAt commands done other → one ≢ other
+    → GainsPlace done one now
+    → IsReleasedAt commands now other
 step_still commands done one other now second distinct completes = record {
   within = second.within;
   waiting = completes other ∙ or_from (done other) (one == other) second.waiting (ne_eqb one other distinct);

@@ -9,12 +9,12 @@ use Rattle.nim_command.specs.declared.command.Command.{Command}
 use Rattle.nim_command.specs.Covered.{waits_at}
 use Rattle.nim_order.specs.Contents.{Leave}
 use Rattle.nim_order.specs.Laws.{AtEnds, NeverStuck}
-use Rattle.nim_order.specs.Progress.{held, writes_at}
+use Rattle.nim_order.specs.Progress.{held_when, writes_at}
 use Rattle.nim_order.proofs.Held.{held_down, held_front}
 use Rattle.nim_order.proofs.Items.{all_of_filter}
 
 pub held_nothing : {X : Type 0} (leave : Leave X) (start : Slot → X) (commands : List Command) (done : ℕ → Bool)
-    → ((place : ℕ) → done place ≡ false) → (slot : Slot) → held leave start commands done slot ≡ start slot
+    → ((place : ℕ) → done place ≡ false) → (slot : Slot) → held_when leave start commands done slot ≡ start slot
 held_nothing leave start commands done none slot =
     held_down leave start commands done (length commands) 0 slot (omega arith) (λ k from to. and_left (done k) (writes_at commands k slot) (none k))
 

@@ -3,6 +3,7 @@ pub mod Chain
 pub mod Conflicts
 pub mod Direct
 pub mod Ends
+mod Example
 pub mod Groups
 pub mod Held
 pub mod Items

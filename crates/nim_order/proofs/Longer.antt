@@ -11,18 +11,18 @@ use Rattle.nim_command.specs.Covered.{do_conflict, is_kept_in_order, is_reached,
 use Rattle.nim_command.specs.Waits.{Group, Member, is_waited, members_from, members_of, placed, placed_commands, waits_for, waits_of}
 use Rattle.nim_order.specs.Contents.{Leave}
 use Rattle.nim_order.specs.Longer.{AnyLonger, FrontIsCovered, FrontStays}
-use Rattle.nim_order.specs.Progress.{IsClosed, IsReleased, held, writes_at}
-use Rattle.nim_order.proofs.Held.{before_front, held_at_front, held_down}
+use Rattle.nim_order.specs.Progress.{IsClosed, IsReleasedAt, held_when, writes_at}
+use Rattle.nim_order.proofs.Held.{before_front, held_below_front, held_down}
 use Rattle.nim_order.proofs.Items.{all_in_range, all_of_range, any_filter, any_same, both_same, filter_range, get_front}
 
 held_longer : {X : Type 0} (leave : Leave X) (start : Slot → X) (commands more : List Command) (done : ℕ → Bool)
     → ((place : ℕ) → length commands ≤ place → done place ≡ false) → (slot : Slot)
-    → held leave start (commands ++ more) done slot ≡ held leave start commands done slot
+    → held_when leave start (commands ++ more) done slot ≡ held_when leave start commands done slot
 held_longer leave start commands more done none slot =
     let within : length commands ≤ length (commands ++ more) = omega (arith, length-append commands more) in
     held_down leave start (commands ++ more) done (length (commands ++ more)) (length commands) slot within
     (λ k from to. and_left (done k) (writes_at (commands ++ more) k slot) (none k from))
-    ∙ held_at_front leave start commands more done (length commands) slot (omega arith)
+    ∙ held_below_front leave start commands more done (length commands) slot (omega arith)
 
 waits_front : (commands more : List Command) (place : ℕ) → place < length commands → waits_at (commands ++ more) place ≡ waits_at commands place
 waits_front commands more place within =
@@ -37,7 +37,7 @@ closed_longer commands more done none closed place complete =
       | inr past ↦ absurd (both_ways (done place) (none place past) complete)
     ]
 
-released_longer : (commands more : List Command) (done : ℕ → Bool) (place : ℕ) → IsReleased commands done place → IsReleased (commands ++ more) done place
+released_longer : (commands more : List Command) (done : ℕ → Bool) (place : ℕ) → IsReleasedAt commands done place → IsReleasedAt (commands ++ more) done place
 released_longer commands more done place released = record {
   within = omega (arith, released.within, length-append commands more);
   waiting = released.waiting;

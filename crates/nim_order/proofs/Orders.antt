@@ -10,7 +10,7 @@ use Rattle.nim_command.specs.declared.command.Command.{Command}
 use Rattle.nim_command.specs.Covered.{is_covered}
 use Rattle.nim_order.specs.Contents.{IsLocal, Leave, held_after, left_at}
 use Rattle.nim_order.specs.Laws.{AnyOrder}
-use Rattle.nim_order.specs.Progress.{Completes, IsClosed, MayRun, held, is_one_of, writes_at}
+use Rattle.nim_order.specs.Progress.{GainsPlace, IsClosed, MayRun, held_when, is_one_of, writes_at}
 use Rattle.nim_order.proofs.AnyStep.{step_closed, step_finds, step_is}
 use Rattle.nim_order.proofs.Ends.{held_nothing}
 use Rattle.nim_order.proofs.Held.{held_front, held_same}
@@ -20,7 +20,7 @@ or_nothing true = refl
 or_nothing false = refl
 
 -- one more place that has run
-one_more : (past : List ℕ) (place : ℕ) → Completes (is_one_of past) place (is_one_of (past ++ place ∷ []))
+one_more : (past : List ℕ) (place : ℕ) → GainsPlace (is_one_of past) place (is_one_of (past ++ place ∷ []))
 one_more past place other =
     list_any-append (λ (p : ℕ). p == other) past (place ∷ []) ∙ ap (λ (b : Bool). is_one_of past other || b) (or_nothing (place == other))
 
@@ -38,10 +38,10 @@ closed_after commands past (place ∷ places) closed may =
 
 run_held : {X : Type 0} (leave : Leave X) (start : Slot → X) (commands : List Command) → IsLocal leave → is_covered commands ≡ true
     → (past ran : List ℕ) (now : Slot → X)
-    → IsClosed commands (is_one_of past) → MayRun commands past ran → now ≡ held leave start commands (is_one_of past)
-    → held_after leave commands ran now ≡ held leave start commands (is_one_of (past ++ ran))
+    → IsClosed commands (is_one_of past) → MayRun commands past ran → now ≡ held_when leave start commands (is_one_of past)
+    → held_after leave commands ran now ≡ held_when leave start commands (is_one_of (past ++ ran))
 run_held {X} leave start commands local covered past [] now closed may is =
-    is ∙ ap (λ (all : List ℕ). held leave start commands (is_one_of all)) (sym (append-nil past))
+    is ∙ ap (λ (all : List ℕ). held_when leave start commands (is_one_of all)) (sym (append-nil past))
 run_held {X} leave start commands local covered past (place ∷ places) now closed may is =
     run_held leave start commands local covered (past ++ place ∷ []) places (left_at leave commands place now)
     (step_closed commands (is_one_of past) closed place (is_one_of (past ++ place ∷ [])) may.0 (one_more past place))
@@ -49,11 +49,11 @@ run_held {X} leave start commands local covered past (place ∷ places) now clos
     (ap (left_at leave commands place) is
     ∙ fun_ext (λ slot. sym
     (step_is leave start commands (is_one_of past) local covered closed place (is_one_of (past ++ place ∷ [])) slot may.0 (one_more past place))))
-    ∙ ap (λ (all : List ℕ). held leave start commands (is_one_of all)) (append_assoc past (place ∷ []) places)
+    ∙ ap (λ (all : List ℕ). held_when leave start commands (is_one_of all)) (append_assoc past (place ∷ []) places)
 
 ran_held : {X : Type 0} (leave : Leave X) (start : Slot → X) (commands : List Command) (ran : List ℕ) → IsLocal leave → is_covered commands ≡ true
     → MayRun commands [] ran
-    → (slot : Slot) → held_after leave commands ran start slot ≡ held leave start commands (is_one_of ran) slot
+    → (slot : Slot) → held_after leave commands ran start slot ≡ held_when leave start commands (is_one_of ran) slot
 ran_held {X} leave start commands ran local covered may slot =
     ap (λ (now : Slot → X). now slot)
     (run_held leave start commands local covered [] ran start (closed_none commands) may

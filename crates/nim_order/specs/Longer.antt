@@ -5,20 +5,21 @@ use Rattle.nim_command.specs.declared.command.Command.{Command}
 use Rattle.nim_command.specs.Covered.{is_covered}
 use Rattle.nim_command.specs.Waits.{Group, placed_commands}
 use Rattle.nim_order.specs.Contents.{Leave, held_before}
-use Rattle.nim_order.specs.Progress.{IsClosed, IsReleased, held}
+use Rattle.nim_order.specs.Progress.{IsClosed, IsReleasedAt, held_when}
 
 -- Commands come behind, none of which is complete: all stands that stood.
 pub record LongerStands {X : Type 0} (leave : Leave X) (start : Slot → X) (commands more : List Command) (done : ℕ → Bool) : Type 0 where
   -- the slots hold the same
-  pub held : (slot : Slot) → held leave start (commands ++ more) done slot ≡ held leave start commands done slot
+  pub held : (slot : Slot) → held_when leave start (commands ++ more) done slot ≡ held_when leave start commands done slot
   -- also before each place of the list as it was
   pub before : (place : ℕ) (slot : Slot) → place ≤ length commands
       → held_before leave start (commands ++ more) place slot ≡ held_before leave start commands place slot
   -- the complete places are closed
   pub closed : IsClosed commands done → IsClosed (commands ++ more) done
   -- what is released stays released
-  pub released : (place : ℕ) → IsReleased commands done place → IsReleased (commands ++ more) done place
+  pub released : (place : ℕ) → IsReleasedAt commands done place → IsReleasedAt (commands ++ more) done place
 
+-- So it is for all commands that come behind.
 abbrev pub AnyLonger : Type 0 → Type 0
 AnyLonger X =
     (leave : Leave X) (start : Slot → X) (commands more : List Command) (done : ℕ → Bool)

@@ -15,6 +15,7 @@ abbrev pub NameAllBehind : List Footprint → List Command → Type 0
 NameAllBehind past [] = Unit {0}
 NameAllBehind past (command ∷ commands) = NamesAll past command × NameAllBehind (past ++ footprint_of command ∷ []) commands
 
+-- each command of a group names at least all that the rule names
 abbrev pub NameAll : List Command → Type 0
 NameAll commands = NameAllBehind [] commands
 
