@@ -12,4 +12,5 @@ pub mod Longer
 pub mod Named
 pub mod Orders
 pub mod Reach
+pub mod Sessions
 pub mod Versions

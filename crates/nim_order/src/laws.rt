@@ -1,5 +1,6 @@
 ghost use Rattle.nim_order.specs.Laws.{AnyOrder, AnyStep, AtEnds, NeverStuck, VersionsAreLocal};
 ghost use Rattle.nim_order.specs.Longer.{AnyLonger, FrontIsCovered, FrontStays};
+ghost use Rattle.nim_order.specs.Orders.{OrdersCover};
 ghost use Rattle.nim_order.specs.Rule.{MoreNamesCover, RuleCovers};
 
 /// Groups whose before sets are those of the rule make covered commands, whatever the groups. So do groups whose before
@@ -7,6 +8,12 @@ ghost use Rattle.nim_order.specs.Rule.{MoreNamesCover, RuleCovers};
 pub fn before_sets_cover()
     ensures rule { RuleCovers }
     ensures more { MoreNamesCover }
+{}
+
+/// What orders come to is covered where a Single's commands and a template's entries have the before sets of the rule:
+/// all other before sets are made by it, those of edited halves and of patches.
+pub fn orders_cover()
+    ensures { OrdersCover }
 {}
 
 /// The commands of a covered list may run in any order that waits allow: each finds in its slots what the commands

@@ -6,5 +6,5 @@ mod laws;
 
 pub use laws::{
     any_order, any_step, before_sets_cover, front_stays, held_at_ends, longer_list_stands,
-    never_stuck, versions_are_local,
+    never_stuck, orders_cover, versions_are_local,
 };
