@@ -8,8 +8,6 @@ mod name;
 mod number;
 mod seq;
 mod task;
-#[cfg(test)]
-mod tests;
 mod text;
 mod value;
 

@@ -5,8 +5,6 @@ mod command;
 mod copies;
 mod rank;
 mod slots;
-#[cfg(test)]
-mod tests;
 
 pub use command::{Command, Kind};
 pub use rank::Rank;

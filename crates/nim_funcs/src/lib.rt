@@ -11,8 +11,6 @@ mod split;
 mod stencil;
 mod sum;
 mod table;
-#[cfg(test)]
-mod tests;
 mod total;
 
 pub use laws::{

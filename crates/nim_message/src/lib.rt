@@ -3,8 +3,6 @@
 
 mod order;
 mod report;
-#[cfg(test)]
-mod tests;
 
 pub use order::ToWorker;
 pub use report::FromWorker;

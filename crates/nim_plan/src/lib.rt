@@ -7,8 +7,6 @@ mod listing;
 mod member;
 mod ranks;
 mod slots;
-#[cfg(test)]
-mod tests;
 mod waits;
 
 pub use contents::holds;

@@ -9,8 +9,6 @@ mod leave;
 mod room;
 mod slots;
 mod taking;
-#[cfg(test)]
-mod tests;
 mod worker;
 
 pub use batch::{Batch, Work};
