@@ -2,7 +2,7 @@ use crate::case::{files_of, words_of};
 use crate::faults::Faults;
 use crate::wanted::Wanted;
 use nim_io::{MemFiles, MemSink};
-use nim_top::{Status, top_replay};
+use nim_top::{Status, top_check, top_replay};
 use nim_txtar::{FileFault, Section, difference};
 use std::alloc::Global;
 
@@ -48,5 +48,8 @@ fn command(
     out: &mut MemSink,
     err: &mut MemSink,
 ) -> Status {
-    top_replay(alloc, words, files, out, err)
+    match words.first() {
+        Some(word) if word.as_str() == "check" => top_check(alloc, words, files, out, err),
+        _ => top_replay(alloc, words, files, out, err),
+    }
 }
