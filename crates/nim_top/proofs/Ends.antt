@@ -1,34 +1,34 @@
--- A driver that is read has a job that ends well, whose tasks read the versions that program order names.
-use Rattle.std.proofs.Common.{◌≡◌, ℕ, Option, None, Some, List, [], sym, ap, subst, ◌∙◌, arith}
-use Rattle.std.specs.Prelude.{IfSome}
-use Rattle.std.proofs.lemmas.Bool.{cond-false}
+-- What a driver of the first form comes to, and that the tasks of its job read the versions that program order names.
+use Rattle.std.proofs.Common.{◌≡◌, ℕ, Option, None, Some, List, sym, ap, subst, ◌∙◌}
+use Rattle.std.specs.Prelude.{Err, IfSome}
+use Rattle.nim_check.specs.Refusals.{IsFileRefusal}
+use Rattle.nim_check.specs.declared.fault.ReadFault.{ReadFault}
+use Rattle.nim_check.specs.declared.fault.ReadFault.TheVariants.{At, NoMemory}
 use Rattle.nim_job.specs.declared.job.Job.{Job}
-use Rattle.nim_job.specs.Serial.{Ending, driver_at, is_limit, serial_of}
+use Rattle.nim_job.specs.Serial.{Ending, serial_of}
 use Rattle.nim_job.specs.Versions.{KeepsVersions, ReadsVersions}
 use Rattle.nim_job.proofs.Versions.{keeps_versions, reads_versions}
-use Rattle.nim_io.specs.Sink.{AppendsFront}
-use Rattle.nim_top.specs.Answer.{IsCutShort, answer_of, ending_from}
+use Rattle.nim_top.specs.Answer.{Finishes, ReadsFirst, answer_of, ending_from, refusal_from}
 use Rattle.nim_top.specs.FirstPath.{job_of}
-use Rattle.nim_top.proofs.Short.{never_limit}
-
--- its status is 0
-pub ends_well : (bytes : List ℕ) (job : Job) → job_of bytes ≡ Some job → (serial_of job).status ≡ 0
-ends_well bytes job is = ap (λ (e : Ending). e.status) (cond-false (is_limit (driver_at job job.steps)) _ _ (never_limit bytes job is))
+use Rattle.nim_top.specs.declared.status.Outcome.{Outcome}
 
 pub versions : (found : Option Job) → IfSome found (λ job. ReadsVersions job × KeepsVersions job)
 versions None = tt
 versions (Some job) = (reads_versions job, keeps_versions job)
 
-apart : (status : ℕ) → status ≡ 4 → status ≡ 0 → ⊥
-apart status four none = omega arith
+-- a job that was done
+pub finishes : (job : Job) (output bytes : List ℕ) (old new : Option (List ℕ)) (old_faults new_faults : ℕ) (outcome : Outcome)
+    → serial_of job ≡ record { status = 0; bytes = bytes } → output ≡ bytes
+    → Finishes (record { status = 0; bytes = output }) old new old_faults new_faults outcome → Finishes (serial_of job) old new old_faults new_faults outcome
+finishes job output bytes old new old_faults new_faults outcome ends same printed =
+    let is : ◌≡◌ {A = Ending} (record { status = 0; bytes = output }) (serial_of job) =
+    ap (λ (b : List ℕ). let e : Ending = record { status = 0; bytes = b } in e) same ∙ sym ends in
+    subst (λ (ending : Ending). Finishes ending old new old_faults new_faults outcome) is printed
 
--- so it doesn't end at a limit
-pub no_limit : (bytes : List ℕ) (job : Job) → job_of bytes ≡ Some job → serial_of job ≡ record { status = 4; bytes = [] } → ⊥
-no_limit bytes job is limit = apart (serial_of job).status (ap (λ (e : Ending). e.status) limit) (ends_well bytes job is)
+-- a driver that is read isn't refused, and its ending is that of its job
+pub first_means : (driver : List ℕ) (job : Job) → job_of driver ≡ Some job → (refusal_from (job_of driver) ≡ None) × (answer_of driver ≡ serial_of job)
+first_means driver job is = (ap refusal_from is, ap ending_from is)
 
--- the front of what the job prints was written
-pub cut_short : (bytes : List ℕ) (job : Job) (output : List ℕ) (old new : Option (List ℕ)) → job_of bytes ≡ Some job → serial_of job ≡ record { status = 0; bytes = output }
-    → AppendsFront old new output → IsCutShort old new bytes
-cut_short bytes job output old new is ends front =
-    let answer : answer_of bytes ≡ record { status = 0; bytes = output } = ap ending_from is ∙ ends in
-    (ap (λ (e : Ending). e.status) answer, subst (λ (e : Ending). AppendsFront old new e.bytes) (sym answer) front)
+pub first_refused : (driver : List ℕ) (fault : ReadFault) → ReadsFirst driver (Err fault) → IsFileRefusal (refusal_from (job_of driver)) fault
+first_refused driver (At input line rule) is = is
+first_refused driver NoMemory is = tt

@@ -4,7 +4,9 @@ pub mod Next
 pub mod NoLimit
 pub mod Numbers
 pub mod Limits
-pub mod TooLong
+pub mod LongFiles
+pub mod NamedFiles
+pub mod Ended
 pub mod Stood
 pub mod Lengths
 pub mod Fits
@@ -14,3 +16,4 @@ pub mod Ends
 pub mod Asked
 pub mod HeldAt
 pub mod Printed
+pub mod TooLong

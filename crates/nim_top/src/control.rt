@@ -15,9 +15,6 @@ ghost use Rattle.nim_worker.specs.Stands.{IsReleased, Stands, done_after, may_ru
 ghost use Rattle.nim_top.specs.Orders.{numbers_of, run_of};
 ghost use Rattle.nim_top.specs.Works.{Answers, AreNext, HasForms, HasGoneOn, HoldsAt, Rests, Works, WorksAt, value_in};
 
-#[cfg(test)]
-mod tests;
-
 use crate::blocks::all_forms;
 use crate::log::Log;
 use crate::orders::{create, fetch, reset, run, single};

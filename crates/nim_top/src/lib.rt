@@ -2,17 +2,20 @@
 #![tactic(auto)]
 
 mod blocks;
+mod check;
 mod control;
 mod first_path;
+mod load;
 mod log;
 mod orders;
+mod read;
 mod replay;
 mod run;
 mod status;
-#[cfg(test)]
-mod tests;
+mod tell;
 mod values;
 mod words;
 
+pub use check::top_check;
 pub use replay::top_replay;
 pub use status::Status;

@@ -1,0 +1,91 @@
+use crate::faults::Faults;
+use crate::run::run;
+use crate::wanted::Wanted;
+use nim_txtar::{FileFault, Section, Test, push_escaped, sections, text_of};
+use std::alloc::Global;
+
+/// The sections that aren't files.
+const OWN: &[&str] = &["words", "faults", "status", "out", "err"];
+
+/// Cases of commands. A section `FILE: RESULT` is a run of its own with this text for the file, `words: RESULT` one with
+/// these words; a case without any is one run.
+pub struct Cases;
+
+impl Test for Cases {
+    fn differences(alloc: Global, file: &str) -> Result<Vec<String>, FileFault> {
+        let all = sections(alloc, file)?;
+        let faults = Faults::of_sections(alloc, &all)?;
+        let mut found = Vec::new(alloc);
+        let mut runs = 0u32;
+        for section in &all {
+            if let Some((_, said)) = section.name.as_str().split_once(": ") {
+                let wanted = Wanted::of_heading(alloc, said)?;
+                run(alloc, &all, Some(section), &faults, &wanted, &mut found)?;
+                runs = runs.saturating_add(1);
+            }
+        }
+        if runs == 0 {
+            let wanted = Wanted::of_sections(alloc, &all)?;
+            run(alloc, &all, None, &faults, &wanted, &mut found)?;
+        }
+        Ok(found)
+    }
+}
+
+/// The words of the command of a run: what stands between blanks, with escapes; `""` is the empty word.
+pub fn words_of(
+    alloc: Global,
+    sections: &[Section],
+    about: Option<&Section>,
+) -> Result<Vec<String>, FileFault> {
+    let what = "the words are text";
+    let text = match about {
+        Some(section) if section.name.as_str().starts_with("words: ") => section.text.as_slice(),
+        _ => text_of(sections, "words"),
+    };
+    let Ok(text) = str::from_utf8(text) else {
+        return Err(FileFault::At { line: 0, what });
+    };
+    let mut words = Vec::new(alloc);
+    for word in text.split_whitespace() {
+        let mut bytes = Vec::new(alloc);
+        if word != "\"\"" {
+            push_escaped(alloc, &mut bytes, word, 0, 0)?;
+        }
+        let Ok(word) = String::from_utf8(bytes) else {
+            return Err(FileFault::At { line: 0, what });
+        };
+        words.push(word)?;
+    }
+    Ok(words)
+}
+
+/// The files of a run: the one that it is about, and the sections that are files.
+pub fn files_of(
+    alloc: Global,
+    sections: &[Section],
+    about: Option<&Section>,
+) -> Result<Vec<(String, Vec<u8>)>, FileFault> {
+    let mut files = Vec::new(alloc);
+    if let Some(section) = about {
+        if let Some((name, _)) = section.name.as_str().split_once(": ")
+            && name != "words"
+        {
+            files.push((String::from_str(alloc, name)?, section.text.clone()?))?;
+        }
+    }
+    for section in sections {
+        let name = section.name.as_str();
+        if OWN.contains(&name) || name.contains(": ") {
+            continue;
+        }
+        if !name.contains('.') {
+            return Err(FileFault::At {
+                line: section.line,
+                what: "a section is a file, whose name has a dot, or one of words, faults, status, out, err",
+            });
+        }
+        files.push((String::from_str(alloc, name)?, section.text.clone()?))?;
+    }
+    Ok(files)
+}

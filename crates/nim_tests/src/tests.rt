@@ -1,0 +1,4 @@
+mod copies;
+mod files;
+mod jobs;
+mod laws;

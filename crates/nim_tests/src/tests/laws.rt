@@ -1,0 +1,86 @@
+use nim_base::{NoMemory, Seq, Value};
+use nim_check::{printed_is_loaded, read_driver};
+use nim_funcs::{
+    add_is_sum, group_gathers_all_rows, keep_counts_all_rows, merge_joins_groups, order_is_free,
+    split_keeps_all_rows,
+};
+use nim_job::{Job, is_checked, is_plain, is_whole, machine_follows, versions_are_read};
+use nim_lex::tokens;
+use nim_parse::parse;
+use nim_printed::{job_is_read, job_stands, tree_is_read, words_are_read};
+use sqlite_items::Items;
+use std::alloc::Global;
+use std::test::Fail;
+
+const DRIVER: &[u8] =
+    b"nimbus 1\nvar a parts 2 width 1 rows 1 load\nblock b(k)\naddc a[i-1] -> a[i] with k each i\nend\nlet n = -3\nif n < 0\ndo b(n)\nelse\noutput a\nend\n";
+
+const PLAIN: &[u8] =
+    b"nimbus 1\nvar a parts 2 width 1 rows 1 fill 3\nblock b()\naddc a[i] -> a[i] with 4 each i\nend\ndo b()\noutput a\n";
+
+#[test]
+fn laws_of_functions(rt: HostRuntime) -> Result<(), Fail> {
+    let first = Value::from_cells(2, 2, Vec::from_slice(rt.alloc(), &[1, 10, 2, 20])?);
+    let second = Value::from_cells(1, 1, Vec::from_slice(rt.alloc(), &[-3])?);
+    split_keeps_all_rows(&first, 0, 2);
+    keep_counts_all_rows(&first, 0, 2, 9);
+    add_is_sum(&first, &second);
+    group_gathers_all_rows(&first, 0, 1);
+    let reads = [first, second];
+    order_is_free(&reads, &reads);
+    merge_joins_groups(&reads[0], &reads, 1, 0);
+    Ok(())
+}
+
+#[test]
+fn laws_of_jobs(rt: HostRuntime) -> Result<(), Fail> {
+    let Ok(mut job) = read_driver(rt.alloc(), PLAIN) else {
+        return Err(Fail::from("it isn't read"));
+    };
+    versions_are_read(&job);
+    assert!(rt; is_checked(&job));
+    assert!(rt; is_whole(&job));
+    assert!(rt; is_plain(&job));
+    machine_follows(&job);
+    job.steps = 0;
+    assert!(rt; !is_checked(&job));
+    assert!(rt; !is_whole(&job));
+    Ok(())
+}
+
+#[test]
+fn laws_of_printers(rt: HostRuntime) -> Result<(), Fail> {
+    words_are_read();
+    let Ok(all) = tokens(rt.alloc(), DRIVER) else {
+        return Err(Fail::from("it has no tokens"));
+    };
+    let Ok(tree) = parse(rt.alloc(), DRIVER, all.as_slice()) else {
+        return Err(Fail::from("it has no tree"));
+    };
+    tree_is_read(&tree);
+    let Ok(job) = read_driver(rt.alloc(), DRIVER) else {
+        return Err(Fail::from("it isn't read"));
+    };
+    job_stands(&job);
+    job_is_read(&job);
+    Ok(())
+}
+
+/// A job without variables.
+fn empty_job(alloc: Global) -> Job {
+    Job {
+        steps: 1,
+        vars: Seq::new(alloc),
+        blocks: Seq::new(alloc),
+        body: Items::new(alloc),
+    }
+}
+
+#[test]
+fn the_law_of_printed_data(rt: HostRuntime) -> Result<(), NoMemory> {
+    let job = empty_job(rt.alloc());
+    if is_whole(&job) && job.vars.len() == 0 {
+        printed_is_loaded(&job);
+    }
+    Ok(())
+}

@@ -1,0 +1,61 @@
+use crate::commands::commands;
+use crate::fault::LineFault;
+use crate::shown::{push_contents, push_value};
+use crate::words::{halves, number, parts, shapes};
+use nim_base::{Seq, Worker};
+use nim_message::{FromWorker, ToWorker};
+use std::alloc::Global;
+
+/// `reset EPOCH SHAPE ..`: begins an epoch of one worker, with these shapes.
+pub fn reset(alloc: Global, text: &str) -> Result<ToWorker, LineFault> {
+    let (epoch, all) = parts(text.trim(), " ");
+    Ok(ToWorker::Reset {
+        epoch: number::<u32>(epoch)?,
+        worker: Worker(0),
+        workers: 1,
+        shapes: Seq::from_vec(shapes(alloc, all)?),
+    })
+}
+
+/// `single EPOCH: COMMAND; COMMAND ..`: asks once for commands.
+pub fn single(alloc: Global, text: &str) -> Result<ToWorker, LineFault> {
+    let (epoch, all) = halves(text, ":")?;
+    Ok(ToWorker::Single {
+        epoch: number::<u32>(epoch)?,
+        instance: 0,
+        commands: Seq::from_vec(commands(alloc, all)?),
+    })
+}
+
+/// Adds a line with a report, without its epoch: `ran POSITION: OBJECT@VERSION ..`, or
+/// `value OBJECT@VERSION ticket T: VALUE`.
+pub fn push_report(alloc: Global, out: &mut String, report: &FromWorker) -> Result<(), LineFault> {
+    match report {
+        FromWorker::Ran {
+            position,
+            reads,
+            ..
+        } => {
+            out.push_str(format!(in alloc; "ran {position}:")?.as_str())?;
+            push_contents(alloc, out, reads.as_slice())?;
+            out.push_str("\n")?;
+            Ok(())
+        }
+        FromWorker::Value {
+            ticket,
+            object,
+            version,
+            value,
+            ..
+        } => {
+            let number = object.0;
+            let head = format!(in alloc; "value {number}@{version} ticket {ticket}: ")?;
+            out.push_str(head.as_str())?;
+            push_value(alloc, out, value)
+        }
+        _ => {
+            out.push_str("memory\n")?;
+            Ok(())
+        }
+    }
+}

@@ -1,0 +1,76 @@
+use crate::commands::command;
+use crate::fault::LineFault;
+use crate::shown::push_contents;
+use crate::words::{halves, number};
+use nim_base::Slot;
+use nim_command::{Command, Rank};
+use nim_message::ToWorker;
+use nim_plan::{commands, holds, rank};
+use std::alloc::Global;
+
+/// `commands`: what the orders so far come to, a command a line, with the places that it waits for.
+pub fn commands_line(
+    alloc: Global,
+    orders: &[ToWorker],
+    out: &mut String,
+) -> Result<(), LineFault> {
+    for command in &commands(alloc, orders)? {
+        let id = command.id;
+        out.push_str(format!(in alloc; "{id}")?.as_str())?;
+        if command.before.len() != 0 {
+            out.push_str(" after")?;
+        }
+        for place in command.before.as_slice() {
+            out.push_str(format!(in alloc; " {place}")?.as_str())?;
+        }
+        out.push_str("\n")?;
+    }
+    Ok(())
+}
+
+/// `holds SLOT before PLACE`: the object and the version that a slot holds before a place of a list of commands.
+pub fn holds_line(
+    alloc: Global,
+    list: &[Command],
+    text: &str,
+    out: &mut String,
+) -> Result<(), LineFault> {
+    let (slot, place) = halves(text, " before ")?;
+    let (slot, place) = (Slot(number::<u16>(slot)?), number::<usize>(place)?);
+    if place > list.len() {
+        return Err(LineFault::Form("there is no such place"));
+    }
+    match holds(list, place, slot) {
+        Some(held) => {
+            out.push_str("holds")?;
+            push_contents(alloc, out, &[held])?;
+            out.push_str("\n")?;
+        }
+        None => out.push_str("empty\n")?,
+    }
+    Ok(())
+}
+
+/// `rank POSITION COMMAND`: the stage and the number, whether it is a Send, and whether it is above the last one asked.
+pub fn rank_line(
+    alloc: Global,
+    last: Option<Rank>,
+    text: &str,
+    out: &mut String,
+) -> Result<Rank, LineFault> {
+    let (position, told) = halves(text.trim(), " ")?;
+    let found = rank(number::<u64>(position)?, &command(alloc, told)?);
+    let (position, stage, number) = (found.position, found.stage, found.number);
+    out.push_str(format!(in alloc; "position {position} stage {stage} number {number}")?.as_str())?;
+    out.push_str(if found.later {
+        ""
+    } else {
+        ", before its equals"
+    })?;
+    out.push_str(if last < Some(found) {
+        ", above the last\n"
+    } else {
+        ", not above the last\n"
+    })?;
+    Ok(found)
+}

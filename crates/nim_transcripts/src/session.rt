@@ -1,0 +1,215 @@
+use crate::commands::{commands, object_line, slots_line};
+use crate::fault::LineFault;
+use crate::funcs::{apply_line, counts_line, has_counts};
+use crate::orders::{push_report, reset, single};
+use crate::plans::{commands_line, holds_line, rank_line};
+use crate::shown::{push_answer, push_contents, push_number};
+use crate::texts::tokens_line;
+use crate::values::{cell_line, fit_line, made_line, text_line};
+use crate::words::{number, parts};
+use nim_base::{Copied, Worker};
+use nim_command::{Command, Rank};
+use nim_message::ToWorker;
+use nim_plan::covered;
+use nim_txtar::{FileFault, Test, difference, sections};
+use nim_worker::{Batch, Out, WorkerCore};
+use std::alloc::Global;
+
+/// Transcripts of calls. Each section is a session of its own: a line that begins with `> ` is answered, and any other
+/// must be what was answered.
+pub struct Transcripts;
+
+impl Test for Transcripts {
+    fn differences(alloc: Global, file: &str) -> Result<Vec<String>, FileFault> {
+        let mut found = Vec::new(alloc);
+        for section in &sections(alloc, file)? {
+            let Ok(text) = str::from_utf8(section.text.as_slice()) else {
+                return Err(FileFault::At {
+                    line: section.line,
+                    what: "a transcript is text",
+                });
+            };
+            let got = replayed(alloc, text)?;
+            let name = section.name.as_str();
+            if let Some(difference) = difference(alloc, name, text.as_bytes(), got.as_bytes())? {
+                found.push(difference)?;
+            }
+        }
+        Ok(found)
+    }
+}
+
+// The lines of a section that are answered, each with its answer.
+fn replayed(alloc: Global, text: &str) -> Result<String, FileFault> {
+    let mut session = Session::new(alloc, Worker(0));
+    let mut got = String::new(alloc);
+    for line in text.lines() {
+        if let Some(asked) = line.strip_prefix("> ") {
+            got.push_str(format!(in alloc; "{line}\n")?.as_str())?;
+            match session.answer(alloc, asked, &mut got) {
+                Ok(()) => {}
+                Err(LineFault::Form(what)) => {
+                    got.push_str(format!(in alloc; "? {what}\n")?.as_str())?;
+                }
+                Err(LineFault::NoMemory) => return Err(FileFault::NoMemory),
+            }
+        }
+    }
+    Ok(got)
+}
+
+/// What the lines of a section are about: a worker with a batch that is out or none, the orders so far, a list of
+/// commands, and the last rank.
+#[derive(Drop)]
+struct Session {
+    core: WorkerCore,
+    batch: Option<Batch>,
+    orders: Vec<ToWorker>,
+    list: Vec<Command>,
+    rank: Option<Rank>,
+}
+
+impl Session {
+    fn new(alloc: Global, worker: Worker) -> Session {
+        Session {
+            core: WorkerCore::new(alloc, worker),
+            batch: None,
+            orders: Vec::new(alloc),
+            list: Vec::new(alloc),
+            rank: None,
+        }
+    }
+
+    // Answers a line: one about values, about orders, or about the worker.
+    fn answer(&mut self, alloc: Global, line: &str, out: &mut String) -> Result<(), LineFault> {
+        let (word, text) = parts(line, " ");
+        match word {
+            "apply" => apply_line(alloc, text, out),
+            "counts" => counts_line(alloc, text, out),
+            "has_counts" => push_answer(out, has_counts(alloc, text)?),
+            "fit" => fit_line(alloc, text, out),
+            "iota" => made_line(alloc, text, true, out),
+            "filled" => made_line(alloc, text, false, out),
+            "cell" => cell_line(alloc, text, out),
+            "text" => text_line(alloc, text, out),
+            "tokens" => tokens_line(alloc, text, out),
+            "slots" => slots_line(alloc, text, out),
+            "object" => push_number(alloc, out, object_line(text)?),
+            _ => self.answer_plan(alloc, word, text, out),
+        }
+    }
+
+    fn answer_plan(
+        &mut self,
+        alloc: Global,
+        word: &str,
+        text: &str,
+        out: &mut String,
+    ) -> Result<(), LineFault> {
+        match word {
+            "reset" => self.order(reset(alloc, text)?),
+            "single" => self.order(single(alloc, text)?),
+            "stop" => self.order(ToWorker::Stop),
+            "commands" => commands_line(alloc, self.orders.as_slice(), out),
+            "list" => {
+                self.list = commands(alloc, text)?;
+                Ok(())
+            }
+            "holds" => holds_line(alloc, self.list.as_slice(), text, out),
+            "covered" => push_answer(out, covered(alloc, self.list.as_slice())?),
+            "rank" => {
+                self.rank = Some(rank_line(alloc, self.rank, text, out)?);
+                Ok(())
+            }
+            _ => self.answer_work(alloc, word, text, out),
+        }
+    }
+
+    // The worker is given a copy.
+    fn order(&mut self, order: ToWorker) -> Result<(), LineFault> {
+        self.core.on_message(order.copy()?)?;
+        self.orders.push(order)?;
+        Ok(())
+    }
+
+    fn answer_work(
+        &mut self,
+        alloc: Global,
+        word: &str,
+        text: &str,
+        out: &mut String,
+    ) -> Result<(), LineFault> {
+        match word {
+            "worker" => {
+                *self = Session::new(alloc, Worker(number::<u16>(text)?));
+                push_number(alloc, out, i64::from(self.core.worker().0))
+            }
+            "busy" => push_answer(out, self.core.busy()),
+            "begin" => self.begin(alloc, out),
+            "perform" => self.perform(),
+            "finish" => self.finish(alloc, out),
+            "reports" => self.reports(alloc, out),
+            _ => Err(LineFault::Form("there is no such call")),
+        }
+    }
+
+    // `begin`: the epoch of the batch, and of each work the position and what it reads.
+    fn begin(&mut self, alloc: Global, out: &mut String) -> Result<(), LineFault> {
+        if self.core.busy() {
+            return Err(LineFault::Form("a batch is out"));
+        }
+        let mut batch = self.core.begin(1);
+        let epoch = batch.epoch();
+        out.push_str(format!(in alloc; "epoch {epoch}\n")?.as_str())?;
+        for work in batch.works() {
+            match work.run() {
+                Some(position) => out.push_str(format!(in alloc; "run {position}:")?.as_str())?,
+                None => out.push_str("no run:")?,
+            }
+            push_contents(alloc, out, work.reads())?;
+            out.push_str("\n")?;
+        }
+        self.batch = Some(batch);
+        Ok(())
+    }
+
+    // `perform`: each work of the batch.
+    fn perform(&mut self) -> Result<(), LineFault> {
+        let Some(batch) = &mut self.batch else {
+            return Err(LineFault::Form("no batch is out"));
+        };
+        for work in batch.works() {
+            work.perform()?;
+        }
+        Ok(())
+    }
+
+    // `finish`: what the batch reports.
+    fn finish(&mut self, alloc: Global, out: &mut String) -> Result<(), LineFault> {
+        let Some(batch) = self.batch.take() else {
+            return Err(LineFault::Form("no batch is out"));
+        };
+        for given in self.core.finish(batch)? {
+            let Out::Report(report) = given;
+            push_report(alloc, out, &report.copy()?)?;
+        }
+        Ok(())
+    }
+
+    // `reports`: what is reported until no command is released.
+    fn reports(&mut self, alloc: Global, out: &mut String) -> Result<(), LineFault> {
+        for _ in 0..100u32 {
+            if self.core.busy() {
+                return Err(LineFault::Form("a batch is out"));
+            }
+            let mut batch = self.core.begin(1);
+            let released = !batch.works().is_empty();
+            self.batch = Some(batch);
+            self.finish(alloc, out)?;
+            if !released {
+                return Ok(());
+            }
+        }
+        Err(LineFault::Form("there are more reports"))
+    }
+}
