@@ -28,7 +28,7 @@ pub fn single(alloc: Global, text: &str) -> Result<ToWorker, LineFault> {
 }
 
 /// Adds a line with a report, without its epoch: `ran POSITION: OBJECT@VERSION ..`, or
-/// `value OBJECT@VERSION ticket T: VALUE`.
+/// `value OBJECT@VERSION ticket T: VALUE`, `through INSTANCE`, `down WORKER`, `memory`.
 pub fn push_report(alloc: Global, out: &mut String, report: &FromWorker) -> Result<(), LineFault> {
     match report {
         FromWorker::Ran {
@@ -53,7 +53,16 @@ pub fn push_report(alloc: Global, out: &mut String, report: &FromWorker) -> Resu
             out.push_str(head.as_str())?;
             push_value(alloc, out, value)
         }
-        _ => {
+        FromWorker::Through { instance, .. } => {
+            out.push_str(format!(in alloc; "through {instance}\n")?.as_str())?;
+            Ok(())
+        }
+        FromWorker::PeerDown { peer } => {
+            let number = peer.0;
+            out.push_str(format!(in alloc; "down {number}\n")?.as_str())?;
+            Ok(())
+        }
+        FromWorker::NoMemory => {
             out.push_str("memory\n")?;
             Ok(())
         }

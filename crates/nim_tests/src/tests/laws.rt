@@ -4,9 +4,16 @@ use nim_funcs::{
     add_is_sum, group_gathers_all_rows, keep_counts_all_rows, merge_joins_groups, order_is_free,
     split_keeps_all_rows,
 };
-use nim_job::{Job, is_checked, is_plain, is_whole, machine_follows, versions_are_read};
+use nim_job::{
+    Job, division_is_total, is_checked, is_whole, machine_follows, versions_are_read,
+};
 use nim_lex::tokens;
+use nim_order::{
+    any_order, any_step, before_sets_cover, front_stays, held_at_ends, longer_list_stands,
+    never_stuck, orders_cover, versions_are_local,
+};
 use nim_parse::parse;
+use nim_plan::legal_by_steps;
 use nim_printed::{job_is_read, job_stands, tree_is_read, words_are_read};
 use sqlite_items::Items;
 use std::alloc::Global;
@@ -40,11 +47,26 @@ fn laws_of_jobs(rt: HostRuntime) -> Result<(), Fail> {
     versions_are_read(&job);
     assert!(rt; is_checked(&job));
     assert!(rt; is_whole(&job));
-    assert!(rt; is_plain(&job));
     machine_follows(&job);
+    division_is_total();
     job.steps = 0;
     assert!(rt; !is_checked(&job));
     assert!(rt; !is_whole(&job));
+    Ok(())
+}
+
+#[test]
+fn laws_of_orders(_rt: HostRuntime) -> Result<(), Fail> {
+    legal_by_steps();
+    before_sets_cover();
+    orders_cover();
+    any_order::<u64>();
+    any_step::<u64>();
+    held_at_ends::<u64>();
+    longer_list_stands::<u64>();
+    front_stays();
+    never_stuck();
+    versions_are_local();
     Ok(())
 }
 
