@@ -1,7 +1,8 @@
 pub mod Answer
+pub mod Carries
+pub mod Controls
 pub mod FirstPath
+pub mod Leads
 pub mod Lines
-pub mod Runs
-pub mod Words
 pub mod Orders
-pub mod Works
+pub mod Words

@@ -6,8 +6,6 @@ mod block;
 mod build;
 mod layout;
 mod line;
-#[cfg(test)]
-mod tests;
 mod var;
 mod word;
 

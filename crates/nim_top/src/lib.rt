@@ -1,16 +1,16 @@
 //! The top calls: words and files in, bytes and a status out.
 #![tactic(auto)]
 
+mod awaited;
 mod blocks;
 mod control;
 mod first_path;
-mod log;
+mod order_lists;
 mod orders;
 mod replay;
 mod run;
 mod status;
-#[cfg(test)]
-mod tests;
+mod trace;
 mod values;
 mod words;
 
