@@ -1,40 +1,55 @@
--- What a machine that is seen by its parts asks.
-use Rattle.std.proofs.Common.{◌≡◌, ℕ, ◌+◌, ◌<◌, Bool, false, ℤ, List, ◌∷◌, length, get_or, map, drop, refl, ap, sym, subst, ◌∙◌, Option}
-use Rattle.std.specs.Prelude.{nat_le}
-use Rattle.std.proofs.lemmas.Bool.{lt-leb, cond-false}
-use Rattle.std.proofs.lemmas.List.{drop_more}
+-- What a machine that has taken the items in front that ask nothing asks by its first item.
+use Rattle.std.proofs.Common.{◌≡◌, ℕ, ◌<◌, ◌≤◌, zero, suc, true, false, ℤ, List, [], ◌∷◌, refl, ap, sym, ◌∙◌, arith}
+use Rattle.std.specs.Prelude.{◌==◌, nat_le}
+use Rattle.std.proofs.lemmas.Bool.{both_ways, cond-false, cond-true, le-leb, lt-leb}
 use Rattle.nim_job.specs.declared.ask.Ask.{Ask}
-use Rattle.nim_job.specs.declared.ask.Asked.{Asked}
+use Rattle.nim_job.specs.declared.item.Item.{Item}
 use Rattle.nim_job.specs.declared.item.Item.TheVariants.{Run}
+use Rattle.nim_job.specs.declared.span.Span.{Span}
 use Rattle.nim_job.specs.declared.stmt.Stmt.{Stmt, out-Stmt}
 use Rattle.nim_job.specs.declared.stmt.Stmt.TheOpen.{Stmt-F}
-use Rattle.nim_job.specs.Machine.{Machine, asked_by, stmt_asked, stmt_ask, items_ask, ask_of}
+use Rattle.nim_job.specs.Machine.{Machine, Wants, ask_now, asked_now, item_ask, items_ask, items_asked, stmt_ask, stmt_asked}
+use Rattle.nim_job.specs.Quiet.{quiet_step}
+use Rattle.nim_job.specs.Serial.{is_nil}
 
--- the machine of these parts
-abbrev pub machine_of : ℕ → List Stmt → ℕ → List ℤ → ℕ → List ℕ → Option Asked → Bool → Machine
-machine_of steps body at scalars count output asked full = record {
-  steps = steps;
-  driver = record { todo = map Run (drop at body); scalars = scalars; count = count; output = output };
-  asked = asked;
-  full = full;
-}
+asks_open : (m : Machine) → m.full ≡ false → ask_now m ≡ items_ask m m.driver.todo
+asks_open m open_still = cond-false m.full Ask.Limit (items_ask m m.driver.todo) open_still
 
-pub stmt_is_asked : (steps : ℕ) (body : List Stmt) (at : ℕ) (scalars : List ℤ) (count : ℕ) (output : List ℕ) (asked : Option Asked) (full : Bool) (m : Machine) (stmt : Stmt)
-    → machine_of steps body at scalars count output asked full ≡ m → full ≡ false → count < steps → at < length body → stmt ≡ get_or body at stmt
-    → stmt_ask scalars (out-Stmt stmt) ≡ ask_of m
-stmt_is_asked steps body at scalars count output asked full m stmt seen open_still fewer within is =
-    let here : map Run (drop at body) ≡ map Run (stmt ∷ drop (at + 1) body) =
-    ap (map Run) (drop_more body at stmt within ∙ ap (λ (s : Stmt). s ∷ drop (at + 1) body) (sym is)) in
-    let old = machine_of steps body at scalars count output asked false in
-    let asks : stmt_ask scalars (out-Stmt stmt) ≡ ask_of old =
-    sym (ap (items_ask old) here ∙ cond-false (nat_le steps count) Ask.Limit (stmt_ask scalars (out-Stmt stmt)) (lt-leb steps count fewer)) in
-    subst (λ (other : Machine). stmt_ask scalars (out-Stmt stmt) ≡ ask_of other) (ap (machine_of steps body at scalars count output asked) (sym open_still) ∙ seen) asks
+asked_open : (m : Machine) → m.full ≡ false → asked_now m ≡ items_asked m m.driver.todo
+asked_open m open_still = cond-false m.full m (items_asked m m.driver.todo) open_still
 
-kind_of : (scalars : List ℤ) (stmt : Stmt-F Stmt) → stmt_asked stmt ≡ asked_by (stmt_ask scalars stmt)
-kind_of scalars (Stmt-F.Do block args) = refl
-kind_of scalars (Stmt-F.Output var) = refl
-kind_of scalars stmt = refl
+items_past : (m : Machine) (items : List Item) → is_nil items ≡ false → m.steps ≤ m.driver.count → Ask.Limit ≡ items_ask m items
+items_past m [] left past = absurd (both_ways true left refl)
+items_past m (item ∷ rest) left past = sym (cond-true (nat_le m.steps m.driver.count) Ask.Limit (item_ask m item) (le-leb m.steps m.driver.count past))
 
--- a statement's ask wants the kind of answer that is kept
-pub kind_asked : (scalars : List ℤ) (stmt : Stmt) → stmt_asked (out-Stmt stmt) ≡ asked_by (stmt_ask scalars (out-Stmt stmt))
-kind_asked scalars stmt = kind_of scalars (out-Stmt stmt)
+-- one more statement would pass the most that are counted
+pub asks_limit : (m : Machine) → m.full ≡ false → is_nil m.driver.todo ≡ false → m.steps ≤ m.driver.count → Ask.Limit ≡ ask_now m
+asks_limit m open_still left past = items_past m m.driver.todo left past ∙ sym (asks_open m open_still)
+
+items_first : (m : Machine) (items rest : List Item) (stmt : Stmt) → items ≡ Run stmt ∷ rest → m.driver.count < m.steps → stmt_ask m.driver.scalars m.spans (out-Stmt stmt) ≡ items_ask m items
+items_first m items rest stmt is room =
+    sym (ap (items_ask m) is
+    ∙ cond-false (nat_le m.steps m.driver.count) Ask.Limit (stmt_ask m.driver.scalars m.spans (out-Stmt stmt)) (lt-leb m.steps m.driver.count room))
+
+-- a statement comes first
+pub asks_stmt : (m : Machine) (rest : List Item) (stmt : Stmt) → m.full ≡ false → m.driver.todo ≡ Run stmt ∷ rest → m.driver.count < m.steps → stmt_ask m.driver.scalars m.spans (out-Stmt stmt) ≡ ask_now m
+asks_stmt m rest stmt open_still is room = items_first m m.driver.todo rest stmt is room ∙ sym (asks_open m open_still)
+
+pub asked_stmt : (m : Machine) (rest : List Item) (stmt : Stmt) → m.full ≡ false → m.driver.todo ≡ Run stmt ∷ rest → m.driver.count < m.steps
+    → record m { driver = quiet_step m.driver; asked = stmt_asked (out-Stmt stmt) } ≡ asked_now m
+asked_stmt m rest stmt open_still is room =
+    sym (asked_open m open_still ∙ ap (items_asked m) is
+    ∙ cond-false (nat_le m.steps m.driver.count) m (record m { driver = quiet_step m.driver; asked = stmt_asked (out-Stmt stmt) }) (lt-leb m.steps m.driver.count room))
+
+-- an ask wants the kind of answer that is kept, where the statement isn't one that asks nothing
+pub stmt_wants : (scalars : List ℤ) (spans : List Span) (stmt : Stmt-F Stmt) → Wants (stmt_ask scalars spans stmt) (stmt_asked stmt)
+stmt_wants scalars spans (Stmt-F.Do block args) = record { cell = refl; text = refl; nothing = λ cell text. absurd (both_ways true cell refl) }
+stmt_wants scalars spans (Stmt-F.Get s var part row cell) = record { cell = refl; text = refl; nothing = λ asks text. absurd (both_ways true asks refl) }
+stmt_wants scalars spans Stmt-F.Checkpoint = record { cell = refl; text = refl; nothing = λ cell text. absurd (both_ways true cell refl) }
+stmt_wants scalars spans (Stmt-F.Output var) = record { cell = refl; text = refl; nothing = λ cell text. absurd (both_ways true text refl) }
+stmt_wants scalars spans stmt = record { cell = refl; text = refl; nothing = λ cell text. refl }
+
+-- a list whose length isn't 0 has an item
+pub some_left : (n : ℕ) → (n == 0) ≡ false → 0 < n
+some_left zero left = absurd (both_ways true left refl)
+some_left (suc n) left = omega arith

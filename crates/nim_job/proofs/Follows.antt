@@ -1,264 +1,423 @@
--- How the machine follows the steps of a job, and what it says of the job's end.
-use Rattle.std.proofs.Common.{◌≡◌, ℕ, ◌+◌, ◌-◌, ◌<◌, ◌≤◌, zero, suc, Bool, true, false, not, ℤ, List, [], ◌∷◌, ◌++◌, length, map, refl, ap, sym, ◌∙◌, arith, Option}
-use Rattle.std.specs.Prelude.{nat_le, nat_lt, if◌then◌else◌}
+-- How a machine follows the steps of a job, from any state at which it stands.
+use Rattle.std.proofs.Common.{◌≡◌, ℕ, ◌+◌, ◌-◌, ◌<◌, ◌≤◌, zero, suc, Bool, true, false, not, add-one, ℤ, List, [], ◌∷◌, ◌++◌, length, refl, ap, sym, subst, ◌∙◌, arith, append-nil}
+use Rattle.std.specs.Prelude.{◌==◌, if◌then◌else◌, nat_le, nat_lt, slice_get}
 use Rattle.std.specs.List.{list_all}
-use Rattle.std.proofs.lemmas.Bool.{and_parts, both_ways, leb-true, lt-ltb, le-ltb, le-leb, or_left, or_right, false_from_ne_true, or_from, cond-true, cond-false}
-use Rattle.std.proofs.lemmas.List.{length-append}
-use Rattle.std.proofs.lemmas.List.Folds.{list_all-map}
+use Rattle.std.specs.Option.{option_map_or}
+use Rattle.std.proofs.lemmas.Bool.{and_parts, both_ways, cond-false, cond-true, eqb-true, le-leb, le-ltb, leb-false, leb-true, lt-ltb, ltb-true, or_from, or_left, or_right}
+use Rattle.std.proofs.lemmas.List.{length-append, length-map}
+use Rattle.nim_base.specs.declared.number.Object.{Object}
+use Rattle.nim_base.specs.declared.task.Task.{Task}
+use Rattle.nim_base.specs.Value.{cell_of}
 use Rattle.nim_job.specs.declared.ask.Ask.{Ask}
-use Rattle.nim_job.specs.declared.ask.Asked.{Asked}
+use Rattle.nim_job.specs.declared.block.Block.{Block}
 use Rattle.nim_job.specs.declared.item.Item.{Item}
 use Rattle.nim_job.specs.declared.item.Item.TheVariants.{Run, Again}
 use Rattle.nim_job.specs.declared.job.Job.{Job}
-use Rattle.nim_job.specs.declared.stmt.Stmt.{Stmt, out-Stmt}
+use Rattle.nim_job.specs.declared.stmt.Stmt.{Stmt, fold_out-Stmt, map-Stmt, out-Stmt}
 use Rattle.nim_job.specs.declared.stmt.Stmt.TheOpen.{Stmt-F}
-use Rattle.nim_job.specs.Driver.{atom_of, output_limit, passed}
-use Rattle.nim_job.specs.Machine.{Machine, start_machine, stmt_ask, stmt_asked, items_ask, ask_of, items_asked, after_ask, answered, appended, machine_at, takes_cell}
-use Rattle.nim_job.specs.Serial.{driver_at, is_nil, is_limit, ending_of, serial_of}
-use Rattle.nim_job.specs.Step.{State, output_of, stmt_tasks, tasks_next, item_tasks, stmt_step, item_step, step}
+use Rattle.nim_job.specs.Driver.{Driver, atom_of, output_limit}
+use Rattle.nim_job.specs.Follows.{GoesFurther, GoesOn, Follows, IsThere, StandsAt, state_at}
+use Rattle.nim_job.specs.Machine.{Machine, after_ask, answered, appended, ask_now, ask_of, asked_now, before_ask, items_ask, items_asked, machine_at, quiet_steps, spans_of, start_machine, stmt_ask, stmt_asked}
+use Rattle.nim_job.specs.Objects.{shapes_of, value_at}
+use Rattle.nim_job.specs.Quiet.{is_quiet, is_quiet_stmt, quiet_step}
+use Rattle.nim_job.specs.Serial.{driver_at, ending_of, is_limit, is_nil, serial_of}
+use Rattle.nim_job.specs.Step.{State, after_tasks, items_step, items_tasks, output_of, step, stmt_tasks, stmt_told, tasks_next}
 use Rattle.nim_job.specs.Tasks.{block_tasks_of}
-use Rattle.nim_job.specs.Whole.{is_plain_out, is_plain_stmt, is_plain}
-use Rattle.nim_job.proofs.Whole.{plain_body}
+use Rattle.nim_job.specs.Whole.{is_whole}
+use Rattle.nim_job.proofs.Sound.{is_sound, sound_stmt}
+use Rattle.nim_job.proofs.Spans.{meant_there, span_meant}
+use Rattle.nim_job.proofs.Steps.{Later, is_item, nil_last, over_last, passes_all, quiet_end, step_open, tasks_open, todo_sound}
+use Rattle.nim_job.proofs.Versions.{step_moves}
+use Rattle.nim_job.proofs.Whole.{whole_vars}
 
--- the machine that passed an item: it stands behind it, and has asked this
-abbrev behind : Machine → List Item → Option Asked → Machine
-behind m rest asked = record m { driver = passed m.driver rest; asked = asked }
+-- ---- the start
 
--- a machine that is just made stands at the state before any step
-pub starts : (job : Job) → start_machine job ≡ machine_at job (driver_at job 0)
+pub starts : (job : Job) → StandsAt job (start_machine job)
 unfolding driver_at
-starts job = refl
+starts job = record { machine = refl; within = record { counted = omega arith; printed = omega arith } }
 
-stmt_answered : (job : Job) (state : State) (rest : List Item) (stmt : Stmt-F Stmt) (b : Bool)
-    → takes_cell (if b then machine_at job state else behind (machine_at job state) rest (stmt_asked stmt)).asked ≡ true
-    → answered (if b then machine_at job state else behind (machine_at job state) rest (stmt_asked stmt)) ≡ machine_at job (stmt_step job state rest stmt)
-stmt_answered job state rest (Stmt-F.Do block args) false asked = refl
-stmt_answered job state rest (Stmt-F.Output var) false asked = absurd (both_ways false refl asked)
-stmt_answered job state rest stmt false asked = absurd (both_ways false refl asked)
-stmt_answered job state rest stmt true asked = absurd (both_ways false refl asked)
+-- ---- before it asks
 
-items_answered : (job : Job) (state : State) (items : List Item) → takes_cell (items_asked (machine_at job state) items).asked ≡ true
-    → answered (items_asked (machine_at job state) items) ≡ machine_at job (item_step job state items)
-items_answered job state [] asked = absurd (both_ways false refl asked)
-items_answered job state (Run stmt ∷ rest) asked = stmt_answered job state rest (out-Stmt stmt) (nat_le job.steps state.driver.count) asked
-items_answered job state (Again turns body ∷ rest) asked = absurd (both_ways false refl asked)
+-- the machine at a state, once so many steps that ask nothing are taken
+abbrev settled : Job → State → Machine
+settled job state = record (machine_at job state) { driver = quiet_steps (job.steps - state.driver.count) state.driver }
 
--- a machine at a state that asked for something other than a text stands, once it is answered, at the next state
-pub answer_follows : (job : Job) (state : State) → takes_cell (after_ask (machine_at job state)).asked ≡ true
-    → answered (after_ask (machine_at job state)) ≡ machine_at job (step job state)
-answer_follows job state asked = items_answered job state state.driver.todo asked
+settles : (job : Job) (m : Machine) → StandsAt job m → before_ask m ≡ settled job (state_at job m)
+settles job m at = ap before_ask at.machine
 
-stmt_run : (job : Job) (state : State) (stmt : Stmt-F Stmt) (b : Bool) (block : ℕ) (args : List ℤ) → (if b then Ask.Limit else stmt_ask state.driver.scalars stmt) ≡ Ask.Run block args
-    → stmt_tasks job state stmt ≡ block_tasks_of job block args
-stmt_run job state (Stmt-F.Do block' args') false block args is =
-    let same : block' ≡ block = cc in
-    let given : map (atom_of state.driver.scalars) args' ≡ args = cc in
-    ap (λ (b : ℕ). block_tasks_of job b (map (atom_of state.driver.scalars) args')) same ∙ ap (block_tasks_of job block) given
-stmt_run job state (Stmt-F.Output var) false block args is = absurd cc
-stmt_run job state stmt false block args is = absurd cc
-stmt_run job state stmt true block args is = absurd cc
+later : (job : Job) (m : Machine) → StandsAt job m → Later job m.driver.count (job.steps - (state_at job m).driver.count) (settled job (state_at job m)).driver
+later job m at =
+    let state = state_at job m in
+    let same = ap (λ (k : Machine). k.driver) at.machine in
+    passes_all job (job.steps - state.driver.count) m.driver.count (sym (ap (λ (d : Driver). d.count) same))
+    (let printed = at.within.printed in omega (arith, printed, ap (λ (d : Driver). length d.output) same))
 
-again_asks : (b : Bool) (block : ℕ) (args : List ℤ) → (if b then Ask.Limit else Ask.Finished) ≡ Ask.Run block args → ⊥
-again_asks false block args is = cc
-again_asks true block args is = cc
+-- what is known of the machine before it asks
+record Before (job : Job) (m b : Machine) : Type 0 where
+  pub goes : GoesOn job m b []
+  pub printed : b.driver.output ≡ m.driver.output
+  pub counted : m.driver.count ≤ b.driver.count
+  pub quiet : is_quiet b.driver.todo ≡ true → job.steps ≤ b.driver.count
 
-items_run : (job : Job) (state : State) (items : List Item) (block : ℕ) (args : List ℤ) → items_ask (machine_at job state) items ≡ Ask.Run block args
-    → item_tasks job state items ≡ block_tasks_of job block args
-items_run job state [] block args is = absurd cc
-items_run job state (Run stmt ∷ rest) block args is = stmt_run job state (out-Stmt stmt) (nat_le job.steps state.driver.count) block args is
-items_run job state (Again turns body ∷ rest) block args is = absurd (again_asks (nat_le job.steps state.driver.count) block args is)
+settled_before : (job : Job) (m : Machine) → StandsAt job m → Before job m (settled job (state_at job m))
+settled_before job m at =
+    let state = state_at job m in
+    let steps : m.steps ≡ job.steps = ap (λ (k : Machine). k.steps) at.machine in
+    let count : m.driver.count ≡ state.driver.count = ap (λ (k : Machine). k.driver.count) at.machine in
+    let output : m.driver.output ≡ state.driver.output = ap (λ (k : Machine). k.driver.output) at.machine in
+    let l = later job m at in
+    let b = settled job state in
+    let within = at.within in
+    record {
+      goes = record {
+        stands = record {
+          machine = ap (λ (d : Driver). record (machine_at job state) { driver = d }) (sym l.stands);
+          within = record {
+            counted = omega (arith, l.before, within.counted, steps, count);
+            printed = omega (arith, ap length l.printed, within.printed, ap length output);
+          };
+        };
+        values = l.values;
+        position = omega (arith, l.position);
+      };
+      printed = l.printed ∙ sym output;
+      counted = l.after;
+      quiet = λ quiet. let end = quiet_end (job.steps - state.driver.count) state.driver quiet in omega (arith, end);
+    }
 
--- where a machine at a state asks for a block, the next step runs the tasks of this block with these arguments
-pub run_tasks : (job : Job) (state : State) (block : ℕ) (args : List ℤ) → ask_of (machine_at job state) ≡ Ask.Run block args
-    → tasks_next job state ≡ block_tasks_of job block args
-run_tasks job state block args is = items_run job state state.driver.todo block args is
+before : (job : Job) (m : Machine) → StandsAt job m → Before job m (before_ask m)
+before job m at = subst (λ (b : Machine). Before job m b) (sym (settles job m at)) (settled_before job m at)
 
--- the ask of an output, its printing and its step, by the statement that is next
-abbrev Prints : Job → State → ℕ → Machine → State → Type 0
-Prints job state var asked next = (next.driver.output ≡ state.driver.output ++ output_of job.vars state.values var)
+-- ---- one ask
+
+-- the machine that was answered stands at the next state, one statement was counted, and this is printed
+record Steps (job : Job) (state : State) (answer : Machine) (next : State) (text : List ℕ) : Type 0 where
+  pub machine : answer ≡ machine_at job next
+  pub counted : next.driver.count ≡ state.driver.count + 1
+  pub printed : next.driver.output ≡ state.driver.output ++ text
+
+-- what follows from each ask of a machine at a state, where it stands then, and which state and tasks come next
+abbrev Told : Job → State → Machine → State → List Task → Ask → Type 0
+Told job state asked next tasks (Ask.Run block args) =
+    (state.driver.count < job.steps) × (tasks ≡ block_tasks_of job block args) × ((cell : ℤ) → Steps job state (answered asked cell) next [])
+Told job state asked next tasks (Ask.Get object row cell) =
+    (state.driver.count < job.steps) × (tasks ≡ []) × Steps job state (answered asked (cell_of (value_at state.values object) row cell)) next []
+Told job state asked next tasks Ask.Checkpoint = (state.driver.count < job.steps) × (tasks ≡ []) × ((cell : ℤ) → Steps job state (answered asked cell) next [])
+Told job state asked next tasks (Ask.Output var) =
+    (state.driver.count < job.steps) × (tasks ≡ [])
+    × (next.driver.output ≡ state.driver.output ++ output_of job.vars state.values var)
+    × (next.driver.count ≡ state.driver.count + 1)
     × (length state.driver.output + length (output_of job.vars state.values var) ≤ output_limit → appended asked (output_of job.vars state.values var) ≡ machine_at job next)
+Told job state asked next tasks _ = Unit {0}
 
-stmt_prints : (job : Job) (state : State) (rest : List Item) (stmt : Stmt-F Stmt) (b : Bool) (var : ℕ) → (if b then Ask.Limit else stmt_ask state.driver.scalars stmt) ≡ Ask.Output var
-    → Prints job state var (if b then machine_at job state else behind (machine_at job state) rest (stmt_asked stmt)) (stmt_step job state rest stmt)
-stmt_prints job state rest (Stmt-F.Output var') false var is =
-    let same : var' ≡ var = cc in (
-      ap (λ (v : ℕ). state.driver.output ++ output_of job.vars state.values v) same,
-      λ fits. cond-true (nat_le (length state.driver.output + length (output_of job.vars state.values var)) output_limit) _ _
-          (le-leb (length state.driver.output + length (output_of job.vars state.values var)) output_limit fits)
-          ∙ ap (λ (v : ℕ). machine_at job (stmt_step job state rest (Stmt-F.Output v))) (sym same),
+-- nothing more is printed
+no_more : (output : List ℕ) → output ≡ output ++ []
+no_more output = sym (append-nil output)
+
+-- the state after a statement, and the machine that asked it
+abbrev stmt_next : Job → State → List Task → Stmt-F Stmt → State
+stmt_next job state tasks stmt = record {
+  driver = stmt_told job state stmt (quiet_step state.driver);
+  values = after_tasks (shapes_of job.vars) state.values tasks;
+  position = state.position + length tasks;
+}
+
+stmt_follows : (job : Job) (state : State) (stmt : Stmt-F Stmt) → state.driver.count < job.steps → is_whole job ≡ true → sound_stmt job (map-Stmt Stmt Bool (is_sound job) stmt) ≡ true
+    → Told job state (record (machine_at job state) { driver = quiet_step state.driver; asked = stmt_asked stmt }) (stmt_next job state (stmt_tasks job state stmt) stmt)
+    (stmt_tasks job state stmt) (stmt_ask state.driver.scalars (spans_of job.vars) stmt)
+stmt_follows job state (Stmt-F.Do block args) room whole sound =
+    (room, refl, λ cell. record { machine = refl; counted = refl; printed = no_more state.driver.output })
+stmt_follows job state (Stmt-F.Get s var part row cell) room whole sound =
+    let meant = span_meant job.vars var part (ltb-true var (length job.vars) sound) in
+    let next = stmt_next job state [] (Stmt-F.Get s var part row cell) in
+    let asked = record (machine_at job state) { driver = quiet_step state.driver; asked = stmt_asked (Stmt-F.Get s var part row cell) } in (
+      room,
+      refl,
+      record {
+        machine = ap (λ (object : Object). answered asked (cell_of (value_at state.values object) row cell)) meant;
+        counted = refl;
+        printed = no_more state.driver.output;
+      },
     )
-stmt_prints job state rest stmt false var is = absurd cc
-stmt_prints job state rest stmt true var is = absurd cc
+stmt_follows job state Stmt-F.Checkpoint room whole sound =
+    (room, refl, λ cell. record { machine = refl; counted = refl; printed = no_more state.driver.output })
+stmt_follows job state (Stmt-F.Output var) room whole sound =
+    let text = output_of job.vars state.values var in
+    (room, refl, refl, refl, λ fits. cond-true (nat_le (length state.driver.output + length text) output_limit) _ _ (le-leb (length state.driver.output + length text) output_limit fits))
+stmt_follows job state (Stmt-F.Let s first rest) room whole sound = tt
+stmt_follows job state (Stmt-F.Loop turns body) room whole sound = tt
+stmt_follows job state (Stmt-F.While cond body) room whole sound = tt
+stmt_follows job state (Stmt-F.If cond first second) room whole sound = tt
 
-again_prints : (b : Bool) (var : ℕ) → (if b then Ask.Limit else Ask.Finished) ≡ Ask.Output var → ⊥
-again_prints false var is = cc
-again_prints true var is = cc
+-- the same where a statement more may be counted or not
+stmt_within : (job : Job) (state : State) (stmt : Stmt-F Stmt) (b : Bool) → b ≡ nat_le job.steps state.driver.count → is_whole job ≡ true → sound_stmt job (map-Stmt Stmt Bool (is_sound job) stmt) ≡ true
+    → Told job state (if b then machine_at job state else record (machine_at job state) { driver = quiet_step state.driver; asked = stmt_asked stmt })
+    (stmt_next job state (stmt_tasks job state stmt) stmt) (stmt_tasks job state stmt)
+    (if b then Ask.Limit else stmt_ask state.driver.scalars (spans_of job.vars) stmt)
+stmt_within job state stmt true is whole sound = tt
+stmt_within job state stmt false is whole sound = stmt_follows job state stmt (leb-false job.steps state.driver.count (sym is)) whole sound
 
-items_print : (job : Job) (state : State) (items : List Item) (var : ℕ) → items_ask (machine_at job state) items ≡ Ask.Output var
-    → Prints job state var (items_asked (machine_at job state) items) (item_step job state items)
-items_print job state [] var is = absurd cc
-items_print job state (Run stmt ∷ rest) var is = stmt_prints job state rest (out-Stmt stmt) (nat_le job.steps state.driver.count) var is
-items_print job state (Again turns body ∷ rest) var is = absurd (again_prints (nat_le job.steps state.driver.count) var is)
+again_within : (job : Job) (state next : State) (asked : Machine) (tasks : List Task) (b : Bool) → Told job state asked next tasks (if b then Ask.Limit else Ask.Finished)
+again_within job state next asked tasks true = tt
+again_within job state next asked tasks false = tt
 
--- where a machine at a state asks for an output, the next step prints the texts of this variable's parts
-pub output_prints : (job : Job) (state : State) (var : ℕ) → ask_of (machine_at job state) ≡ Ask.Output var
-    → (step job state).driver.output ≡ state.driver.output ++ output_of job.vars state.values var
-output_prints job state var is = (items_print job state state.driver.todo var is).0
+items_follow : (job : Job) (state : State) (items : List Item) → is_whole job ≡ true → list_all (is_item job) items ≡ true
+    → Told job state (items_asked (machine_at job state) items) (items_step job state items) (items_tasks job state items) (items_ask (machine_at job state) items)
+items_follow job state [] whole sound = tt
+items_follow job state (Run stmt ∷ rest) whole sound =
+    let is = (and_parts (is_sound job stmt) (list_all (is_item job) rest) sound).0 in
+    stmt_within job state (out-Stmt stmt) (nat_le job.steps state.driver.count) refl whole (sym (fold_out-Stmt Bool (sound_stmt job) stmt) ∙ is)
+items_follow job state (Again turns body ∷ rest) whole sound =
+    again_within job state (items_step job state (Again turns body ∷ rest)) (items_asked (machine_at job state) (Again turns body ∷ rest)) [] (nat_le job.steps state.driver.count)
 
--- and once these texts are appended, within the limit, the machine stands at the next state
-pub append_follows : (job : Job) (state : State) (var : ℕ) → ask_of (machine_at job state) ≡ Ask.Output var
-    → length state.driver.output + length (output_of job.vars state.values var) ≤ output_limit
-    → appended (after_ask (machine_at job state)) (output_of job.vars state.values var) ≡ machine_at job (step job state)
-append_follows job state var is fits = (items_print job state state.driver.todo var is).1 fits
+-- what follows where a machine stands before it asks
+asks_now : (job : Job) (b : Machine) → is_whole job ≡ true → StandsAt job b
+    → Told job (state_at job b) (asked_now b) (step job (state_at job b)) (tasks_next job (state_at job b)) (ask_now b)
+asks_now job b whole at =
+    let state = state_at job b in
+    let within : length state.driver.output ≤ output_limit = let printed = at.within.printed in omega (arith, printed, ap (λ (k : Machine). length k.driver.output) at.machine) in
+    let here = items_follow job state state.driver.todo whole (todo_sound job b.driver.count whole) in
+    subst (λ (k : Machine). Told job state (asked_now k) (step job state) (tasks_next job state) (ask_now k)) (sym at.machine)
+    (subst (λ (next : State). Told job state (asked_now (machine_at job state)) next (tasks_next job state) (ask_now (machine_at job state))) (sym (step_open job state within))
+    (subst (λ (tasks : List Task). Told job state (asked_now (machine_at job state)) (items_step job state state.driver.todo) tasks (ask_now (machine_at job state))) (sym (tasks_open job state within)) here))
 
--- where nothing is left to do the state stays
-nil_from : (items : List Item) → is_nil items ≡ true → items ≡ []
-nil_from [] nil = refl
-nil_from (item ∷ items) nil = absurd (both_ways false refl nil)
+-- ---- the next state
 
-step_nil : (job : Job) (state : State) → is_nil state.driver.todo ≡ true → step job state ≡ state
-step_nil job state nil = ap (item_step job state) (nil_from state.driver.todo nil)
-
-pub nil_stays : (job : Job) (n d : ℕ) → is_nil (driver_at job n).driver.todo ≡ true → driver_at job (d + n) ≡ driver_at job n
+one_more : (job : Job) (n k : ℕ) → k ≡ n + 1 → driver_at job k ≡ step job (driver_at job n)
 unfolding driver_at
-nil_stays job n zero nil = let same : 0 + n ≡ n = omega arith in ap (driver_at job) same
-nil_stays job n (suc d) nil =
-    let later : suc d + n ≡ suc (d + n) = omega arith in
-    let stays = nil_stays job n d nil in
-    ap (driver_at job) later ∙ ap (step job) stays ∙ step_nil job (driver_at job n) nil
+one_more job n k more = ap (driver_at job) (more ∙ add-one n)
 
--- a step counts one statement while items are left
-stmt_counts : (job : Job) (state : State) (rest : List Item) (stmt : Stmt-F Stmt) → (stmt_step job state rest stmt).driver.count ≡ state.driver.count + 1
-stmt_counts job state rest (Stmt-F.Output var) = refl
-stmt_counts job state rest stmt = refl
+-- a machine that stands at the state after a step goes on
+steps_on : (job : Job) (b next : Machine) (tasks : List Task) → StandsAt job b → (state_at job b).driver.count < job.steps → tasks_next job (state_at job b) ≡ tasks
+    → next ≡ machine_at job (step job (state_at job b)) → (step job (state_at job b)).driver.count ≡ (state_at job b).driver.count + 1 → length next.driver.output ≤ output_limit
+    → GoesFurther job b next tasks
+steps_on job b next tasks at room runs is counted printed =
+    let state = state_at job b in
+    let count : b.driver.count ≡ state.driver.count = ap (λ (k : Machine). k.driver.count) at.machine in
+    let more : next.driver.count ≡ b.driver.count + 1 = omega (arith, ap (λ (k : Machine). k.driver.count) is, counted, count) in
+    let there : state_at job next ≡ step job state = one_more job b.driver.count next.driver.count more in
+    let steps : next.steps ≡ job.steps = ap (λ (k : Machine). k.steps) is in
+    let moves = step_moves job state in
+    record {
+      goes = record {
+        stands = record {
+          machine = is ∙ ap (machine_at job) (sym there);
+          within = record { counted = omega (arith, more, count, room, steps); printed = printed };
+        };
+        values = ap (λ (s : State). s.values) there ∙ moves.0 ∙ ap (after_tasks (shapes_of job.vars) state.values) runs;
+        position = ap (λ (s : State). s.position) there ∙ moves.1 ∙ ap (λ (ts : List Task). state.position + length ts) runs;
+      };
+      counted = omega (arith, more);
+    }
 
-items_count : (job : Job) (state : State) (items : List Item) → is_nil items ≡ false → (item_step job state items).driver.count ≡ state.driver.count + 1
-items_count job state [] left = absurd (both_ways true left refl)
-items_count job state (Run stmt ∷ rest) left = stmt_counts job state rest (out-Stmt stmt)
-items_count job state (Again turns body ∷ rest) left = refl
+-- what goes on from where a machine stands before it asks goes on from where it stood
+goes_from : (job : Job) (m b next : Machine) (tasks : List Task) → Before job m b → GoesFurther job b next tasks → GoesFurther job m next tasks
+goes_from job m b next tasks from further = record {
+  goes = record {
+    stands = further.goes.stands;
+    values = further.goes.values ∙ ap (λ grids. after_tasks (shapes_of job.vars) grids tasks) from.goes.values;
+    position = omega (arith, further.goes.position, from.goes.position);
+  };
+  counted = (let more = further.counted in omega (arith, more, from.counted));
+}
 
-pub step_counts : (job : Job) (state : State) → is_nil state.driver.todo ≡ false → (step job state).driver.count ≡ state.driver.count + 1
-step_counts job state left = items_count job state state.driver.todo left
+-- an ask whose answer prints nothing
+quietly : (job : Job) (m b next : Machine) (tasks : List Task) → StandsAt job b → Before job m b → (state_at job b).driver.count < job.steps → tasks_next job (state_at job b) ≡ tasks
+    → Steps job (state_at job b) next (step job (state_at job b)) [] → GoesFurther job m next tasks
+quietly job m b next tasks at from room runs steps =
+    let state = state_at job b in
+    let output : length b.driver.output ≡ length state.driver.output = ap (λ (k : Machine). length k.driver.output) at.machine in
+    let within = at.within.printed in
+    goes_from job m b next tasks from
+    (steps_on job b next tasks at room runs steps.machine steps.counted
+    (omega (arith, within, output, ap (λ (k : Machine). length k.driver.output) steps.machine, ap length steps.printed, ap length (append-nil state.driver.output))))
 
-left_before : (job : Job) (n : ℕ) → is_nil (driver_at job (suc n)).driver.todo ≡ false → is_nil (driver_at job n).driver.todo ≡ false
-unfolding driver_at
-left_before job n left =
-    false_from_ne_true (is_nil (driver_at job n).driver.todo)
-    (λ nil. both_ways (is_nil (driver_at job n).driver.todo) (sym (ap (λ (s : State). is_nil s.driver.todo) (step_nil job (driver_at job n) nil)) ∙ left) nil)
+-- ---- ends
 
--- while items are left, as many statements are counted as steps were taken
-pub counts_steps : (job : Job) (n : ℕ) → is_nil (driver_at job n).driver.todo ≡ false → (driver_at job n).driver.count ≡ n
-unfolding driver_at
-counts_steps job zero left = refl
-counts_steps job (suc n) left =
-    let before = left_before job n left in
-    omega (arith, step_counts job (driver_at job n) before, counts_steps job n before)
+-- where nothing is asked nothing is left to do, but statements that ask nothing
+stmt_finished : (scalars : List ℤ) (stmt : Stmt-F Stmt) (job : Job) (b : Bool) → (if b then Ask.Limit else stmt_ask scalars (spans_of job.vars) stmt) ≡ Ask.Finished → (b ≡ false) × (is_quiet_stmt stmt ≡ true)
+stmt_finished scalars stmt job true is = absurd cc
+stmt_finished scalars (Stmt-F.Do block args) job false is = absurd cc
+stmt_finished scalars (Stmt-F.Get s var part row cell) job false is = absurd cc
+stmt_finished scalars Stmt-F.Checkpoint job false is = absurd cc
+stmt_finished scalars (Stmt-F.Output var) job false is = absurd cc
+stmt_finished scalars stmt job false is = (refl, refl)
 
--- the output only grows
-stmt_grows : (job : Job) (state : State) (rest : List Item) (stmt : Stmt-F Stmt) → length state.driver.output ≤ length (stmt_step job state rest stmt).driver.output
-stmt_grows job state rest (Stmt-F.Output var) = omega (arith, length-append state.driver.output (output_of job.vars state.values var))
-stmt_grows job state rest stmt = omega arith
+again_finished : (b : Bool) → (if b then Ask.Limit else Ask.Finished) ≡ Ask.Finished → b ≡ false
+again_finished true is = absurd cc
+again_finished false is = refl
 
-items_grow : (job : Job) (state : State) (items : List Item) → length state.driver.output ≤ length (item_step job state items).driver.output
-items_grow job state [] = omega arith
-items_grow job state (Run stmt ∷ rest) = stmt_grows job state rest (out-Stmt stmt)
-items_grow job state (Again turns body ∷ rest) = omega arith
+items_finished : (job : Job) (state : State) (items : List Item) → (is_quiet items ≡ true → job.steps ≤ state.driver.count) → items_ask (machine_at job state) items ≡ Ask.Finished → is_nil items ≡ true
+items_finished job state [] quiet is = refl
+items_finished job state (Run stmt ∷ rest) quiet is =
+    let found = stmt_finished state.driver.scalars (out-Stmt stmt) job (nat_le job.steps state.driver.count) is in
+    let room = leb-false job.steps state.driver.count found.0 in
+    absurd (let past = quiet found.1 in omega (arith, room, past))
+items_finished job state (Again turns body ∷ rest) quiet is =
+    let room = leb-false job.steps state.driver.count (again_finished (nat_le job.steps state.driver.count) is) in
+    absurd (let past = quiet refl in omega (arith, room, past))
 
-pub output_grows : (job : Job) (n d : ℕ) → length (driver_at job n).driver.output ≤ length (driver_at job (d + n)).driver.output
-unfolding driver_at
-output_grows job n zero = let same : 0 + n ≡ n = omega arith in omega (arith, ap (λ (k : ℕ). length (driver_at job k).driver.output) same)
-output_grows job n (suc d) =
-    let later : suc d + n ≡ suc (d + n) = omega arith in
-    omega (
-      arith,
-      ap (λ (k : ℕ). length (driver_at job k).driver.output) later,
-      output_grows job n d,
-      items_grow job (driver_at job (d + n)) (driver_at job (d + n)).driver.todo,
-    )
+-- the end of a job that is done
+done_ends : (job : Job) (n : ℕ) → n ≤ job.steps → length (driver_at job n).driver.output ≤ output_limit → is_nil (driver_at job n).driver.todo ≡ true
+    → serial_of job ≡ record { status = 0; bytes = (driver_at job n).driver.output }
+done_ends job n within fits nil =
+    let state = driver_at job n in
+    let open_end : is_limit state ≡ false =
+    or_from (not (is_nil state.driver.todo)) (nat_lt output_limit (length state.driver.output)) (ap not nil) (le-ltb output_limit (length state.driver.output) fits) in
+    ap ending_of (nil_last job n within nil)
+    ∙ cond-false (is_limit state) (record { status = 4; bytes = [] }) (record { status = 0; bytes = state.driver.output }) open_end
 
--- what is left to do is statements that a plain job may have
-abbrev is_item : Job → Item → Bool
-is_item job (Run stmt) = is_plain_stmt job stmt
-is_item job (Again turns body) = false
+-- the end at a limit
+limit_ends : (job : Job) (state : State) → driver_at job job.steps ≡ state → is_limit state ≡ true → serial_of job ≡ record { status = 4; bytes = [] }
+limit_ends job state is limit =
+    ap ending_of is ∙ cond-true (is_limit state) (record { status = 4; bytes = [] }) (record { status = 0; bytes = state.driver.output }) limit
 
-stmt_left : (job : Job) (state : State) (rest : List Item) (stmt : Stmt-F Stmt) → list_all (is_item job) rest ≡ true → list_all (is_item job) (stmt_step job state rest stmt).driver.todo ≡ true
-stmt_left job state rest (Stmt-F.Output var) plain = plain
-stmt_left job state rest stmt plain = plain
+full_ends : (job : Job) (n : ℕ) → n ≤ job.steps → output_limit < length (driver_at job n).driver.output → serial_of job ≡ record { status = 4; bytes = [] }
+full_ends job n within over =
+    let state = driver_at job n in
+    limit_ends job state (over_last job n within over)
+    (or_right (not (is_nil state.driver.todo)) (nat_lt output_limit (length state.driver.output)) (lt-ltb output_limit (length state.driver.output) over))
 
-items_left : (job : Job) (state : State) (items : List Item) → state.driver.todo ≡ items → list_all (is_item job) items ≡ true → list_all (is_item job) (item_step job state items).driver.todo ≡ true
-items_left job state [] is plain = ap (list_all (is_item job)) is
-items_left job state (Run stmt ∷ rest) is plain = stmt_left job state rest (out-Stmt stmt) (and_parts (is_plain_stmt job stmt) (list_all (is_item job) rest) plain).1
-items_left job state (Again turns body ∷ rest) is plain = (and_parts false (list_all (is_item job) rest) plain).1
-
-pub left_plain : (job : Job) (n : ℕ) → is_plain job ≡ true → list_all (is_item job) (driver_at job n).driver.todo ≡ true
-unfolding driver_at
-left_plain job zero plain = list_all-map (is_item job) (λ stmt. Run stmt) job.body ∙ plain_body job plain
-left_plain job (suc n) plain = items_left job (driver_at job n) (driver_at job n).driver.todo refl (left_plain job n plain)
-
--- where nothing is asked and the machine isn't full, nothing is left to do
-stmt_finished : (job : Job) (scalars : List ℤ) (stmt : Stmt-F Stmt) (b : Bool) → is_plain_out job stmt ≡ true → (if b then Ask.Limit else stmt_ask scalars stmt) ≡ Ask.Finished → ⊥
-stmt_finished job scalars (Stmt-F.Do block args) false plain is = cc
-stmt_finished job scalars (Stmt-F.Output var) false plain is = cc
-stmt_finished job scalars stmt false plain is = both_ways false refl plain
-stmt_finished job scalars stmt true plain is = cc
-
-items_finished : (job : Job) (m : Machine) (items : List Item) → list_all (is_item job) items ≡ true → items_ask m items ≡ Ask.Finished → is_nil items ≡ true
-items_finished job m [] plain is = refl
-items_finished job m (Run stmt ∷ rest) plain is =
-    absurd (stmt_finished job m.driver.scalars (out-Stmt stmt) (nat_le m.steps m.driver.count) (and_parts (is_plain_stmt job stmt) (list_all (is_item job) rest) plain).0 is)
-items_finished job m (Again turns body ∷ rest) plain is = absurd (both_ways false refl (and_parts false (list_all (is_item job) rest) plain).0)
-
--- The machine stands at the state after n steps and says that it is finished: the job ends well, with what is
--- printed so far.
-pub finished_ends : (job : Job) (n : ℕ) → is_plain job ≡ true → n ≤ job.steps → length (driver_at job n).driver.output ≤ output_limit
-    → ask_of (machine_at job (driver_at job n)) ≡ Ask.Finished → serial_of job ≡ record { status = 0; bytes = (driver_at job n).driver.output }
-finished_ends job n plain within fits is =
-    let nil = items_finished job (machine_at job (driver_at job n)) (driver_at job n).driver.todo (left_plain job n plain) is in
-    let last : job.steps ≡ job.steps - n + n = omega arith in
-    let ends = ap (driver_at job) last ∙ nil_stays job n (job.steps - n) nil in
-    let open_end : is_limit (driver_at job n) ≡ false =
-    or_from (not (is_nil (driver_at job n).driver.todo)) (nat_lt output_limit (length (driver_at job n).driver.output)) (ap not nil)
-    (le-ltb output_limit (length (driver_at job n).driver.output) fits) in
-    ap ending_of ends ∙ cond-false (is_limit (driver_at job n)) (record { status = 4; bytes = [] }) (record { status = 0; bytes = (driver_at job n).driver.output }) open_end
-
-stmt_limit : (scalars : List ℤ) (stmt : Stmt-F Stmt) (b : Bool) → (if b then Ask.Limit else stmt_ask scalars stmt) ≡ Ask.Limit → b ≡ true
-stmt_limit scalars (Stmt-F.Do block args) false is = absurd cc
-stmt_limit scalars (Stmt-F.Output var) false is = absurd cc
-stmt_limit scalars stmt false is = absurd cc
-stmt_limit scalars stmt true is = refl
+stmt_limit : (scalars : List ℤ) (stmt : Stmt-F Stmt) (job : Job) (b : Bool) → (if b then Ask.Limit else stmt_ask scalars (spans_of job.vars) stmt) ≡ Ask.Limit → b ≡ true
+stmt_limit scalars stmt job true is = refl
+stmt_limit scalars (Stmt-F.Do block args) job false is = absurd cc
+stmt_limit scalars (Stmt-F.Get s var part row cell) job false is = absurd cc
+stmt_limit scalars Stmt-F.Checkpoint job false is = absurd cc
+stmt_limit scalars (Stmt-F.Output var) job false is = absurd cc
+stmt_limit scalars stmt job false is = absurd cc
 
 again_limit : (b : Bool) → (if b then Ask.Limit else Ask.Finished) ≡ Ask.Limit → b ≡ true
-again_limit false is = absurd cc
 again_limit true is = refl
+again_limit false is = absurd cc
 
-items_limit : (m : Machine) (items : List Item) → items_ask m items ≡ Ask.Limit → (is_nil items ≡ false) × (nat_le m.steps m.driver.count ≡ true)
-items_limit m [] is = absurd cc
-items_limit m (Run stmt ∷ rest) is = (refl, stmt_limit m.driver.scalars (out-Stmt stmt) (nat_le m.steps m.driver.count) is)
-items_limit m (Again turns body ∷ rest) is = (refl, again_limit (nat_le m.steps m.driver.count) is)
+items_limit : (job : Job) (state : State) (items : List Item) → items_ask (machine_at job state) items ≡ Ask.Limit → (is_nil items ≡ false) × (job.steps ≤ state.driver.count)
+items_limit job state [] is = absurd cc
+items_limit job state (Run stmt ∷ rest) is =
+    (refl, leb-true job.steps state.driver.count (stmt_limit state.driver.scalars (out-Stmt stmt) job (nat_le job.steps state.driver.count) is))
+items_limit job state (Again turns body ∷ rest) is = (refl, leb-true job.steps state.driver.count (again_limit (nat_le job.steps state.driver.count) is))
 
--- a state that is a limit after all steps
-limit_ends : (job : Job) → is_limit (driver_at job job.steps) ≡ true → serial_of job ≡ record { status = 4; bytes = [] }
-limit_ends job limit =
-    cond-true (is_limit (driver_at job job.steps)) (record { status = 4; bytes = [] }) (record { status = 0; bytes = (driver_at job job.steps).driver.output }) limit
+-- ---- what is asked is there
 
--- The machine stands at the state after n steps and says that the limit is reached: the job ends at a limit.
-pub limit_reached : (job : Job) (n : ℕ) → ask_of (machine_at job (driver_at job n)) ≡ Ask.Limit → serial_of job ≡ record { status = 4; bytes = [] }
-limit_reached job n is =
-    let limit = items_limit (machine_at job (driver_at job n)) (driver_at job n).driver.todo is in
-    let count = counts_steps job n limit.0 in
-    let steps : job.steps ≤ n = omega (arith, count, leb-true job.steps (driver_at job n).driver.count limit.1) in
-    let last : n ≡ n - job.steps + job.steps = omega arith in
-    let left : is_nil (driver_at job job.steps).driver.todo ≡ false =
-    false_from_ne_true (is_nil (driver_at job job.steps).driver.todo)
-    (λ nil. both_ways (is_nil (driver_at job n).driver.todo) limit.0
-    (ap (λ (s : State). is_nil s.driver.todo) (ap (driver_at job) last ∙ nil_stays job job.steps (n - job.steps) nil) ∙ nil)) in
-    limit_ends job (or_left (not (is_nil (driver_at job job.steps).driver.todo)) (nat_lt output_limit (length (driver_at job job.steps).driver.output)) (ap not left))
+call_there : (blocks : List Block) (block args : ℕ) → option_map_or (λ (b : Block). args == b.args) (slice_get blocks block) false ≡ true
+    → (block < length blocks) × (args ≡ option_map_or (λ (b : Block). b.args) (slice_get blocks block) 0)
+call_there [] block args is = absurd (both_ways false refl is)
+call_there (b ∷ blocks) zero args is = (omega arith, eqb-true args b.args is)
+call_there (b ∷ blocks) (suc block) args is = let found = call_there blocks block args is in (omega (arith, found.0), found.1)
 
--- More than may be printed is printed after n steps: the job ends at a limit.
-pub full_ends : (job : Job) (n : ℕ) → n ≤ job.steps → output_limit < length (driver_at job n).driver.output → serial_of job ≡ record { status = 4; bytes = [] }
-full_ends job n within much =
-    let last : job.steps ≡ job.steps - n + n = omega arith in
-    let grown : output_limit < length (driver_at job job.steps).driver.output =
-    omega (arith, much, output_grows job n (job.steps - n), ap (λ (k : ℕ). length (driver_at job k).driver.output) last) in
-    limit_ends job (or_right (not (is_nil (driver_at job job.steps).driver.todo)) (nat_lt output_limit (length (driver_at job job.steps).driver.output))
-    (lt-ltb output_limit (length (driver_at job job.steps).driver.output) grown))
+stmt_there : (job : Job) (scalars : List ℤ) (stmt : Stmt-F Stmt) (b : Bool) → is_whole job ≡ true → sound_stmt job (map-Stmt Stmt Bool (is_sound job) stmt) ≡ true
+    → IsThere job (if b then Ask.Limit else stmt_ask scalars (spans_of job.vars) stmt)
+stmt_there job scalars stmt true whole sound = tt
+stmt_there job scalars (Stmt-F.Do block args) false whole sound =
+    let found = call_there job.blocks block (length args) sound in (found.0, length-map args (atom_of scalars) ∙ found.1)
+stmt_there job scalars (Stmt-F.Get s var part row cell) false whole sound =
+    let there = ltb-true var (length job.vars) sound in
+    let below = meant_there job.vars var part (whole_vars job whole) there in
+    omega (arith, below, ap (λ (o : Object). o.0) (span_meant job.vars var part there))
+stmt_there job scalars (Stmt-F.Output var) false whole sound = ltb-true var (length job.vars) sound
+stmt_there job scalars Stmt-F.Checkpoint false whole sound = tt
+stmt_there job scalars (Stmt-F.Let s first rest) false whole sound = tt
+stmt_there job scalars (Stmt-F.Loop turns body) false whole sound = tt
+stmt_there job scalars (Stmt-F.While cond body) false whole sound = tt
+stmt_there job scalars (Stmt-F.If cond first second) false whole sound = tt
+
+again_there : (job : Job) (b : Bool) → IsThere job (if b then Ask.Limit else Ask.Finished)
+again_there job true = tt
+again_there job false = tt
+
+items_there : (job : Job) (state : State) (items : List Item) → is_whole job ≡ true → list_all (is_item job) items ≡ true → IsThere job (items_ask (machine_at job state) items)
+items_there job state [] whole sound = tt
+items_there job state (Run stmt ∷ rest) whole sound =
+    let is = (and_parts (is_sound job stmt) (list_all (is_item job) rest) sound).0 in
+    stmt_there job state.driver.scalars (out-Stmt stmt) (nat_le job.steps state.driver.count) whole (sym (fold_out-Stmt Bool (sound_stmt job) stmt) ∙ is)
+items_there job state (Again turns body ∷ rest) whole sound = again_there job (nat_le job.steps state.driver.count)
+
+-- ---- all together
+
+-- the machine before it asks, seen at its state
+now : (job : Job) (b : Machine) → StandsAt job b → ask_now b ≡ items_ask (machine_at job (state_at job b)) (state_at job b).driver.todo
+now job b at = ap ask_now at.machine
+
+-- an output that is answered by these texts
+prints_at : (job : Job) (m b : Machine) (var : ℕ) (text : List ℕ) → StandsAt job b → Before job m b → text ≡ output_of job.vars (state_at job b).values var
+    → Told job (state_at job b) (asked_now b) (step job (state_at job b)) (tasks_next job (state_at job b)) (Ask.Output var)
+    → (length m.driver.output + length text ≤ output_limit → GoesFurther job m (appended (asked_now b) text) []) × (output_limit < length m.driver.output + length text → serial_of job ≡ record { status = 4; bytes = [] })
+prints_at job m b var text at from is told =
+    let state = state_at job b in
+    let steps : b.steps ≡ job.steps = ap (λ (k : Machine). k.steps) at.machine in
+    let count : b.driver.count ≡ state.driver.count = ap (λ (k : Machine). k.driver.count) at.machine in
+    let output : length m.driver.output ≡ length state.driver.output = ap length (sym from.printed ∙ ap (λ (k : Machine). k.driver.output) at.machine) in
+    let size : length text ≡ length (output_of job.vars state.values var) = ap length is in
+    let sum : length (step job state).driver.output ≡ length state.driver.output + length text =
+    ap length told.2 ∙ ap (λ (t : List ℕ). length (state.driver.output ++ t)) (sym is) ∙ length-append state.driver.output text in
+    let room = told.0 in (
+      λ fits. let next : appended (asked_now b) text ≡ machine_at job (step job state) = ap (appended (asked_now b)) is ∙ told.4 (omega (arith, fits, output, size)) in
+          goes_from job m b (appended (asked_now b) text) [] from
+          (steps_on job b (appended (asked_now b) text) [] at room told.1 next told.3
+          (omega (arith, ap (λ (k : Machine). length k.driver.output) next, sum, fits, output))),
+      λ past. let there : driver_at job (b.driver.count + 1) ≡ step job state = one_more job b.driver.count (b.driver.count + 1) refl in
+          full_ends job (b.driver.count + 1) (omega (arith, room, count))
+          (omega (arith, ap (λ (s : State). length s.driver.output) there, sum, past, output)),
+    )
+
+-- at its end
+finishes : (job : Job) (m b : Machine) → StandsAt job b → Before job m b → ask_now b ≡ Ask.Finished → serial_of job ≡ record { status = 0; bytes = m.driver.output }
+finishes job m b at from is =
+    let state = state_at job b in
+    let steps : b.steps ≡ job.steps = ap (λ (k : Machine). k.steps) at.machine in
+    let count : b.driver.count ≡ state.driver.count = ap (λ (k : Machine). k.driver.count) at.machine in
+    let output : b.driver.output ≡ state.driver.output = ap (λ (k : Machine). k.driver.output) at.machine in
+    let within = at.within in
+    let nil = items_finished job state state.driver.todo
+    (λ quiet. let past = from.quiet (ap (λ (k : Machine). is_quiet k.driver.todo) at.machine ∙ quiet) in omega (arith, past, count)) (sym (now job b at) ∙ is) in
+    done_ends job b.driver.count (omega (arith, within.counted, steps)) (omega (arith, within.printed, ap length output)) nil
+    ∙ ap (λ (bytes : List ℕ). record { status = 0; bytes = bytes }) (sym (sym from.printed ∙ output))
+
+-- at its limit
+stops : (job : Job) (b : Machine) → StandsAt job b → ask_now b ≡ Ask.Limit → serial_of job ≡ record { status = 4; bytes = [] }
+stops job b at is =
+    let state = state_at job b in
+    let steps : b.steps ≡ job.steps = ap (λ (k : Machine). k.steps) at.machine in
+    let count : b.driver.count ≡ state.driver.count = ap (λ (k : Machine). k.driver.count) at.machine in
+    let limit = items_limit job state state.driver.todo (sym (now job b at) ∙ is) in
+    let within = at.within.counted in
+    let last : job.steps ≡ b.driver.count = omega (arith, within, steps, count, limit.1) in
+    limit_ends job state (ap (driver_at job) last)
+    (or_left (not (is_nil state.driver.todo)) (nat_lt output_limit (length state.driver.output)) (ap not limit.0))
+
+pub follows : (job : Job) → is_whole job ≡ true → (m : Machine) → StandsAt job m → Follows job m
+follows job whole m at =
+    let b = before_ask m in
+    let from = before job m at in
+    let here = from.goes.stands in
+    let state = state_at job b in
+    let told = asks_now job b whole here in
+    let same_values = from.goes.values in
+    let count : b.driver.count ≡ state.driver.count = ap (λ (k : Machine). k.driver.count) here.machine in
+    let told_by = λ (ask : Ask) (is : ask_of m ≡ ask). subst (Told job state (asked_now b) (step job state) (tasks_next job state)) is told in
+    record {
+      asks = record {
+        before = from.goes;
+        printed = from.printed;
+        there = subst (IsThere job) (sym (now job b here)) (items_there job state state.driver.todo whole (todo_sound job b.driver.count whole));
+      };
+      run = λ block args is.
+          let found = told_by (Ask.Run block args) is in
+          record {
+            within = omega (arith, found.0, count);
+            tasks = found.1;
+            goes = λ cell. quietly job m b (answered (after_ask m) cell) (block_tasks_of job block args) here from found.0 found.1 (found.2 cell);
+          };
+      get = λ object row cell is.
+          let found = told_by (Ask.Get object row cell) is in
+          subst (λ grids. GoesFurther job m (answered (after_ask m) (cell_of (value_at grids object) row cell)) []) same_values
+          (quietly job m b (answered (after_ask m) (cell_of (value_at state.values object) row cell)) [] here from found.0 found.1 found.2);
+      checkpoint = λ cell is.
+          let found = told_by Ask.Checkpoint is in
+          quietly job m b (answered (after_ask m) cell) [] here from found.0 found.1 (found.2 cell);
+      output = λ var is.
+          let text = output_of job.vars (state_at job m).values var in
+          let found = prints_at job m b var text here from (ap (λ grids. output_of job.vars grids var) (sym same_values)) (told_by (Ask.Output var) is) in
+          record { goes = found.0; full = found.1 };
+      finished = λ is. finishes job m b here from is;
+      limit = λ is. stops job b here is;
+    }

@@ -1,8 +1,15 @@
 pub mod Asks
+pub mod Depths
+pub mod Division
 pub mod FewTasks
 pub mod Follows
 pub mod Lists
+pub mod Paths
 pub mod Scans
+pub mod Settles
+pub mod Sound
+pub mod Spans
+pub mod Steps
 pub mod TaskLeaves
 pub mod Versions
 pub mod Whole

@@ -5,7 +5,7 @@ use Rattle.std.specs.List.{flat_map, list_all, list_any, range_with_len}
 use Rattle.std.specs.Option.{option_to_list}
 use Rattle.std.proofs.Common.{arith}
 use Rattle.std.proofs.lemmas.Bool.{and_parts, and_from, both_ways, false_from_ne_true}
-use Rattle.std.proofs.lemmas.List.{append-nil, append_assoc, map_push, take_more}
+use Rattle.std.proofs.lemmas.List.{append-nil, append_assoc, take_more}
 use Rattle.std.proofs.lemmas.List.Concat.{flat_map-append}
 use Rattle.std.proofs.lemmas.List.FromFn.{length-range_with_len, get_or-range_with_len, map-range_with_len_more}
 use Rattle.std.proofs.lemmas.List.Folds.{list_all-append, list_any_at}
@@ -75,16 +75,8 @@ all_not p n k within fails =
     both_ways (p k) fails passes))
 
 -- one more item of a function of the numbers from 0 is pushed
-pub pushed : {A : Type 0} (f : ℕ → A) (old now next : List A) (item : A) (turn : ℕ) → next ≡ now ++ item ∷ [] → now ≡ old ++ map f (range_with_len 0 turn)
-    → item ≡ f turn → next ≡ old ++ map f (range_with_len 0 (turn + 1))
-pushed {A} f old now next item turn push before is =
-    push ∙ ap₂ (λ (xs : List A) (x : A). xs ++ x ∷ []) before is ∙ append_assoc old (map f (range_with_len 0 turn)) (f turn ∷ [])
-    ∙ ap (λ (xs : List A). old ++ xs) (sym (map-range_with_len_more f 0 turn turn (omega arith)))
-
--- the same, of a function of these
-pub pushed_again : {A B : Type 0} (g : A → B) (f : ℕ → A) (old now next : List B) (item : B) (turn : ℕ) → next ≡ now ++ item ∷ []
-    → now ≡ old ++ map g (map f (range_with_len 0 turn)) → item ≡ g (f turn) → next ≡ old ++ map g (map f (range_with_len 0 (turn + 1)))
-pushed_again {A} {B} g f old now next item turn push before is =
-    push ∙ ap₂ (λ (xs : List B) (x : B). xs ++ x ∷ []) before is ∙ append_assoc old (map g (map f (range_with_len 0 turn))) (g (f turn) ∷ [])
-    ∙ ap (λ (xs : List B). old ++ xs)
-    (sym (ap (map g) (map-range_with_len_more f 0 turn turn (omega arith)) ∙ map_push g (map f (range_with_len 0 turn)) (f turn)))
+pub pushed : {A : Type 0} (f : ℕ → A) (old now next : List A) (item : A) (index : ℕ) → next ≡ now ++ item ∷ [] → now ≡ old ++ map f (range_with_len 0 index)
+    → item ≡ f index → next ≡ old ++ map f (range_with_len 0 (index + 1))
+pushed {A} f old now next item index push before is =
+    push ∙ ap₂ (λ (xs : List A) (x : A). xs ++ x ∷ []) before is ∙ append_assoc old (map f (range_with_len 0 index)) (f index ∷ [])
+    ∙ ap (λ (xs : List A). old ++ xs) (sym (map-range_with_len_more f 0 index index (omega arith)))

@@ -1,7 +1,7 @@
 -- The law of versions: what a task reads is what the last task before it that writes the object left, and the
 -- steps keep what the first tasks leave.
-use Rattle.std.proofs.Common.{◌≡◌, ℕ, ◌+◌, ◌-◌, ◌≤◌, zero, suc, false, List, [], ◌∷◌, ◌++◌, length, take, map, refl, ap, sym, ◌∙◌, arith, Option, None, Some}
-use Rattle.std.specs.Prelude.{slice_get, slice_set, ◌==◌}
+use Rattle.std.proofs.Common.{◌≡◌, ℕ, ◌+◌, ◌-◌, ◌≤◌, zero, suc, Bool, true, false, List, [], ◌∷◌, ◌++◌, length, take, map, refl, ap, sym, ◌∙◌, arith, Option, None, Some}
+use Rattle.std.specs.Prelude.{slice_get, slice_set, ◌==◌, if◌then◌else◌}
 use Rattle.std.specs.List.{list_any}
 use Rattle.std.specs.Option.{option_map_or, option_to_list}
 use Rattle.std.proofs.lemmas.Bool.{or_parts, eqb-false, cond_both}
@@ -12,13 +12,10 @@ use Rattle.nim_base.specs.declared.task.Task.{Task}
 use Rattle.nim_base.specs.Value.{Grid, empty_grid}
 use Rattle.nim_base.specs.Apply.{apply_of}
 use Rattle.nim_job.specs.declared.item.Item.{Item}
-use Rattle.nim_job.specs.declared.item.Item.TheVariants.{Run, Again}
 use Rattle.nim_job.specs.declared.job.Job.{Job}
-use Rattle.nim_job.specs.declared.stmt.Stmt.{Stmt, out-Stmt}
-use Rattle.nim_job.specs.declared.stmt.Stmt.TheOpen.{Stmt-F}
 use Rattle.nim_job.specs.Objects.{initial_values, shapes_of, shape_at, value_at}
 use Rattle.nim_job.specs.Serial.{driver_at, tasks_before, tasks_of}
-use Rattle.nim_job.specs.Step.{State, written, after_task, after_tasks, stmt_tasks, item_tasks, tasks_next, stmt_step, item_step, step}
+use Rattle.nim_job.specs.Step.{State, written, after_task, after_tasks, is_over, items_step, items_tasks, step, tasks_next}
 use Rattle.nim_job.specs.Versions.{is_written, version_before, ReadsVersions, KeepsVersions}
 use Rattle.nim_job.proofs.Lists.{take_next}
 
@@ -74,17 +71,16 @@ reads_versions job = λ k object. content_read (shapes_of job.vars) (initial_val
 abbrev Moves : Job → State → State → List Task → Type 0
 Moves job state next tasks = (next.values ≡ after_tasks (shapes_of job.vars) state.values tasks) × (next.position ≡ state.position + length tasks)
 
-stmt_moves : (job : Job) (state : State) (rest : List Item) (stmt : Stmt-F Stmt) → Moves job state (stmt_step job state rest stmt) (stmt_tasks job state stmt)
-stmt_moves job state rest (Stmt-F.Output var) = (refl, omega arith)
-stmt_moves job state rest stmt = (refl, refl)
+items_move : (job : Job) (state : State) (items : List Item) → Moves job state (items_step job state items) (items_tasks job state items)
+items_move job state [] = (refl, omega arith)
+items_move job state (item ∷ rest) = (refl, refl)
 
-item_moves : (job : Job) (state : State) (items : List Item) → Moves job state (item_step job state items) (item_tasks job state items)
-item_moves job state [] = (refl, omega arith)
-item_moves job state (Run stmt ∷ rest) = stmt_moves job state rest (out-Stmt stmt)
-item_moves job state (Again turns body ∷ rest) = (refl, omega arith)
+moves_unless : (job : Job) (state : State) (b : Bool) → Moves job state (if b then state else items_step job state state.driver.todo) (if b then [] else items_tasks job state state.driver.todo)
+moves_unless job state true = (refl, omega arith)
+moves_unless job state false = items_move job state state.driver.todo
 
 pub step_moves : (job : Job) (state : State) → Moves job state (step job state) (tasks_next job state)
-step_moves job state = item_moves job state state.driver.todo
+step_moves job state = moves_unless job state (is_over state)
 
 -- the values and the position after so many steps are those that the tasks of these steps leave
 pub moved : (job : Job) (n : ℕ) → ((driver_at job n).values ≡ after_tasks (shapes_of job.vars) (initial_values job.vars) (tasks_before job n))

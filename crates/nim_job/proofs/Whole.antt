@@ -21,8 +21,8 @@ use Rattle.nim_job.specs.declared.block.Block.{Block}
 use Rattle.nim_job.specs.declared.job.Var.{Var}
 use Rattle.nim_job.specs.declared.job.Job.{Job}
 use Rattle.nim_job.specs.Objects.{parts_of, objects_of, first_object, shapes_of}
-use Rattle.nim_job.specs.Tasks.{part_of, object_of, form_of, turns_of, stage_forms, stages_of, task_of, block_forms_of, block_tasks_of}
-use Rattle.nim_job.specs.Whole.{is_var, are_vars, is_filled, is_place, is_ref, has_refs, are_distinct, has_distinct, is_stage, is_block, is_checked, is_whole, is_object, is_task, is_plain_init, is_plain_stmt, is_plain}
+use Rattle.nim_job.specs.Tasks.{part_of, object_meant, form_of, task_count, stage_forms, stages_of, task_of, block_forms_of, block_tasks_of}
+use Rattle.nim_job.specs.Whole.{is_var, are_vars, is_filled, is_place, is_ref, has_refs, are_distinct, has_distinct, is_stage, is_block, is_checked, is_whole, is_object, is_task}
 use Rattle.nim_job.proofs.Lists.{list_all_weaker, list_all-flat_map}
 
 pub whole_checked : (job : Job) → is_whole job ≡ true → is_checked job ≡ true
@@ -39,19 +39,6 @@ whole_vars job whole = (checked_parts job (whole_checked job whole)).0
 
 pub whole_blocks : (job : Job) → is_whole job ≡ true → list_all (is_block job.vars) job.blocks ≡ true
 whole_blocks job whole = (checked_parts job (whole_checked job whole)).1
-
-plain_parts : (job : Job) → is_plain job ≡ true → (is_whole job ≡ true) × (list_all (λ v. is_plain_init v.init) job.vars ≡ true) × (list_all (is_plain_stmt job) job.body ≡ true)
-plain_parts job plain = grind (arith, nat_tests)
-
--- a plain job is whole
-pub plain_whole : (job : Job) → is_plain job ≡ true → is_whole job ≡ true
-plain_whole job plain = (plain_parts job plain).0
-
-pub plain_inits : (job : Job) → is_plain job ≡ true → list_all (λ v. is_plain_init v.init) job.vars ≡ true
-plain_inits job plain = (plain_parts job plain).1
-
-pub plain_body : (job : Job) → is_plain job ≡ true → list_all (is_plain_stmt job) job.body ≡ true
-plain_body job plain = (plain_parts job plain).2
 
 pub var_sizes : (v : Var) → is_var v ≡ true → (1 ≤ v.parts) × (v.parts ≤ 64) × (1 ≤ v.shape.width)
 var_sizes v is = grind (arith, nat_tests)
@@ -154,24 +141,24 @@ ref_fits vars ref are is =
     let there = parts_there vars ref.var sizes.1 (ref_there vars ref is) in
     (there.0, there.1, omega (arith, there.2, sizes.0))
 
-object_there : (vars : List Var) (i : ℕ) (ref : Ref) → list_all is_var vars ≡ true → is_ref vars true ref ≡ true → is_object (objects_of vars) (object_of vars i ref) ≡ true
+object_there : (vars : List Var) (i : ℕ) (ref : Ref) → list_all is_var vars ≡ true → is_ref vars true ref ≡ true → is_object (objects_of vars) (object_meant vars i ref) ≡ true
 object_there vars i ref all is =
     let parts = parts_there vars ref.var all (ref_there vars ref is) in
     let below = part_below ref.place i (parts_of vars ref.var) parts.0 in
     lt-ltb (first_object vars ref.var + part_of ref.place i (parts_of vars ref.var)) (objects_of vars) (omega (arith, parts.2, below))
 
-objects_there : (vars : List Var) (i : ℕ) (refs : List Ref) → list_all is_var vars ≡ true → list_all (is_ref vars true) refs ≡ true → list_all (is_object (objects_of vars)) (map (object_of vars i) refs) ≡ true
+objects_there : (vars : List Var) (i : ℕ) (refs : List Ref) → list_all is_var vars ≡ true → list_all (is_ref vars true) refs ≡ true → list_all (is_object (objects_of vars)) (map (object_meant vars i) refs) ≡ true
 objects_there vars i refs all are =
-    list_all-map (is_object (objects_of vars)) (object_of vars i) refs
-    ∙ list_all_weaker (is_ref vars true) (λ ref. is_object (objects_of vars) (object_of vars i ref)) (λ ref is. object_there vars i ref all is) refs are
+    list_all-map (is_object (objects_of vars)) (object_meant vars i) refs
+    ∙ list_all_weaker (is_ref vars true) (λ ref. is_object (objects_of vars) (object_meant vars i ref)) (λ ref is. object_there vars i ref all is) refs are
 
-task_there : (vars : List Var) (args : List ℤ) (stage : Stage) (i : ℕ) → list_all is_var vars ≡ true → HasShape vars stage → are_distinct (map (object_of vars i) stage.writes) ≡ true
+task_there : (vars : List Var) (args : List ℤ) (stage : Stage) (i : ℕ) → list_all is_var vars ≡ true → HasShape vars stage → are_distinct (map (object_meant vars i) stage.writes) ≡ true
     → is_task (objects_of vars) (task_of args (form_of vars stage i)) ≡ true
 task_there vars args stage i all shape distinct =
     let counts = has_counts stage.func (length stage.params) (length stage.reads) (length stage.writes) in
-    let reads = list_all (is_object (objects_of vars)) (map (object_of vars i) stage.reads) in
-    let writes = list_all (is_object (objects_of vars)) (map (object_of vars i) stage.writes) in
-    simp length-map (and_from (counts && reads && writes) (are_distinct (map (object_of vars i) stage.writes))
+    let reads = list_all (is_object (objects_of vars)) (map (object_meant vars i) stage.reads) in
+    let writes = list_all (is_object (objects_of vars)) (map (object_meant vars i) stage.writes) in
+    simp length-map (and_from (counts && reads && writes) (are_distinct (map (object_meant vars i) stage.writes))
     (and_from (counts && reads) writes (and_from counts reads shape.counts (objects_there vars i stage.reads all shape.reads)) (objects_there vars i stage.writes all shape.writes)) distinct)
 
 -- what a `do` runs fits the job: counts and objects
@@ -181,9 +168,9 @@ tasks_there job block args whole =
     let test = λ (form : TaskForm). is_task (objects_of job.vars) (task_of args form) in
     list_all-map (is_task (objects_of job.vars)) (task_of args) (block_forms_of job block)
     ∙ list_all-flat_map test (stage_forms job.vars) (has_shape job.vars)
-    (λ stage is. list_all-map test (form_of job.vars stage) (range_with_len 0 (turns_of job.vars stage))
-    ∙ list_all_weaker (λ i. are_distinct (map (object_of job.vars i) stage.writes)) (λ i. test (form_of job.vars stage i))
-    (λ i. task_there job.vars args stage i all (shape_parts job.vars stage is)) (range_with_len 0 (turns_of job.vars stage)) (shape_parts job.vars stage is).distinct)
+    (λ stage is. list_all-map test (form_of job.vars stage) (range_with_len 0 (task_count job.vars stage))
+    ∙ list_all_weaker (λ i. are_distinct (map (object_meant job.vars i) stage.writes)) (λ i. test (form_of job.vars stage i))
+    (λ i. task_there job.vars args stage i all (shape_parts job.vars stage is)) (range_with_len 0 (task_count job.vars stage)) (shape_parts job.vars stage is).distinct)
     (stages_of job block) (stages_at job.vars job.blocks block (whole_blocks job whole))
 
 -- as many shapes as objects
@@ -206,13 +193,13 @@ first_few vars (ref ∷ refs) all are =
     (parts_there vars ref.var all (ref_there vars ref (and_parts (is_ref vars true ref) (list_all (is_ref vars true) refs) are).0)).1
 
 -- a stage has at most as many tasks as a variable has parts
-pub writes_few : (vars : List Var) (stage : Stage) → are_vars vars ≡ true → list_all (is_ref vars true) stage.writes ≡ true → turns_of vars stage ≤ 64
+pub writes_few : (vars : List Var) (stage : Stage) → are_vars vars ≡ true → list_all (is_ref vars true) stage.writes ≡ true → task_count vars stage ≤ 64
 writes_few vars stage are writes =
-    cond_both stage.each (option_map_or (λ (ref : Ref). parts_of vars ref.var) (slice_get stage.writes 0) 0) 1 (λ turns. turns ≤ 64)
+    cond_both stage.each (option_map_or (λ (ref : Ref). parts_of vars ref.var) (slice_get stage.writes 0) 0) 1 (λ count. count ≤ 64)
     (λ each. first_few vars stage.writes (vars_sizes vars are).1 writes) (λ once. omega arith)
 
-pub turns_few : (vars : List Var) (stage : Stage) → are_vars vars ≡ true → has_refs vars stage ≡ true → turns_of vars stage ≤ 64
-turns_few vars stage are is = writes_few vars stage are (and_parts (list_all (is_ref vars true) stage.reads) (list_all (is_ref vars true) stage.writes) is).1
+pub tasks_few : (vars : List Var) (stage : Stage) → are_vars vars ≡ true → has_refs vars stage ≡ true → task_count vars stage ≤ 64
+tasks_few vars stage are is = writes_few vars stage are (and_parts (list_all (is_ref vars true) stage.reads) (list_all (is_ref vars true) stage.writes) is).1
 
 -- what the table of first objects needs at one more variable
 pub objects_more : (vars : List Var) (i : ℕ) (v : Var) → i < length vars → v ≡ get_or vars i v → objects_of (take (i + 1) vars) ≡ objects_of (take i vars) + v.parts

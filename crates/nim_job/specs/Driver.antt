@@ -1,10 +1,15 @@
 -- Where a driver stands, apart from what the objects hold.
-use Rattle.std.specs.Prelude.{ℕ, ◌+◌, ℤ, pos, List, [], map, slice_index_or}
+use Rattle.std.specs.Prelude.{ℕ, Bool, ℤ, pos, Option, None, Some, List, [], map, replicate, slice_index_or}
+use Rattle.std.specs.Option.{option_map_or}
 use Rattle.nim_job.specs.declared.item.Item.{Item}
 use Rattle.nim_job.specs.declared.item.Item.TheVariants.{Run}
 use Rattle.nim_job.specs.declared.job.Job.{Job}
+use Rattle.nim_job.specs.declared.stmt.Arith.{Arith}
 use Rattle.nim_job.specs.declared.stmt.Atom.{Atom}
 use Rattle.nim_job.specs.declared.stmt.Atom.TheVariants.{Const, Scalar}
+use Rattle.nim_job.specs.declared.stmt.Cond.{Cond}
+use Rattle.nim_job.specs.Arith.{arith_of, compared}
+use Rattle.nim_job.specs.Whole.{scalars_of}
 
 -- the items still to do, the scalars, how many statements were counted, and the output so far
 pub record Driver : Type 0 where
@@ -13,19 +18,28 @@ pub record Driver : Type 0 where
   pub count : ℕ
   pub output : List ℕ
 
--- at the start the whole body is to do
+-- how many scalars a job has
+abbrev pub scalar_count : Job → ℕ
+scalar_count job = option_map_or (λ count. count) (scalars_of job) 0
+
+-- at the start the whole body is to do, and each scalar is 0
 abbrev pub start_driver : Job → Driver
-start_driver job = record { todo = map Run job.body; scalars = []; count = 0; output = [] }
+start_driver job = record { todo = map Run job.body; scalars = replicate (scalar_count job) (pos 0); count = 0; output = [] }
 
 -- the most bytes that a run may print
 abbrev pub output_limit : ℕ
 output_limit = 16777216
 
--- what an atom stands for; a scalar is 0 until it is set
+-- what an atom stands for
 abbrev pub atom_of : List ℤ → Atom → ℤ
 atom_of scalars (Const number) = number
 atom_of scalars (Scalar s) = slice_index_or scalars s (pos 0)
 
--- one more statement is counted, and this is left to do
-abbrev pub passed : Driver → List Item → Driver
-passed driver rest = record driver { todo = rest; count = driver.count + 1 }
+-- what a `let` sets its scalar to
+abbrev pub let_value : List ℤ → Atom → Option (Arith × Atom) → ℤ
+let_value scalars first None = atom_of scalars first
+let_value scalars first (Some rest) = arith_of rest.0 (atom_of scalars first) (atom_of scalars rest.1)
+
+-- whether a condition holds
+abbrev pub is_met : List ℤ → Cond → Bool
+is_met scalars cond = compared cond.cmp (atom_of scalars cond.left) (atom_of scalars cond.right)

@@ -1,36 +1,75 @@
--- How the machine follows the steps of a job, from any state at which it stands and has asked nothing yet.
-use Rattle.std.specs.Prelude.{◌≡◌, ℕ, ◌+◌, ◌<◌, ◌≤◌, ℤ, List, [], length, IsTrue}
+-- How a machine follows the steps of a job, from any state at which it stands and has asked nothing yet.
+use Rattle.std.specs.Prelude.{◌≡◌, ℕ, ◌+◌, ◌<◌, ◌≤◌, ℤ, List, [], length}
+use Rattle.nim_base.specs.declared.number.Object.{Object}
+use Rattle.nim_base.specs.declared.task.Task.{Task}
+use Rattle.nim_base.specs.Value.{cell_of}
 use Rattle.nim_job.specs.declared.ask.Ask.{Ask}
 use Rattle.nim_job.specs.declared.job.Job.{Job}
 use Rattle.nim_job.specs.Driver.{output_limit}
-use Rattle.nim_job.specs.Machine.{after_ask, answered, appended, ask_of, machine_at, takes_cell}
+use Rattle.nim_job.specs.Machine.{Machine, IsWithin, after_ask, answered, appended, ask_of, before_ask, machine_at}
+use Rattle.nim_job.specs.Objects.{objects_of, shapes_of, value_at}
 use Rattle.nim_job.specs.Serial.{driver_at, serial_of}
-use Rattle.nim_job.specs.Step.{State, output_of, step, tasks_next}
-use Rattle.nim_job.specs.Tasks.{block_tasks_of}
+use Rattle.nim_job.specs.Step.{State, after_tasks, output_of, tasks_next}
+use Rattle.nim_job.specs.Tasks.{block_tasks_of, takes_of}
 
--- a block that is asked for is the one whose tasks the next step runs
-abbrev pub AsksTasks : Job → Type 0
-AsksTasks job = (state : State) (block : ℕ) (args : List ℤ) → ask_of (machine_at job state) ≡ Ask.Run block args
-    → tasks_next job state ≡ block_tasks_of job block args
+-- the state of a job after as many steps as a machine has counted
+abbrev pub state_at : Job → Machine → State
+state_at job m = driver_at job m.driver.count
 
--- once an ask that isn't an output is answered, the machine stands at the next state
-abbrev pub AnswersFollow : Job → Type 0
-AnswersFollow job = (state : State) → IsTrue (takes_cell (after_ask (machine_at job state)).asked)
-    → answered (after_ask (machine_at job state)) ≡ machine_at job (step job state)
+-- The machine has asked nothing yet, and stands at the state of the job after as many steps as it has counted.
+pub record StandsAt (job : Job) (m : Machine) : Type 0 where
+  pub machine : m ≡ machine_at job (state_at job m)
+  pub within : IsWithin m
 
--- once an output is answered by the variable's texts, within the limit, the machine stands at the next state
-abbrev pub OutputsFollow : Job → Type 0
-OutputsFollow job = (state : State) (var : ℕ) → ask_of (machine_at job state) ≡ Ask.Output var
-    → length state.driver.output + length (output_of job.vars state.values var) ≤ output_limit
-    → appended (after_ask (machine_at job state)) (output_of job.vars state.values var) ≡ machine_at job (step job state)
+-- From one machine to a later one that stands at a state too, these tasks are run.
+pub record GoesOn (job : Job) (m next : Machine) (tasks : List Task) : Type 0 where
+  pub stands : StandsAt job next
+  pub values : (state_at job next).values ≡ after_tasks (shapes_of job.vars) (state_at job m).values tasks
+  pub position : (state_at job next).position ≡ (state_at job m).position + length tasks
 
--- where the machine says after n steps that it is finished, the job ends well with what is printed so far
-abbrev pub EndsFinished : Job → Type 0
-EndsFinished job = (n : ℕ) → n ≤ job.steps → length (driver_at job n).driver.output ≤ output_limit
-    → ask_of (machine_at job (driver_at job n)) ≡ Ask.Finished → serial_of job ≡ record { status = 0; bytes = (driver_at job n).driver.output }
+-- the same, and statements were counted
+pub record GoesFurther (job : Job) (m next : Machine) (tasks : List Task) : Type 0 where
+  pub goes : GoesOn job m next tasks
+  pub counted : m.driver.count < next.driver.count
 
--- where it says after n steps that the limit is reached, or an output of the first n steps passes what may be
--- printed, the job ends at a limit
-pub record EndsAtLimit (job : Job) : Type 0 where
-  pub counted : (n : ℕ) → ask_of (machine_at job (driver_at job n)) ≡ Ask.Limit → serial_of job ≡ record { status = 4; bytes = [] }
-  pub printed : (n : ℕ) → n ≤ job.steps → output_limit < length (driver_at job n).driver.output → serial_of job ≡ record { status = 4; bytes = [] }
+-- what is asked is there, and a block is given as many arguments as it takes
+abbrev pub IsThere : Job → Ask → Type 0
+IsThere job (Ask.Run block args) = (block < length job.blocks) × (length args ≡ takes_of job block)
+IsThere job (Ask.Get object row cell) = object.0 < objects_of job.vars
+IsThere job (Ask.Output var) = var < length job.vars
+IsThere job _ = Unit {0}
+
+-- Before it asks, a machine takes statements that ask nothing. It stands at a later state then, and no task was run. What
+-- it asks is there.
+pub record Asks (job : Job) (m : Machine) : Type 0 where
+  pub before : GoesOn job m (before_ask m) []
+  pub printed : (before_ask m).driver.output ≡ m.driver.output
+  pub there : IsThere job (ask_of m)
+
+-- A block that is asked for is the one whose tasks the next step runs, and the job's tasks at this position are these.
+-- Once it is answered the machine goes on.
+pub record Runs (job : Job) (m : Machine) (block : ℕ) (args : List ℤ) : Type 0 where
+  pub within : (before_ask m).driver.count < job.steps
+  pub tasks : tasks_next job (state_at job (before_ask m)) ≡ block_tasks_of job block args
+  pub goes : (cell : ℤ) → GoesFurther job m (answered (after_ask m) cell) (block_tasks_of job block args)
+
+-- An output that is answered by what the variable's parts hold goes on within the limit, and past it the job ends at a
+-- limit.
+pub record Prints (job : Job) (m : Machine) (var : ℕ) (text : List ℕ) : Type 0 where
+  pub goes : length m.driver.output + length text ≤ output_limit → GoesFurther job m (appended (after_ask m) text) []
+  pub full : output_limit < length m.driver.output + length text → serial_of job ≡ record { status = 4; bytes = [] }
+
+-- what follows each ask of a machine that stands at a state of the job
+pub record Follows (job : Job) (m : Machine) : Type 0 where
+  pub asks : Asks job m
+  pub run : (block : ℕ) (args : List ℤ) → ask_of m ≡ Ask.Run block args → Runs job m block args
+  pub get : (object : Object) (row cell : ℕ) → ask_of m ≡ Ask.Get object row cell
+      → GoesFurther job m (answered (after_ask m) (cell_of (value_at (state_at job m).values object) row cell)) []
+  pub checkpoint : (cell : ℤ) → ask_of m ≡ Ask.Checkpoint → GoesFurther job m (answered (after_ask m) cell) []
+  pub output : (var : ℕ) → ask_of m ≡ Ask.Output var → Prints job m var (output_of job.vars (state_at job m).values var)
+  pub finished : ask_of m ≡ Ask.Finished → serial_of job ≡ record { status = 0; bytes = m.driver.output }
+  pub limit : ask_of m ≡ Ask.Limit → serial_of job ≡ record { status = 4; bytes = [] }
+
+-- a machine that stands at a state of the job follows the job's steps
+abbrev pub EachFollows : Job → Type 0
+EachFollows job = (m : Machine) → StandsAt job m → Follows job m

@@ -1,7 +1,11 @@
+pub mod Arith
 pub mod Driver
 pub mod Follows
+pub mod Levels
 pub mod Machine
 pub mod Objects
+pub mod Quiet
+pub mod Saved
 pub mod Serial
 pub mod Step
 pub mod Tasks

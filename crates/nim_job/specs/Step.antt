@@ -1,21 +1,23 @@
 -- One step of a driver whose tasks run one by one: the first item is taken, counted and done.
-use Rattle.std.specs.Prelude.{ℕ, ◌+◌, List, [], ◌∷◌, ◌++◌, length, map, slice_get, slice_set}
+use Rattle.std.specs.Prelude.{ℕ, ◌+◌, Bool, nat_lt, if◌then◌else◌, List, [], ◌∷◌, ◌++◌, length, map, slice_get, slice_set}
 use Rattle.std.specs.Option.{option_map_or}
 use Rattle.nim_base.specs.declared.number.Object.{Object}
 use Rattle.nim_base.specs.declared.number.Shape.{Shape}
 use Rattle.nim_base.specs.declared.task.Task.{Task}
-use Rattle.nim_base.specs.Value.{Grid}
+use Rattle.nim_base.specs.Value.{Grid, cell_of}
 use Rattle.nim_base.specs.Text.{text_of}
 use Rattle.nim_base.specs.Apply.{apply_of}
+use Rattle.nim_job.specs.declared.block.Place.TheVariants.{Fixed}
 use Rattle.nim_job.specs.declared.item.Item.{Item}
-use Rattle.nim_job.specs.declared.item.Item.TheVariants.{Run, Again}
+use Rattle.nim_job.specs.declared.item.Item.TheVariants.{Run}
 use Rattle.nim_job.specs.declared.job.Job.{Job}
 use Rattle.nim_job.specs.declared.job.Var.{Var}
 use Rattle.nim_job.specs.declared.stmt.Stmt.{Stmt, out-Stmt}
 use Rattle.nim_job.specs.declared.stmt.Stmt.TheOpen.{Stmt-F}
-use Rattle.nim_job.specs.Driver.{Driver, start_driver, atom_of, passed}
+use Rattle.nim_job.specs.Driver.{Driver, atom_of, output_limit, start_driver}
 use Rattle.nim_job.specs.Objects.{initial_values, value_at, shape_at, shapes_of, parts_at}
-use Rattle.nim_job.specs.Tasks.{block_tasks_of}
+use Rattle.nim_job.specs.Quiet.{quiet_step}
+use Rattle.nim_job.specs.Tasks.{block_tasks_of, object_meant}
 
 -- the driver, what the objects hold, and how many tasks ran
 pub record State : Type 0 where
@@ -56,32 +58,42 @@ stmt_tasks job state (Stmt-F.Do block args) = block_tasks_of job block (map (ato
 stmt_tasks job state _ = []
 
 -- the tasks that the first of these items runs
-abbrev pub item_tasks : Job → State → List Item → List Task
-item_tasks job state (Run stmt ∷ rest) = stmt_tasks job state (out-Stmt stmt)
-item_tasks job state _ = []
+abbrev pub items_tasks : Job → State → List Item → List Task
+items_tasks job state (Run stmt ∷ rest) = stmt_tasks job state (out-Stmt stmt)
+items_tasks job state _ = []
 
--- the tasks that the next step runs
+-- whether more was printed than may be
+abbrev pub is_over : State → Bool
+is_over state = nat_lt output_limit (length state.driver.output)
+
+-- the tasks that the next step runs; where too much was printed there is none
 abbrev pub tasks_next : Job → State → List Task
-tasks_next job state = item_tasks job state state.driver.todo
+tasks_next job state = if is_over state then [] else items_tasks job state state.driver.todo
 
--- one step of a statement; what is left to do behind it is given
-abbrev pub stmt_step : Job → State → List Item → Stmt-F Stmt → State
-stmt_step job state rest (Stmt-F.Output var) = record state {
-  driver = record (passed state.driver rest) { output = state.driver.output ++ output_of job.vars state.values var };
+-- the object of a variable's part, the part taken modulo the variable's parts
+abbrev pub object_of_part : List Var → ℕ → ℕ → Object
+object_of_part vars var part = object_meant vars 0 (record { var = var; place = Fixed part })
+
+-- what a statement that asks is told: a `get` its cell, 0 where there is none, and an `output` what it prints
+abbrev pub stmt_told : Job → State → Stmt-F Stmt → Driver → Driver
+stmt_told job state (Stmt-F.Get s var part row cell) driver =
+    record driver { scalars = slice_set driver.scalars s (cell_of (value_at state.values (object_of_part job.vars var part)) row cell) }
+stmt_told job state (Stmt-F.Output var) driver = record driver { output = driver.output ++ output_of job.vars state.values var }
+stmt_told job state _ driver = driver
+
+abbrev pub items_told : Job → State → List Item → Driver → Driver
+items_told job state (Run stmt ∷ rest) driver = stmt_told job state (out-Stmt stmt) driver
+items_told job state _ driver = driver
+
+-- one step of the first of these items; where nothing is left the state stays
+abbrev pub items_step : Job → State → List Item → State
+items_step job state [] = state
+items_step job state items = record {
+  driver = items_told job state items (quiet_step state.driver);
+  values = after_tasks (shapes_of job.vars) state.values (items_tasks job state items);
+  position = state.position + length (items_tasks job state items);
 }
-stmt_step job state rest stmt = record {
-  driver = passed state.driver rest;
-  values = after_tasks (shapes_of job.vars) state.values (stmt_tasks job state stmt);
-  position = state.position + length (stmt_tasks job state stmt);
-}
 
--- one step of the first of these items; where nothing is left the state stays. Statements other than `do` and
--- `output`, and further turns of a loop, have no equation yet.
-abbrev pub item_step : Job → State → List Item → State
-item_step job state [] = state
-item_step job state (Run stmt ∷ rest) = stmt_step job state rest (out-Stmt stmt)
-item_step job state (Again turns body ∷ rest) = record state { driver = passed state.driver rest }
-
--- one step
+-- one step; where too much was printed the state stays
 abbrev pub step : Job → State → State
-step job state = item_step job state state.driver.todo
+step job state = if is_over state then state else items_step job state state.driver.todo

@@ -22,25 +22,25 @@ part_of (Plus n) i parts = (i + n) % parts
 part_of (Minus n) i parts = (i + (parts - n % parts)) % parts
 
 -- the object that a reference means at task i of its stage
-abbrev pub object_of : List Var → ℕ → Ref → Object
-object_of vars i ref = record { 0 = first_object vars ref.var + part_of ref.place i (parts_of vars ref.var) }
+abbrev pub object_meant : List Var → ℕ → Ref → Object
+object_meant vars i ref = record { 0 = first_object vars ref.var + part_of ref.place i (parts_of vars ref.var) }
 
 -- task i of a stage, its arguments not yet put in
 abbrev pub form_of : List Var → Stage → ℕ → TaskForm
 form_of vars stage i = record {
   func = stage.func;
   params = stage.params;
-  reads = map (object_of vars i) stage.reads;
-  writes = map (object_of vars i) stage.writes;
+  reads = map (object_meant vars i) stage.reads;
+  writes = map (object_meant vars i) stage.writes;
 }
 
 -- one task for each part of the first variable that is written, or one task
-abbrev pub turns_of : List Var → Stage → ℕ
-turns_of vars stage = if stage.each then option_map_or (λ ref. parts_of vars ref.var) (slice_get stage.writes 0) 0 else 1
+abbrev pub task_count : List Var → Stage → ℕ
+task_count vars stage = if stage.each then option_map_or (λ ref. parts_of vars ref.var) (slice_get stage.writes 0) 0 else 1
 
 -- the tasks of a stage, in order
 abbrev pub stage_forms : List Var → Stage → List TaskForm
-stage_forms vars stage = map (form_of vars stage) (range_with_len 0 (turns_of vars stage))
+stage_forms vars stage = map (form_of vars stage) (range_with_len 0 (task_count vars stage))
 
 -- the tasks of a block, in order
 abbrev pub forms_of : List Var → List Stage → List TaskForm

@@ -15,17 +15,17 @@ use Rattle.nim_job.specs.declared.block.Ref.{Ref}
 use Rattle.nim_job.specs.declared.block.Stage.{Stage}
 use Rattle.nim_job.specs.declared.block.Block.{Block}
 use Rattle.nim_job.specs.declared.job.Init.{Init}
-use Rattle.nim_job.specs.declared.job.Init.TheVariants.{Fill, Loaded}
+use Rattle.nim_job.specs.declared.job.Init.TheVariants.{Loaded}
 use Rattle.nim_job.specs.declared.job.Var.{Var}
 use Rattle.nim_job.specs.declared.job.Job.{Job}
 use Rattle.nim_job.specs.declared.stmt.Arith.{Arith}
 use Rattle.nim_job.specs.declared.stmt.Atom.{Atom}
 use Rattle.nim_job.specs.declared.stmt.Atom.TheVariants as atom
 use Rattle.nim_job.specs.declared.stmt.Cond.{Cond}
-use Rattle.nim_job.specs.declared.stmt.Stmt.{Stmt, out-Stmt, fold-Stmt}
+use Rattle.nim_job.specs.declared.stmt.Stmt.{Stmt, fold-Stmt}
 use Rattle.nim_job.specs.declared.stmt.Stmt.TheOpen.{Stmt-F}
 use Rattle.nim_job.specs.Objects.{objects_of}
-use Rattle.nim_job.specs.Tasks.{object_of, turns_of}
+use Rattle.nim_job.specs.Tasks.{object_meant, task_count}
 
 abbrev pub is_between : ℕ → ℕ → ℕ → Bool
 is_between low high n = nat_le low n && nat_le n high
@@ -84,7 +84,7 @@ are_distinct (object ∷ objects) = not (list_any (λ (o : Object). o.0 == objec
 
 -- no task of a stage writes an object twice
 abbrev pub has_distinct : List Var → Stage → Bool
-has_distinct vars stage = list_all (λ i. are_distinct (map (object_of vars i) stage.writes)) (range_with_len 0 (turns_of vars stage))
+has_distinct vars stage = list_all (λ i. are_distinct (map (object_meant vars i) stage.writes)) (range_with_len 0 (task_count vars stage))
 
 abbrev pub is_stage : List Var → ℕ → Stage → Bool
 is_stage vars args stage = has_counts stage.func (length stage.params) (length stage.reads) (length stage.writes)
@@ -93,7 +93,7 @@ is_stage vars args stage = has_counts stage.func (length stage.params) (length s
 
 -- at most 8 arguments and 1,024 tasks
 abbrev pub is_block : List Var → Block → Bool
-is_block vars block = nat_le block.args 8 && nat_le (sum_by (turns_of vars) block.stages) 1024 && list_all (is_stage vars block.args) block.stages
+is_block vars block = nat_le block.args 8 && nat_le (sum_by (task_count vars) block.stages) 1024 && list_all (is_stage vars block.args) block.stages
 
 -- ---- statements
 
@@ -171,23 +171,3 @@ is_object objects object = nat_lt object.0 objects
 abbrev pub is_task : ℕ → Task → Bool
 is_task objects task = has_counts task.func (length task.params) (length task.reads) (length task.writes)
     && list_all (is_object objects) task.reads && list_all (is_object objects) task.writes && are_distinct task.writes
-
--- ---- plain jobs
-
--- Statements other than `do` and `output` have no step yet.
-abbrev pub is_plain_out : Job → Stmt-F Stmt → Bool
-is_plain_out job (Stmt-F.Do block args) = is_call job block (length args)
-is_plain_out job (Stmt-F.Output var) = nat_lt var (length job.vars)
-is_plain_out job _ = false
-
-abbrev pub is_plain_stmt : Job → Stmt → Bool
-is_plain_stmt job stmt = is_plain_out job (out-Stmt stmt)
-
--- no initial value is made from more than one number
-abbrev pub is_plain_init : Init → Bool
-is_plain_init (Fill number) = true
-is_plain_init _ = false
-
--- a whole job that has only what can be run so far
-abbrev pub is_plain : Job → Bool
-is_plain job = is_whole job && list_all (λ v. is_plain_init v.init) job.vars && list_all (is_plain_stmt job) job.body

@@ -20,7 +20,8 @@ pub enum Ask {
 #[derive(Clone, Copy, Debug, PartialEq, Eq)]
 pub enum Asked {
     Run,
-    Get,
+    /// A cell, for this scalar.
+    Get { scalar: u8 },
     Checkpoint,
     Output,
 }

@@ -1,13 +1,18 @@
-ghost use Rattle.std.specs.Prelude.{◌≡◌, None, Some, map, IfOk, OnOk, OnErr, IsTrue};
-ghost use Rattle.nim_job.specs.declared.ask.Asked.{Asked as asked_kind};
+ghost use Rattle.std.specs.List.{list_all};
+ghost use Rattle.std.specs.Prelude.{◌≡◌, ◌<◌, ◌≤◌, true, false, None, pos, replicate, IfOk, OnOk, OnErr, IsTrue, if◌then◌else◌};
 ghost use Rattle.nim_job.specs.declared.stmt.Stmt.{out-Stmt};
-ghost use Rattle.nim_job.specs.Driver.{atom_of};
 ghost use Rattle.nim_job.specs.Machine as spec;
-ghost use Rattle.nim_job.specs.Machine.{after_ask, answered, appended, ask_of, asked_by, IsWithin, start_machine, takes_cell};
-ghost use Rattle.nim_job.specs.Whole.{is_plain};
+ghost use Rattle.nim_job.specs.Machine.{after_ask, answered, appended, ask_now, ask_of, asked_now, before_ask, is_span, IsWithin, start_machine, takes_cell, takes_text, Wants};
+ghost use Rattle.nim_job.specs.Quiet.{is_quiet, quiet_step};
+ghost use Rattle.nim_job.specs.Saved.{driver_in, fits};
+ghost use Rattle.nim_job.specs.Whole.{is_whole};
 
+use crate::arith::atoms;
 use crate::copies::copy_stmts;
-use crate::{Ask, Asked, Atom, Job, Stmt};
+use crate::path::{close, next_stmt, pass, replace, set, skip_first};
+use crate::span::{object_of_part, spans};
+use crate::wholeness::scalar_count;
+use crate::{Ask, Asked, DriverState, Job, Level, LevelKind, Span, Stmt};
 use nim_base::{NoMemory, Seq};
 use sqlite_items::Items;
 use std::alloc::Global;
@@ -16,65 +21,21 @@ use std::marker::Model;
 /// The most bytes that a run may print.
 const OUTPUT_LIMIT: usize = 16_777_216;
 
-/// What a statement asks.
-fn stmt_ask(alloc: Global, scalars: &[i64], stmt: &Stmt) -> Result<Ask, NoMemory>
-    ensures { IfOk result (λ ask. ask ≡ spec.stmt_ask scalars.now (out-Stmt stmt.now)) }
-{
-    Ok(match stmt {
-        Stmt::Do { block, args } => Ask::Run {
-            block: *block,
-            args: atoms(alloc, scalars, args.as_slice())?,
-        },
-        Stmt::Output { var } => Ask::Output { var: *var },
-        _ => Ask::Finished,
-    })
-}
-
-/// Which kind of ask a statement makes.
-fn stmt_asked(stmt: &Stmt) -> Option<Asked>
-    ensures { result ≡ spec.stmt_asked (out-Stmt stmt.now) }
-{
-    match stmt {
-        Stmt::Do { .. } => Some(Asked::Run),
-        Stmt::Output { .. } => Some(Asked::Output),
-        _ => None,
-    }
-}
-
-/// What an atom stands for.
-fn atom(scalars: &[i64], atom: Atom) -> i64
-    ensures { result ≡ atom_of scalars.now atom }
-{
-    match atom {
-        Atom::Const(number) => number,
-        Atom::Scalar(scalar) => match scalars.get(usize::from(scalar)) {
-            Some(number) => *number,
-            None => 0,
-        },
-    }
-}
-
-/// What atoms stand for, in order.
-fn atoms(alloc: Global, scalars: &[i64], atoms: &[Atom]) -> Result<Seq<i64>, NoMemory>
-    ensures { IfOk result (λ numbers. numbers ≡ map (atom_of scalars.now) atoms.now) }
-{
-    let mut numbers = Seq::new(alloc);
-    for one in atoms {
-        numbers.push(atom(scalars, *one))?;
-    }
-    Ok(numbers)
-}
+/// The most bodies that a driver is in at once: its own, and 16 inside each other.
+const MOST_LEVELS: usize = 17;
 
 /// Takes a driver's statements in order: it asks for the next thing, and is answered. Contracts see it as the
 /// record `Machine` of `specs/Machine.antt`.
 ///
-/// It owns a copy of the body, and what is to do is the statements from `at` on.
+/// It owns a copy of the body, and where it stands is a path of levels in this tree, outermost first: a statement's body
+/// is never copied, and there is room for all levels from the start.
 #[derive(Debug, Drop)]
 pub struct DriverMachine {
     alloc: Global,
     steps: u32,
     body: Items<Stmt>,
-    at: usize,
+    spans: Vec<Span>,
+    levels: Vec<Level>,
     scalars: Vec<i64>,
     count: u32,
     output: Vec<u8>,
@@ -83,9 +44,11 @@ pub struct DriverMachine {
 }
 
 impl Model for DriverMachine {
-    ghost use Rattle.std.specs.Prelude.{◌≤◌, drop, length, map};
-    ghost use Rattle.nim_job.specs.declared.item.Item.TheVariants.{Run};
-    ghost use Rattle.nim_job.specs.Machine.{Machine};
+    ghost use Rattle.std.specs.Prelude.{◌≡◌, ◌≤◌, length, true};
+    ghost use Rattle.std.specs.List.{list_all};
+    ghost use Rattle.std.specs.Vec.{vec_capacity};
+    ghost use Rattle.nim_job.specs.Levels.{IsOpen, todo_of};
+    ghost use Rattle.nim_job.specs.Machine.{is_span, Machine};
     ghost use Rattle.nim_job.specs.contracts.stmt.Stmt as stmt;
     ghost use Rattle.std.specs.Coded.{codes};
 
@@ -95,26 +58,36 @@ impl Model for DriverMachine {
 
     ghost view = { λ m. record {
       steps = m.steps;
-      driver = record { todo = map Run (drop m.at m.body); scalars = m.scalars.items; count = m.count; output = m.output.items };
+      body = m.body;
+      spans = m.spans.items;
+      driver = record { todo = todo_of m.body m.levels.items; scalars = m.scalars.items; count = m.count; output = m.output.items };
       asked = m.asked;
       full = m.full;
     } };
 
-    ghost invariant = { λ m. (m.count ≤ m.steps) × (length m.output.items ≤ 16777216) };
+    ghost invariant = { λ m. (m.count ≤ m.steps) × (length m.output.items ≤ 16777216) × (list_all is_span m.spans.items ≡ true)
+        × IsOpen m.body (vec_capacity m.levels) m.levels.items };
 }
 
 impl DriverMachine {
     /// A machine at the start of a job's body.
     pub fn new(alloc: Global, job: &Job) -> Result<DriverMachine, NoMemory>
-        requires plain { IsTrue (is_plain job.now) }
+        requires whole { IsTrue (is_whole job.now) }
         ensures { IfOk result (λ m. m ≡ start_machine job.now) }
     {
+        let mut levels = Vec::with_capacity(alloc, MOST_LEVELS)?;
+        levels.push_reserved(Level {
+            next: 0,
+            kind: LevelKind::Driver,
+            turns: 0,
+        });
         Ok(DriverMachine {
             alloc,
             steps: job.steps,
             body: copy_stmts(alloc, job.body.as_slice())?,
-            at: 0,
-            scalars: Vec::new(alloc),
+            spans: spans(alloc, job.vars.as_slice())?,
+            levels,
+            scalars: zeros(alloc, scalar_count(job))?,
             count: 0,
             output: Vec::new(alloc),
             asked: None,
@@ -122,45 +95,38 @@ impl DriverMachine {
         })
     }
 
-    /// What the driver asks for next. It is counted, and is to be answered before the next ask where it is to be
-    /// answered at all. Nothing changes where memory was refused.
+    /// What the driver asks for next, once the statements that ask nothing are taken. It is counted, and is to be
+    /// answered before the next ask where it is to be answered at all. Where memory was refused the same ask comes
+    /// again: only statements that ask nothing are taken then, which takes no memory.
     pub fn next(&mut self) -> Result<Ask, NoMemory>
         requires answered { self.old.asked ≡ None }
         ensures ask { IfOk result (λ ask. ask ≡ ask_of self.old) }
-        ensures asked { IfOk result (λ ask. self.new.asked ≡ asked_by ask) }
+        ensures asked { IfOk result (λ ask. Wants ask self.new.asked) }
         ensures ok { OnOk result (self.new ≡ after_ask self.old) }
-        ensures err { OnErr result (self.new ≡ self.old) }
+        ensures err { OnErr result (self.new ≡ before_ask self.old) }
     {
         if self.full {
             return Ok(Ask::Limit);
         }
-        match self.body.as_slice().get(self.at) {
-            None => Ok(Ask::Finished),
-            Some(stmt) => {
-                if self.steps <= self.count {
-                    return Ok(Ask::Limit);
-                }
-                let ask = stmt_ask(self.alloc, self.scalars.as_slice(), stmt)?;
-                self.asked = stmt_asked(stmt);
-                self.at += 1;
-                self.count += 1;
-                Ok(ask)
-            }
-        }
+        self.settle();
+        self.ask()
     }
 
-    /// Ends an ask but an output. The cell is what `Ask::Get` asked for, and is used by it alone.
-    pub fn answer(&mut self, _cell: i64)
+    /// Ends an ask but an output. The cell is what `Ask::Get` asked for, and is used by it alone. Takes no memory.
+    pub fn answer(&mut self, cell: i64)
         requires asked { IsTrue (takes_cell self.old.asked) }
-        ensures { self.new ≡ answered self.old }
+        ensures { self.new ≡ answered self.old cell }
     {
-        self.asked = None; // no statement uses the cell yet
+        if let Some(Asked::Get { scalar }) = self.asked {
+            set(self.scalars.as_mut_slice(), scalar, cell);
+        }
+        self.asked = None;
     }
 
     /// Ends an output: the text is printed. Where more than 16,777,216 bytes would be printed none is, and each later
     /// ask is `Ask::Limit`.
     pub fn append(&mut self, text: &[u8]) -> Result<(), NoMemory>
-        requires asked { self.old.asked ≡ Some asked_kind.Output }
+        requires asked { IsTrue (takes_text self.old.asked) }
         ensures ok { OnOk result (self.new ≡ appended self.old text.now) }
         ensures err { OnErr result (self.new ≡ self.old) }
     {
@@ -173,6 +139,40 @@ impl DriverMachine {
         Ok(())
     }
 
+    /// Where the driver stands, to be gone back to. Copies no statement.
+    pub fn save(&self) -> Result<DriverState, NoMemory>
+        ensures stands { IfOk result (λ state. driver_in self.now.body state ≡ self.now.driver) }
+        ensures fits { IfOk result (λ state. IsTrue (fits self.now state)) }
+    {
+        Ok(DriverState {
+            levels: Seq::from_vec(self.levels.as_slice().to_vec(self.alloc)?),
+            scalars: Seq::from_vec(self.scalars.as_slice().to_vec(self.alloc)?),
+            count: self.count,
+            output: Seq::from_vec(self.output.as_slice().to_vec(self.alloc)?),
+        })
+    }
+
+    /// Goes back to where a driver stood. Nothing is unanswered then.
+    pub fn restore(&mut self, state: &DriverState) -> Result<(), NoMemory>
+        requires fits { IsTrue (fits self.old state.now) }
+        ensures ok { OnOk result (self.new ≡ record self.old { driver = driver_in self.old.body state.now; asked = None; full = false }) }
+        ensures err { OnErr result (self.new ≡ self.old) }
+    {
+        let scalars = state.scalars.as_slice().to_vec(self.alloc)?;
+        let output = state.output.as_slice().to_vec(self.alloc)?;
+        replace(
+            self.body.as_slice(),
+            &mut self.levels,
+            state.levels.as_slice(),
+        );
+        self.scalars = scalars;
+        self.count = state.count;
+        self.output = output;
+        self.asked = None;
+        self.full = false;
+        Ok(())
+    }
+
     /// What is printed so far.
     pub fn output(&self) -> &[u8]
         ensures output { result.now ≡ self.now.driver.output }
@@ -180,4 +180,112 @@ impl DriverMachine {
     {
         self.output.as_slice()
     }
+
+    /// Takes the items in front that ask nothing, as many as may still be counted.
+    fn settle(&mut self)
+        requires open { self.old.full ≡ false }
+        ensures { self.new ≡ before_ask self.old }
+    {
+        while self.count < self.steps {
+            if !self.pass() {
+                return;
+            }
+        }
+    }
+
+    /// Takes the first item where it asks nothing, and says whether there was such an item.
+    fn pass(&mut self) -> bool
+        requires room { self.old.driver.count < self.old.steps }
+        ensures quiet { result ≡ is_quiet self.old.driver.todo }
+        ensures passed { self.new ≡ (if result then record self.old { driver = quiet_step self.old.driver } else self.old) }
+    {
+        let passed = pass(
+            self.body.as_slice(),
+            &mut self.levels,
+            self.scalars.as_mut_slice(),
+        );
+        if passed {
+            self.count += 1;
+        }
+        passed
+    }
+
+    /// Asks what the first item asks.
+    fn ask(&mut self) -> Result<Ask, NoMemory>
+        requires open { self.old.full ≡ false }
+        requires answered { self.old.asked ≡ None }
+        requires settled { self.old.driver.count < self.old.steps → is_quiet self.old.driver.todo ≡ false }
+        ensures ask { IfOk result (λ ask. ask ≡ ask_now self.old) }
+        ensures asked { IfOk result (λ ask. Wants ask self.new.asked) }
+        ensures ok { OnOk result (self.new ≡ asked_now self.old) }
+        ensures err { OnErr result (self.new ≡ self.old) }
+    {
+        let body = close(self.body.as_slice(), &mut self.levels);
+        if self.levels.is_empty() {
+            return Ok(Ask::Finished);
+        }
+        if self.steps <= self.count {
+            return Ok(Ask::Limit);
+        }
+        match next_stmt(self.body.as_slice(), self.levels.as_slice(), body) {
+            None => Ok(Ask::Finished), // further turns of a loop, which were taken
+            Some(stmt) => {
+                let scalars = self.scalars.as_slice();
+                let ask = stmt_ask(self.alloc, scalars, self.spans.as_slice(), stmt)?;
+                self.asked = stmt_asked(stmt);
+                self.count += 1;
+                skip_first(self.body.as_slice(), &mut self.levels, body, stmt);
+                Ok(ask)
+            }
+        }
+    }
+}
+
+/// What a statement asks.
+fn stmt_ask(alloc: Global, scalars: &[i64], spans: &[Span], stmt: &Stmt) -> Result<Ask, NoMemory>
+    requires spans { list_all is_span spans.now ≡ true }
+    ensures { IfOk result (λ ask. ask ≡ spec.stmt_ask scalars.now spans.now (out-Stmt stmt.now)) }
+{
+    Ok(match stmt {
+        Stmt::Do { block, args } => Ask::Run {
+            block: *block,
+            args: atoms(alloc, scalars, args.as_slice())?,
+        },
+        Stmt::Get {
+            var,
+            part,
+            row,
+            cell,
+            ..
+        } => Ask::Get {
+            object: object_of_part(spans, *var, *part),
+            row: *row,
+            cell: *cell,
+        },
+        Stmt::Checkpoint => Ask::Checkpoint,
+        Stmt::Output { var } => Ask::Output { var: *var },
+        _ => Ask::Finished,
+    })
+}
+
+/// Which kind of ask a statement makes.
+fn stmt_asked(stmt: &Stmt) -> Option<Asked>
+    ensures { result ≡ spec.stmt_asked (out-Stmt stmt.now) }
+{
+    match stmt {
+        Stmt::Do { .. } => Some(Asked::Run),
+        Stmt::Get { scalar, .. } => Some(Asked::Get { scalar: *scalar }),
+        Stmt::Checkpoint => Some(Asked::Checkpoint),
+        Stmt::Output { .. } => Some(Asked::Output),
+        _ => None,
+    }
+}
+
+/// So many zeros.
+fn zeros(alloc: Global, count: u8) -> Result<Vec<i64>, NoMemory>
+    ensures { IfOk result (λ zeros. zeros.items ≡ replicate count (pos 0)) }
+{
+    let mut zeros = Vec::new(alloc);
+    zeros.resize(usize::from(count), 0)?;
+    Ok(zeros)
 }

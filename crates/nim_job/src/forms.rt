@@ -23,7 +23,7 @@ pub fn block_forms(alloc: Global, job: &Job, block: u8) -> Result<Vec<TaskForm>,
 }
 
 /// The stages of a block; none where it isn't there.
-pub(crate) fn stages(job: &Job, block: u8) -> &[Stage]
+fn stages(job: &Job, block: u8) -> &[Stage]
     ensures { result.now ≡ stages_of job.now block }
 {
     match job.blocks.as_slice().get(usize::from(block)) {
@@ -42,22 +42,22 @@ fn push_forms(
     requires { IsTrue (has_refs layout.now.vars.now stage.now) }
     ensures { OnOk result (forms.new.items ≡ forms.old.items ++ stage_forms layout.now.vars.now stage.now) }
 {
-    for turn in 0..layout.turns(stage) {
-        forms.push(form(alloc, layout, stage, turn)?)?;
+    for index in 0..layout.task_count(stage) {
+        forms.push(form(alloc, layout, stage, index)?)?;
     }
     Ok(())
 }
 
-/// Task `turn` of a stage.
-fn form(alloc: Global, layout: &Layout<'_>, stage: &Stage, turn: u32) -> Result<TaskForm, NoMemory>
+/// Task `index` of a stage.
+fn form(alloc: Global, layout: &Layout<'_>, stage: &Stage, index: u32) -> Result<TaskForm, NoMemory>
     requires stage { IsTrue (has_refs layout.now.vars.now stage.now) }
-    requires turn { turn < 64 }
-    ensures { IfOk result (λ form. form ≡ form_of layout.now.vars.now stage.now turn) }
+    requires index { index < 64 }
+    ensures { IfOk result (λ form. form ≡ form_of layout.now.vars.now stage.now index) }
 {
     Ok(TaskForm {
         func: stage.func,
         params: stage.params.copy()?,
-        reads: layout.objects(alloc, stage.reads.as_slice(), turn)?,
-        writes: layout.objects(alloc, stage.writes.as_slice(), turn)?,
+        reads: layout.objects(alloc, stage.reads.as_slice(), index)?,
+        writes: layout.objects(alloc, stage.writes.as_slice(), index)?,
     })
 }

@@ -1,9 +1,9 @@
 ghost use Rattle.std.specs.Prelude.{◌≡◌, IsTrue};
-ghost use Rattle.nim_job.specs.Follows.{AnswersFollow, AsksTasks, EndsAtLimit, EndsFinished, OutputsFollow};
-ghost use Rattle.nim_job.specs.Machine.{machine_at, start_machine};
-ghost use Rattle.nim_job.specs.Serial.{driver_at};
+ghost use Rattle.nim_job.specs.Arith.{DividesByZero, DividesTheLeast, LeavesNatural};
+ghost use Rattle.nim_job.specs.Follows.{EachFollows, StandsAt};
+ghost use Rattle.nim_job.specs.Machine.{start_machine};
 ghost use Rattle.nim_job.specs.Versions.{KeepsVersions, ReadsVersions};
-ghost use Rattle.nim_job.specs.Whole.{is_plain};
+ghost use Rattle.nim_job.specs.Whole.{is_whole};
 
 use crate::Job;
 
@@ -14,14 +14,17 @@ pub fn versions_are_read(job: &Job)
     ensures keeps { KeepsVersions job.now }
 {}
 
-/// A `DriverMachine` that was just made stands before the first step of its job. From each state, asking and
-/// answering leads to the next one, and what it says at the end is how the job ends.
+/// A `DriverMachine` that was just made stands before the first step of its job. From each machine that stands at a
+/// state of the job, asking and answering leads to a later one, and what it says at the end is how the job ends.
 pub fn machine_follows(job: &Job)
-    requires plain { IsTrue (is_plain job.now) }
-    ensures starts { start_machine job.now ≡ machine_at job.now (driver_at job.now 0) }
-    ensures asks { AsksTasks job.now }
-    ensures answers { AnswersFollow job.now }
-    ensures outputs { OutputsFollow job.now }
-    ensures finished { EndsFinished job.now }
-    ensures limit { EndsAtLimit job.now }
+    requires whole { IsTrue (is_whole job.now) }
+    ensures starts { StandsAt job.now (start_machine job.now) }
+    ensures follows { EachFollows job.now }
+{}
+
+/// What division by 0 and of the least number by -1 give, and that no remainder is below 0.
+pub fn division_is_total()
+    ensures zero { DividesByZero }
+    ensures least { DividesTheLeast }
+    ensures natural { LeavesNatural }
 {}

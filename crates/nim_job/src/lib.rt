@@ -2,6 +2,7 @@
 //! statements in order.
 #![tactic(auto)]
 
+mod arith;
 mod ask;
 mod block;
 mod copies;
@@ -11,7 +12,11 @@ mod item;
 mod job;
 mod laws;
 mod layout;
+mod level;
 mod objects;
+mod path;
+mod span;
+mod state;
 mod stmt;
 mod tasks;
 mod wholeness;
@@ -22,9 +27,12 @@ pub use driver::DriverMachine;
 pub use forms::block_forms;
 pub use item::Item;
 pub use job::{Init, Job, Var};
-pub use laws::{machine_follows, versions_are_read};
-pub use layout::turns;
+pub use laws::{division_is_total, machine_follows, versions_are_read};
+pub use layout::{first_object, task_count};
+pub use level::{Level, LevelKind};
 pub use objects::shapes;
+pub use span::Span;
+pub use state::DriverState;
 pub use stmt::{Arith, Atom, Cmp, Cond, Stmt};
 pub use tasks::{block_tasks, put_in};
-pub use wholeness::{has_distinct, is_checked, is_plain, is_whole};
+pub use wholeness::{has_distinct, is_checked, is_whole};

@@ -1,8 +1,8 @@
 ghost use Rattle.std.specs.Prelude.{◌≡◌};
-ghost use Rattle.nim_job.specs.Whole.{is_checked, is_plain, is_whole};
+ghost use Rattle.nim_job.specs.Driver.{scalar_count};
+ghost use Rattle.nim_job.specs.Whole.{is_checked, is_whole};
 
 mod blocks;
-mod plain;
 mod statements;
 mod vars;
 
@@ -30,12 +30,12 @@ pub fn is_whole(job: &Job) -> bool
     is_checked(job) && vars::are_filled(job.vars.as_slice())
 }
 
-/// Whether a job is whole and has only what can be run so far. Its meaning is `is_plain` of `specs/Whole.antt`. Takes
-/// no memory.
-pub fn is_plain(job: &Job) -> bool
-    ensures { result ≡ is_plain job.now }
+/// How many scalars a job has.
+pub(crate) fn scalar_count(job: &Job) -> u8
+    ensures { result ≡ scalar_count job.now }
 {
-    is_whole(job)
-        && plain::are_plain_vars(job.vars.as_slice())
-        && plain::are_plain_stmts(job, job.body.as_slice())
+    match statements::scan_all(job, job.body.as_slice(), 0, 0) {
+        Some(count) => count,
+        None => 0,
+    }
 }

@@ -1,9 +1,9 @@
 ghost use Rattle.std.specs.Prelude.{◌≡◌, ◌<◌, ◌==◌, map, nat_le, true, IsTrue};
 ghost use Rattle.std.specs.List.{list_all, list_any, sum_by};
-ghost use Rattle.nim_job.specs.Tasks.{object_of, turns_of};
+ghost use Rattle.nim_job.specs.Tasks.{object_meant, task_count};
 ghost use Rattle.nim_job.specs.Whole.{are_distinct, are_vars, has_distinct, is_block, is_param, is_place, is_ref, is_stage};
 
-use crate::layout::{object, turns};
+use crate::layout::{object, task_count};
 use crate::{Block, Place, Ref, Stage, Var};
 use nim_base::{Object, Param};
 
@@ -52,31 +52,31 @@ fn are_params(args: u8, params: &[Param]) -> bool
     true
 }
 
-/// Whether one of these references means the object at task `turn` of their stage.
-fn means_any(vars: &[Var], turn: u32, refs: &[Ref], sought: Object) -> bool
+/// Whether one of these references means the object at task `index` of their stage.
+fn means_any(vars: &[Var], index: u32, refs: &[Ref], sought: Object) -> bool
     requires vars { IsTrue (are_vars vars.now) }
     requires refs { IsTrue (list_all (is_ref vars.now true) refs.now) }
-    requires turn { turn < 64 }
-    ensures { result ≡ list_any (λ o. o.0 == sought.0) (map (object_of vars.now turn) refs.now) }
+    requires index { index < 64 }
+    ensures { result ≡ list_any (λ o. o.0 == sought.0) (map (object_meant vars.now index) refs.now) }
 {
     for reference in refs {
-        if object(vars, *reference, turn).0 == sought.0 {
+        if object(vars, *reference, index).0 == sought.0 {
             return true;
         }
     }
     false
 }
 
-/// Whether these references mean no object twice at task `turn` of their stage.
-fn are_distinct(vars: &[Var], turn: u32, refs: &[Ref]) -> bool
+/// Whether these references mean no object twice at task `index` of their stage.
+fn are_distinct(vars: &[Var], index: u32, refs: &[Ref]) -> bool
     requires vars { IsTrue (are_vars vars.now) }
     requires refs { IsTrue (list_all (is_ref vars.now true) refs.now) }
-    requires turn { turn < 64 }
-    ensures { result ≡ are_distinct (map (object_of vars.now turn) refs.now) }
+    requires index { index < 64 }
+    ensures { result ≡ are_distinct (map (object_meant vars.now index) refs.now) }
 {
     let mut rest = refs;
     while let Some((first, others)) = rest.split_first() {
-        if means_any(vars, turn, others, object(vars, *first, turn)) {
+        if means_any(vars, index, others, object(vars, *first, index)) {
             return false;
         }
         rest = others;
@@ -90,8 +90,8 @@ pub fn has_distinct(vars: &[Var], stage: &Stage) -> bool
     requires writes { IsTrue (list_all (is_ref vars.now stage.now.each) stage.now.writes) }
     ensures { result ≡ has_distinct vars.now stage.now }
 {
-    for turn in 0..turns(vars, stage) {
-        if !are_distinct(vars, turn, stage.writes.as_slice()) {
+    for index in 0..task_count(vars, stage) {
+        if !are_distinct(vars, index, stage.writes.as_slice()) {
             return false;
         }
     }
@@ -127,11 +127,11 @@ fn are_stages(vars: &[Var], args: u8, stages: &[Stage]) -> bool
 
 /// Whether stages have at most 1,024 tasks.
 fn are_few_tasks(vars: &[Var], stages: &[Stage]) -> bool
-    ensures { result ≡ nat_le (sum_by (turns_of vars.now) stages.now) 1024 }
+    ensures { result ≡ nat_le (sum_by (task_count vars.now) stages.now) 1024 }
 {
     let mut tasks: u64 = 0;
     for stage in stages {
-        tasks += turns(vars, stage) as u64;
+        tasks += task_count(vars, stage) as u64;
         if tasks > 1024 {
             return false;
         }
