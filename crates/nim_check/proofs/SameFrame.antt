@@ -16,7 +16,7 @@ use Rattle.nim_job.specs.declared.job.Var.{Var}
 use Rattle.nim_job.specs.declared.stmt.Stmt.{fold-Stmt}
 use Rattle.nim_job.specs.declared.stmt.Stmt.TheOpen.{Stmt-F}
 use Rattle.nim_job.specs.Objects.{objects_of, parts_of}
-use Rattle.nim_job.specs.Tasks.{object_of, part_of, turns_of}
+use Rattle.nim_job.specs.Tasks.{object_meant, part_of, task_count}
 use Rattle.nim_job.specs.Whole.{Scan, are_distinct, are_vars, cells_in, is_between, is_block, is_checked, is_param, is_place, is_ref, set_at, is_stage, is_var, scalars_of, scan_all, scan_stmt}
 use Rattle.nim_check.specs.Loading.{filled, given_by, holding, left_by}
 
@@ -80,11 +80,11 @@ same_vars vars values =
 
 -- ---- blocks
 
-same_object : (vars : List Var) (values : List Grid) → object_of (filled vars values) ≡ object_of vars
+same_object : (vars : List Var) (values : List Grid) → object_meant (filled vars values) ≡ object_meant vars
 same_object vars values = fun_ext (λ i. fun_ext (λ ref.
     ap₂ (λ (first parts : ℕ). record { 0 = first + part_of ref.place i parts }) (same_sum_before (λ (v : Var). v.parts) keeps_parts vars values ref.var) (same_parts vars values ref.var)))
 
-same_turns : (vars : List Var) (values : List Grid) → turns_of (filled vars values) ≡ turns_of vars
+same_turns : (vars : List Var) (values : List Grid) → task_count (filled vars values) ≡ task_count vars
 same_turns vars values = fun_ext (λ stage.
     ap (λ (parts : ℕ → ℕ). if stage.each then option_map_or (λ ref. parts ref.var) (slice_get stage.writes 0) 0 else 1) (fun_ext (same_parts vars values)))
 
@@ -98,9 +98,9 @@ stage_by is object turns args stage = has_counts stage.func (length stage.params
 
 same_stage : (vars : List Var) (values : List Grid) → is_stage (filled vars values) ≡ is_stage vars
 same_stage vars values = fun_ext (λ args. fun_ext (λ stage.
-    ap (λ (is : Bool → Ref → Bool). stage_by is (object_of (filled vars values)) (turns_of (filled vars values)) args stage) (same_ref vars values)
-    ∙ ap (λ (object : ℕ → Ref → Object). stage_by (is_ref vars) object (turns_of (filled vars values)) args stage) (same_object vars values)
-    ∙ ap (λ (turns : Stage → ℕ). stage_by (is_ref vars) (object_of vars) turns args stage) (same_turns vars values)))
+    ap (λ (is : Bool → Ref → Bool). stage_by is (object_meant (filled vars values)) (task_count (filled vars values)) args stage) (same_ref vars values)
+    ∙ ap (λ (object : ℕ → Ref → Object). stage_by (is_ref vars) object (task_count (filled vars values)) args stage) (same_object vars values)
+    ∙ ap (λ (turns : Stage → ℕ). stage_by (is_ref vars) (object_meant vars) turns args stage) (same_turns vars values)))
 
 abbrev block_by : (Stage → ℕ) → (ℕ → Stage → Bool) → Block → Bool
 block_by turns is block = nat_le block.args 8 && nat_le (sum_by turns block.stages) 1024 && list_all (is block.args) block.stages
@@ -108,7 +108,7 @@ block_by turns is block = nat_le block.args 8 && nat_le (sum_by turns block.stag
 same_block : (vars : List Var) (values : List Grid) → is_block (filled vars values) ≡ is_block vars
 same_block vars values = fun_ext (λ block.
     ap (λ (turns : Stage → ℕ). block_by turns (is_stage (filled vars values)) block) (same_turns vars values)
-    ∙ ap (λ (is : ℕ → Stage → Bool). block_by (turns_of vars) is block) (same_stage vars values))
+    ∙ ap (λ (is : ℕ → Stage → Bool). block_by (task_count vars) is block) (same_stage vars values))
 
 -- ---- statements
 

@@ -7,7 +7,7 @@ use Rattle.nim_base.specs.declared.task.Func.TheVariants as func
 use Rattle.nim_base.specs.Apply.{has_counts}
 use Rattle.nim_job.specs.declared.job.Var.{Var as job_var}
 use Rattle.nim_job.specs.Objects.{objects_of}
-use Rattle.nim_job.specs.Tasks.{turns_of}
+use Rattle.nim_job.specs.Tasks.{task_count}
 use Rattle.nim_job.specs.Whole.{cells_in, has_distinct, is_between, is_var}
 use Rattle.nim_parse.specs.declared.tree.Atom.{Atom}
 use Rattle.nim_parse.specs.declared.tree.Atom.TheVariants.{Number, Name}
@@ -158,7 +158,7 @@ rule_50 _ = false
 -- with this line more than 1,024 tasks in the block
 abbrev pub rule_51 : Site → Bool
 rule_51 (at_stage vars block before stage) =
-    nat_lt 1024 (sum_by (turns_of (map var_of vars)) (map (stage_of (var_names vars) block.arguments) (before ++ stage ∷ [])))
+    nat_lt 1024 (sum_by (task_count (map var_of vars)) (map (stage_of (var_names vars) block.arguments) (before ++ stage ∷ [])))
 rule_51 _ = false
 
 -- `do` of an unknown block or with another number of arguments

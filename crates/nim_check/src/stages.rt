@@ -4,7 +4,7 @@ ghost use Rattle.std.specs.Prelude.{◌≡◌, ◌≤◌, ◌+◌, ◌&&◌, [],
 ghost use Rattle.std.specs.List.{list_all, list_any, sum_by};
 ghost use Rattle.nim_base.specs.Apply.{has_counts};
 ghost use Rattle.nim_base.specs.declared.task.Func.TheVariants as func;
-ghost use Rattle.nim_job.specs.Tasks.{turns_of};
+ghost use Rattle.nim_job.specs.Tasks.{task_count};
 ghost use Rattle.nim_job.specs.Whole.{are_vars, is_stage};
 ghost use Rattle.nim_check.specs.Made.{param_of, place_of, ref_of, stage_of, var_names, var_of};
 ghost use Rattle.nim_check.specs.Names.{func_of, is_in};
@@ -15,7 +15,7 @@ ghost use Rattle.nim_check.specs.Sites.{at_stage, stage_sites};
 use crate::CheckFault;
 use crate::names::{func_of, is_in, is_var, place_in, var_place};
 use nim_base::{Func, NoMemory, Param, Seq};
-use nim_job::{Place, Ref as JobRef, Stage as JobStage, Var as JobVar, has_distinct, turns};
+use nim_job::{Place, Ref as JobRef, Stage as JobStage, Var as JobVar, has_distinct, task_count};
 use nim_parse::{Atom, Block, Index, Ref, Stage, Var};
 use std::alloc::Global;
 
@@ -197,11 +197,11 @@ fn stage_rule(
     requires vars { job_vars.now ≡ map var_of vars.now }
     requires whole { IsTrue (are_vars job_vars.now) }
     requires made { made.now ≡ stage_of (var_names vars.now) block.now.arguments stage.now }
-    requires tasks { tasks ≡ sum_by (turns_of job_vars.now) (map (stage_of (var_names vars.now) block.now.arguments) before.now) }
+    requires tasks { tasks ≡ sum_by (task_count job_vars.now) (map (stage_of (var_names vars.now) block.now.arguments) before.now) }
     requires few { tasks ≤ 1024 }
     ensures rule { result ≡ rule_of (at_stage vars.now block.now before.now stage.now) }
     ensures whole { result ≡ None → is_stage job_vars.now (length block.now.arguments) made.now ≡ true }
-    ensures few { result ≡ None → tasks + turns_of job_vars.now made.now ≤ 1024 }
+    ensures few { result ≡ None → tasks + task_count job_vars.now made.now ≤ 1024 }
 {
     if func_of(stage.function.as_slice()).is_none() {
         Some(45)
@@ -215,7 +215,7 @@ fn stage_rule(
         Some(49)
     } else if !are_known(block.arguments.as_slice(), stage.parameters.as_slice()) {
         Some(50)
-    } else if tasks + u64::from(turns(job_vars, made)) > 1024 {
+    } else if tasks + u64::from(task_count(job_vars, made)) > 1024 {
         Some(51)
     } else {
         None
@@ -235,7 +235,7 @@ pub fn make_stages(
     ensures answers { Answers (first_refusal (stage_sites vars.now block.now [] block.now.stages)) result }
     ensures made { IfOk result (λ made. made ≡ map (stage_of (var_names vars.now) block.now.arguments) block.now.stages) }
     ensures whole { IfOk result (λ made. list_all (is_stage job_vars.now (length block.now.arguments)) made ≡ true) }
-    ensures few { IfOk result (λ made. sum_by (turns_of job_vars.now) made ≤ 1024) }
+    ensures few { IfOk result (λ made. sum_by (task_count job_vars.now) made ≤ 1024) }
 {
     let stages = block.stages.as_slice();
     let mut made = Seq::new(alloc);
@@ -248,7 +248,7 @@ pub fn make_stages(
                 rule,
             });
         }
-        tasks += u64::from(turns(job_vars, &next));
+        tasks += u64::from(task_count(job_vars, &next));
         made.push(next)?;
     }
     Ok(made)

@@ -1,4 +1,4 @@
-ghost use Rattle.std.specs.Prelude.{◌≡◌, ◌≢◌, ℕ, List, Option, IfOk, IsErrOf};
+ghost use Rattle.std.specs.Prelude.{◌≡◌, ◌≢◌, ℕ, List, Option, IfOk, IsErrOf, OnOk};
 ghost use Rattle.nim_io.specs.Counts.{Rose, NeverFalls};
 ghost use Rattle.nim_io.specs.Files.{Opens};
 
@@ -40,12 +40,15 @@ pub trait Files {
         ensures bytes { IfOk result (λ item. Opens (told self.old) name.now (Self.Item.left item)) }
         ensures fresh { IfOk result (λ item. Self.Item.faults item ≡ 0) }
         ensures cause { IsErrOf result OpenFault.Failed → Rose (faults self.old) (faults self.new) }
+        ensures quiet { OnOk result (faults self.new ≡ faults self.old) }
+        ensures memory { IsErrOf result OpenFault.NoMemory → faults self.new ≡ faults self.old }
         ensures later { NeverFalls (faults self.old) (faults self.new) }
         ensures same { told self.new ≡ told self.old };
 
     /// Ends the use of a source. Its faults become a fault of the files.
     fn close(&mut self, item: Self::Item)
         ensures cause { Self.Item.faults item ≢ 0 → Rose (faults self.old) (faults self.new) }
+        ensures quiet { Self.Item.faults item ≡ 0 → faults self.new ≡ faults self.old }
         ensures later { NeverFalls (faults self.old) (faults self.new) }
         ensures same { told self.new ≡ told self.old };
 }

@@ -62,6 +62,7 @@ fn write_once<W: Write>(stream: &mut W, piece: &[u8], faults: &mut u64) -> Resul
     ensures bytes { WriteAppends (W.contents stream.old) (W.contents stream.new) result piece.now }
     ensures cause { OnErr result (Rose faults.old faults.new) }
     ensures stuck { IfOk result (λ n. n ≡ 0 → 0 < length piece.now → Rose faults.old faults.new) }
+    ensures quiet { IfOk result (λ n. 0 < n → faults.new ≡ faults.old) }
     ensures later { NeverFalls faults.old faults.new }
 {
     match stream.write(piece) {

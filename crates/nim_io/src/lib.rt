@@ -12,8 +12,6 @@ mod mem_sink;
 mod mem_source;
 mod sink;
 mod source;
-#[cfg(test)]
-mod tests;
 mod write;
 
 pub use files::{Files, OpenFault};

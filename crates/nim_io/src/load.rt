@@ -1,7 +1,7 @@
-ghost use Rattle.std.specs.Prelude.{◌≡◌, ℕ, ◌+◌, ◌^◌, ◌<◌, ◌≤◌, length, IfOk, IfSome, IsErrOf};
+ghost use Rattle.std.specs.Prelude.{◌≡◌, ℕ, ◌<◌, ◌≤◌, length, false, IfOk, IfSome, IsErrOf};
 ghost use Rattle.nim_io.specs.Counts.{Rose, NeverFalls};
 ghost use Rattle.nim_io.specs.Files.{content, Tells, TellsSome};
-ghost use Rattle.nim_io.specs.Load.{Loads};
+ghost use Rattle.nim_io.specs.Load.{Loads, is_fault};
 
 use crate::{Files, OpenFault, Source};
 use std::alloc::{AllocError, Global};
@@ -42,8 +42,6 @@ pub fn read_all<L: Files>(
     name: &str,
     most: usize,
 ) -> Result<Vec<u8>, LoadFault>
-    requires { most + 1 < 2 ^ 64 }
-
     ensures bytes { IfOk result (λ bytes. Tells (L.told files.old) name.now bytes.items) }
     ensures fits { IfOk result (λ bytes. length bytes.items ≤ most) }
 
@@ -55,6 +53,8 @@ pub fn read_all<L: Files>(
     ensures complete { ¬ Rose (L.faults files.old) (L.faults files.new)
         → IfSome (L.told files.old) (λ told. Loads (content name.now told) most result) }
 
+    // A count rises only for a fault that is told: want of memory hides none.
+    ensures quiet { is_fault result ≡ false → L.faults files.new ≡ L.faults files.old }
     ensures later { NeverFalls (L.faults files.old) (L.faults files.new) }
     ensures same { L.told files.new ≡ L.told files.old }
 {
@@ -70,18 +70,18 @@ pub fn read_all<L: Files>(
 
 // All that is left of a source.
 fn drain<S: Source>(alloc: Global, source: &mut S, most: usize) -> Result<Vec<u8>, LoadFault>
-    requires { most + 1 < 2 ^ 64 }
     ensures bytes { IfOk result (λ bytes. IfSome (S.left source.old) (λ left. left ≡ bytes.items)) }
     ensures fits { IfOk result (λ bytes. length bytes.items ≤ most) }
     ensures open_fault { IsErrOf result LoadFault.Open → ⊥ }
     ensures read_fault { IsErrOf result LoadFault.Read → Rose (S.faults source.old) (S.faults source.new) }
     ensures too_long { IsErrOf result LoadFault.TooLong → IfSome (S.left source.old) (λ left. most < length left) }
+    ensures quiet { is_fault result ≡ false → S.faults source.new ≡ S.faults source.old }
     ensures later { NeverFalls (S.faults source.old) (S.faults source.new) }
 {
     let mut all = Vec::new(alloc);
     let mut piece = [0u8; PIECE];
     while all.len() <= most {
-        let room = PIECE.min(most + 1 - all.len());
+        let room = PIECE.min((most - all.len()).saturating_add(1));
         let Ok(n) = source.read(&mut piece[..room]) else {
             return Err(LoadFault::Read);
         };

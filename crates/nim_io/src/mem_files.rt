@@ -1,7 +1,8 @@
-ghost use Rattle.std.specs.Prelude.{◌≡◌, Some, IfOk};
+ghost use Rattle.std.specs.Prelude.{◌≡◌, ◌≢◌, ◌+◌, ◌-◌, ◌^◌, [], Some, min, IfOk, IsErrOf, OnErr, OnOk, ◌↔◌};
 ghost use Rattle.std.specs.Option.{option_copied, option_map};
-ghost use Rattle.nim_io.specs.Files.{content};
-ghost use Rattle.nim_io.specs.MemFiles.{entries};
+ghost use Rattle.nim_io.specs.Counts.{Rose, NeverFalls};
+ghost use Rattle.nim_io.specs.Files.{content, Opens};
+ghost use Rattle.nim_io.specs.MemFiles.{entries, reads_named};
 
 use crate::{Files, MemSource, OpenFault, Source};
 use nim_base::NoMemory;
@@ -27,10 +28,15 @@ pub struct MemFiles {
 }
 
 impl MemFiles {
+    ghost use Rattle.nim_io.specs.MemFiles.{fails_of, opens_of, opened_of};
+    ghost use Rattle.nim_io.specs.MemSource as source;
+
     /// Of two files of one name only the first can be opened.
     pub fn new(files: Vec<(String, Vec<u8>)>, fails: Vec<FileFail>) -> MemFiles
         ensures told { ⟦<MemFiles as Files>⟧.told result ≡ Some (entries files.items) }
         ensures faults { ⟦<MemFiles as Files>⟧.faults result ≡ 0 }
+        ensures fails { fails_of result ≡ fails.items }
+        ensures counted { (opens_of result ≡ 0) × (opened_of result ≡ 0) }
     {
         MemFiles {
             files,
@@ -45,6 +51,8 @@ impl MemFiles {
     fn next_source(&self, alloc: Global, bytes: &[u8]) -> Result<MemSource, NoMemory>
         ensures bytes { IfOk result (λ s. ⟦<MemSource as Source>⟧.left s ≡ Some bytes.now) }
         ensures faults { IfOk result (λ s. ⟦<MemSource as Source>⟧.faults s ≡ 0) }
+        ensures fails { IfOk result (λ s. source.fails_of s ≡ reads_named (fails_of self.now) (opened_of self.now)) }
+        ensures counted { IfOk result (λ s. source.reads_of s ≡ 0) }
     {
         let mut reads = Vec::new(alloc);
         for fail in self.fails.as_slice() {
@@ -71,13 +79,33 @@ fn find<'a>(files: &'a [(String, Vec<u8>)], name: &str) -> Option<&'a Vec<u8>>
 }
 
 impl Files for MemFiles {
+    ghost use Rattle.nim_io.specs.MemFiles.{FailsToOpen, fails_of, opens_of, opened_of};
+    ghost use Rattle.nim_io.specs.MemSource as source;
+
     type Item = MemSource;
 
     ghost told = { λ f. Some (entries f.files.items) };
 
     ghost faults = { λ f. f.faults };
 
-    fn open(&mut self, alloc: Global, name: &str) -> Result<MemSource, OpenFault> {
+    fn open(&mut self, alloc: Global, name: &str) -> Result<MemSource, OpenFault>
+        ensures bytes { IfOk result (λ item. Opens (Some (entries self.old.files.items)) name.now (⟦<MemSource as Source>⟧.left item)) }
+        ensures fresh { IfOk result (λ item. ⟦<MemSource as Source>⟧.faults item ≡ 0) }
+        ensures cause { IsErrOf result OpenFault.Failed → Rose self.old.faults self.new.faults }
+        ensures quiet { OnOk result (self.new.faults ≡ self.old.faults) }
+        ensures memory { IsErrOf result OpenFault.NoMemory → self.new.faults ≡ self.old.faults }
+        ensures later { NeverFalls self.old.faults self.new.faults }
+        ensures same { Some (entries self.new.files.items) ≡ Some (entries self.old.files.items) }
+
+        // It fails where it is to fail or the name is missing, and nowhere else; so does the source that it opens.
+        ensures named { IsErrOf result OpenFault.Failed ↔ FailsToOpen self.old name.now }
+        ensures reads { IfOk result (λ item. source.fails_of item ≡ reads_named (fails_of self.old) (opened_of self.old)) }
+        ensures first { IfOk result (λ item. source.reads_of item ≡ 0) }
+        ensures kept { fails_of self.new ≡ fails_of self.old }
+        ensures counted { opens_of self.new ≡ min (opens_of self.old + 1) (2 ^ 32 - 1) }
+        ensures opened { OnOk result (opened_of self.new ≡ min (opened_of self.old + 1) (2 ^ 32 - 1)) }
+        ensures unopened { OnErr result (opened_of self.new ≡ opened_of self.old) }
+    {
         let call = self.opens;
         self.opens = call.saturating_add(1);
         if self.fails.contains(&FileFail::Open(call)) {
@@ -93,7 +121,14 @@ impl Files for MemFiles {
         Ok(source)
     }
 
-    fn close(&mut self, item: MemSource) {
+    fn close(&mut self, item: MemSource)
+        ensures cause { ⟦<MemSource as Source>⟧.faults item ≢ 0 → Rose self.old.faults self.new.faults }
+        ensures quiet { ⟦<MemSource as Source>⟧.faults item ≡ 0 → self.new.faults ≡ self.old.faults }
+        ensures later { NeverFalls self.old.faults self.new.faults }
+        ensures same { Some (entries self.new.files.items) ≡ Some (entries self.old.files.items) }
+        ensures kept { fails_of self.new ≡ fails_of self.old }
+        ensures counted { (opens_of self.new ≡ opens_of self.old) × (opened_of self.new ≡ opened_of self.old) }
+    {
         if item.faults() != 0 {
             self.faults = self.faults.saturating_add(1);
         }

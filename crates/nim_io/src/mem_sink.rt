@@ -57,6 +57,7 @@ impl Sink for MemSink {
         ensures bytes { WriteAppends (Some self.old.bytes.items) (Some self.new.bytes.items) result piece.now }
         ensures cause { OnErr result (Rose self.old.faults self.new.faults) }
         ensures stuck { IfOk result (λ n. n ≡ 0 → 0 < length piece.now → Rose self.old.faults self.new.faults) }
+        ensures quiet { IfOk result (λ n. 0 < n → self.new.faults ≡ self.old.faults) }
         ensures later { NeverFalls self.old.faults self.new.faults }
 
         // It takes as much as it may, and fails where it is to fail.

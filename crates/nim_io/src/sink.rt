@@ -20,5 +20,6 @@ pub trait Sink {
         ensures bytes { WriteAppends (written self.old) (written self.new) result piece.now }
         ensures cause { OnErr result (Rose (faults self.old) (faults self.new)) }
         ensures stuck { IfOk result (λ n. n ≡ 0 → 0 < length piece.now → Rose (faults self.old) (faults self.new)) }
+        ensures quiet { IfOk result (λ n. 0 < n → faults self.new ≡ faults self.old) }
         ensures later { NeverFalls (faults self.old) (faults self.new) };
 }

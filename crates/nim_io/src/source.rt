@@ -1,4 +1,4 @@
-ghost use Rattle.std.specs.Prelude.{ℕ, List, Option, OnErr};
+ghost use Rattle.std.specs.Prelude.{◌≡◌, ℕ, List, Option, OnErr, OnOk};
 ghost use Rattle.std.specs.Io.{ReadsAtMost};
 ghost use Rattle.std.specs.Io.KnownBytes.{ReadConsumes};
 ghost use Rattle.nim_io.specs.Counts.{Rose, NeverFalls};
@@ -21,5 +21,6 @@ pub trait Source {
         // What is given is taken from the front of what is left, 0 only at the end; a failed read takes nothing.
         ensures bytes { ReadConsumes (left self.old) (left self.new) result buf.new }
         ensures cause { OnErr result (Rose (faults self.old) (faults self.new)) }
+        ensures quiet { OnOk result (faults self.new ≡ faults self.old) }
         ensures later { NeverFalls (faults self.old) (faults self.new) };
 }

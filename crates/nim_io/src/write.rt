@@ -1,4 +1,4 @@
-ghost use Rattle.std.specs.Prelude.{OnErr, OnOk};
+ghost use Rattle.std.specs.Prelude.{◌≡◌, OnErr, OnOk};
 ghost use Rattle.std.specs.Io.KnownBytes.{Appends};
 ghost use Rattle.nim_io.specs.Counts.{Rose, NeverFalls};
 ghost use Rattle.nim_io.specs.Sink.{AppendsFront};
@@ -15,6 +15,7 @@ pub fn write_all<K: Sink>(sink: &mut K, bytes: &[u8]) -> Result<(), WriteFault>
     ensures ok { OnOk result (Appends (K.written sink.old) (K.written sink.new) bytes.now) }
     ensures prefix { OnErr result (AppendsFront (K.written sink.old) (K.written sink.new) bytes.now) }
     ensures cause { OnErr result (Rose (K.faults sink.old) (K.faults sink.new)) }
+    ensures quiet { OnOk result (K.faults sink.new ≡ K.faults sink.old) }
     ensures later { NeverFalls (K.faults sink.old) (K.faults sink.new) }
 {
     let mut at = 0;

@@ -8,7 +8,7 @@ use Rattle.std.proofs.lemmas.List.FromFn.{length-map-range_with_len, take-map-ra
 use Rattle.nim_job.specs.declared.block.Block.{Block as job_block}
 use Rattle.nim_job.specs.declared.block.Stage.{Stage as job_stage}
 use Rattle.nim_job.specs.declared.job.Var.{Var as job_var}
-use Rattle.nim_job.specs.Tasks.{turns_of}
+use Rattle.nim_job.specs.Tasks.{task_count}
 use Rattle.nim_job.specs.Whole.{is_block, is_stage}
 use Rattle.nim_parse.specs.declared.tree.Block.{Block}
 use Rattle.nim_parse.specs.declared.tree.Stage.{Stage}
@@ -43,13 +43,13 @@ block_for vars line block = record {
 -- what a whole block gives
 record IsWhole (vars : List job_var) (block : job_block) : Type 0 where
   pub few : block.args ≤ 8
-  pub tasks : sum_by (turns_of vars) block.stages ≤ 1024
+  pub tasks : sum_by (task_count vars) block.stages ≤ 1024
   pub stages : list_all (is_stage vars block.args) block.stages ≡ true
 
 whole_block : (vars : List job_var) (block : job_block) → is_block vars block ≡ true → IsWhole vars block
 whole_block vars block is =
-    let parts = parts3 (nat_le block.args 8) (nat_le (sum_by (turns_of vars) block.stages) 1024) (list_all (is_stage vars block.args) block.stages) is in
-    record { few = leb-true block.args 8 parts.0; tasks = leb-true (sum_by (turns_of vars) block.stages) 1024 parts.1; stages = parts.2 }
+    let parts = parts3 (nat_le block.args 8) (nat_le (sum_by (task_count vars) block.stages) 1024) (list_all (is_stage vars block.args) block.stages) is in
+    record { few = leb-true block.args 8 parts.0; tasks = leb-true (sum_by (task_count vars) block.stages) 1024 parts.1; stages = parts.2 }
 
 -- ---- read back
 

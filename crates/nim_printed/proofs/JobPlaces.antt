@@ -9,7 +9,7 @@ use Rattle.nim_job.specs.declared.block.Ref.{Ref as job_ref}
 use Rattle.nim_job.specs.declared.block.Stage.{Stage as job_stage}
 use Rattle.nim_job.specs.declared.job.Var.{Var as job_var}
 use Rattle.nim_job.specs.Objects.{first_object, objects_of, parts_of}
-use Rattle.nim_job.specs.Tasks.{object_of, part_of, turns_of}
+use Rattle.nim_job.specs.Tasks.{object_meant, part_of, task_count}
 use Rattle.nim_job.specs.Whole.{are_distinct, has_distinct}
 use Rattle.nim_printed.proofs.JobLists.{all_same, map_same}
 use Rattle.nim_printed.proofs.JobVars.{objects_unloaded, unloaded_vars, without}
@@ -22,7 +22,7 @@ parts_unloaded (v ∷ vars) (suc var) = parts_unloaded vars var
 first_unloaded : (vars : List job_var) (var : ℕ) → first_object (unloaded_vars vars) var ≡ first_object vars var
 first_unloaded vars var = ap objects_of (take-map without var vars) ∙ objects_unloaded (take var vars)
 
-object_unloaded : (vars : List job_var) (i : ℕ) (ref : job_ref) → object_of (unloaded_vars vars) i ref ≡ object_of vars i ref
+object_unloaded : (vars : List job_var) (i : ℕ) (ref : job_ref) → object_meant (unloaded_vars vars) i ref ≡ object_meant vars i ref
 object_unloaded vars i ref =
     ap₂ (λ (first parts : ℕ). let object : Object = record { 0 = first + part_of ref.place i parts } in object) (first_unloaded vars ref.var) (parts_unloaded vars ref.var)
 
@@ -31,12 +31,12 @@ written_unloaded : (vars : List job_var) (ref : Option job_ref)
 written_unloaded vars None = refl
 written_unloaded vars (Some ref) = parts_unloaded vars ref.var
 
-pub turns_unloaded : (vars : List job_var) (stage : job_stage) → turns_of (unloaded_vars vars) stage ≡ turns_of vars stage
+pub turns_unloaded : (vars : List job_var) (stage : job_stage) → task_count (unloaded_vars vars) stage ≡ task_count vars stage
 turns_unloaded vars stage = ap (λ (n : ℕ). if stage.each then n else 1) (written_unloaded vars (slice_get stage.writes 0))
 
 pub distinct_unloaded : (vars : List job_var) (stage : job_stage) → has_distinct (unloaded_vars vars) stage ≡ has_distinct vars stage
 distinct_unloaded vars stage =
-    ap (λ (turns : ℕ). list_all (λ i. are_distinct (map (object_of (unloaded_vars vars) i) stage.writes)) (range_with_len 0 turns)) (turns_unloaded vars stage)
-    ∙ all_same (λ i. are_distinct (map (object_of (unloaded_vars vars) i) stage.writes)) (λ i. are_distinct (map (object_of vars i) stage.writes))
-    (λ i. ap are_distinct (map_same (object_of (unloaded_vars vars) i) (object_of vars i) (object_unloaded vars i) stage.writes))
-    (range_with_len 0 (turns_of vars stage))
+    ap (λ (turns : ℕ). list_all (λ i. are_distinct (map (object_meant (unloaded_vars vars) i) stage.writes)) (range_with_len 0 turns)) (turns_unloaded vars stage)
+    ∙ all_same (λ i. are_distinct (map (object_meant (unloaded_vars vars) i) stage.writes)) (λ i. are_distinct (map (object_meant vars i) stage.writes))
+    (λ i. ap are_distinct (map_same (object_meant (unloaded_vars vars) i) (object_meant vars i) (object_unloaded vars i) stage.writes))
+    (range_with_len 0 (task_count vars stage))

@@ -16,7 +16,7 @@ use Rattle.nim_job.specs.declared.block.Place.TheVariants.{Fixed, Plus, Minus}
 use Rattle.nim_job.specs.declared.block.Ref.{Ref as job_ref}
 use Rattle.nim_job.specs.declared.block.Stage.{Stage as job_stage}
 use Rattle.nim_job.specs.declared.job.Var.{Var as job_var}
-use Rattle.nim_job.specs.Tasks.{turns_of}
+use Rattle.nim_job.specs.Tasks.{task_count}
 use Rattle.nim_job.specs.Whole.{has_distinct, is_param, is_place, is_ref, is_stage}
 use Rattle.nim_parse.specs.declared.tree.Block.{Block}
 use Rattle.nim_parse.specs.declared.tree.Ref.{Ref}
@@ -142,7 +142,7 @@ record IsSound (vars : List Var) (block : Block) (before : List Stage) (stage : 
   pub own : (not stage.each && list_any (λ (ref : Ref). is_own ref.index) (refs_of stage)) ≡ false
   pub distinct : has_distinct (map var_of vars) (stage_of (var_names vars) block.arguments stage) ≡ true
   pub known : list_all (is_known block.arguments) stage.parameters ≡ true
-  pub tasks : sum_by (turns_of (map var_of vars)) (map (stage_of (var_names vars) block.arguments) (before ++ stage ∷ [])) ≤ 1024
+  pub tasks : sum_by (task_count (map var_of vars)) (map (stage_of (var_names vars) block.arguments) (before ++ stage ∷ [])) ≤ 1024
 
 stage_passes : (vars : List Var) (block : Block) (before : List Stage) (stage : Stage) → IsSound vars block before stage → rule_of (at_stage vars block before stage) ≡ None
 unfolding rule_of
@@ -154,7 +154,7 @@ stage_passes vars block before stage sound =
     (no_rule (rule_48 site) 48 _ sound.own
     (no_rule (rule_49 site) 49 _ (not_from_true (has_distinct (map var_of vars) (stage_of (var_names vars) block.arguments stage)) sound.distinct)
     (no_rule (rule_50 site) 50 _ (not_from_true (list_all (is_known block.arguments) stage.parameters) sound.known)
-    (no_rule (rule_51 site) 51 _ (le-ltb 1024 (sum_by (turns_of (map var_of vars)) (map (stage_of (var_names vars) block.arguments) (before ++ stage ∷ []))) sound.tasks) refl))))))
+    (no_rule (rule_51 site) 51 _ (le-ltb 1024 (sum_by (task_count (map var_of vars)) (map (stage_of (var_names vars) block.arguments) (before ++ stage ∷ []))) sound.tasks) refl))))))
 
 -- what the variables before a block are
 pub record AreThere (tree_vars : List Var) (vars : List job_var) : Type 0 where
@@ -164,7 +164,7 @@ pub record AreThere (tree_vars : List Var) (vars : List job_var) : Type 0 where
 
 sound_stage : (tree_vars : List Var) (vars : List job_var) (block : Block) (args : ℕ) (before : List Stage) (done : List job_stage) (line : ℕ) (stage : job_stage) → AreThere tree_vars vars
     → block.arguments ≡ arguments args → args ≤ 8 → map (stage_of (var_names tree_vars) block.arguments) before ≡ done → is_stage vars args stage ≡ true
-    → sum_by (turns_of vars) (done ++ stage ∷ []) ≤ 1024 → IsSound tree_vars block before (stage_for vars line stage)
+    → sum_by (task_count vars) (done ++ stage ∷ []) ≤ 1024 → IsSound tree_vars block before (stage_for vars line stage)
 sound_stage tree_vars vars block args before done line stage there takes few is_done is total =
     let whole = whole_stage vars args stage is in
     let s = stage_for vars line stage in
@@ -174,9 +174,9 @@ sound_stage tree_vars vars block args before done line stage there takes few is_
     let is_named = λ (ref : Ref). is_in (names_of_vars vars) ref.name in
     let back : stage_of (var_names tree_vars) block.arguments s ≡ stage =
     ap₂ (λ (names args : List Word). stage_of names args s) there.named takes ∙ stage_back vars args line stage there.once few is in
-    let sums = ap (sum_by (turns_of (map var_of tree_vars)))
+    let sums = ap (sum_by (task_count (map var_of tree_vars)))
     (map_push (stage_of (var_names tree_vars) block.arguments) before s ∙ ap₂ (λ (xs : List job_stage) (x : job_stage). xs ++ x ∷ []) is_done back)
-    ∙ ap (λ (vs : List job_var). sum_by (turns_of vs) (done ++ stage ∷ [])) there.back ∙ sum_same (turns_of (unloaded_vars vars)) (turns_of vars) (turns_unloaded vars) (done ++ stage ∷ []) in
+    ∙ ap (λ (vs : List job_var). sum_by (task_count vs) (done ++ stage ∷ [])) there.back ∙ sum_same (task_count (unloaded_vars vars)) (task_count vars) (turns_unloaded vars) (done ++ stage ∷ []) in
     record {
       function = ap is_none (func_back stage.func);
       counts = counts;
@@ -192,7 +192,7 @@ sound_stage tree_vars vars block args before done line stage there takes few is_
 
 pub stages_pass : (tree_vars : List Var) (vars : List job_var) (block : Block) (args : ℕ) (before : List Stage) (done stages : List job_stage) (line : ℕ) → AreThere tree_vars vars
     → block.arguments ≡ arguments args → args ≤ 8 → map (stage_of (var_names tree_vars) block.arguments) before ≡ done → list_all (is_stage vars args) stages ≡ true
-    → sum_by (turns_of vars) (done ++ stages) ≤ 1024 → first_refusal (stage_sites tree_vars block before (stages_for vars line stages)) ≡ None
+    → sum_by (task_count vars) (done ++ stages) ≤ 1024 → first_refusal (stage_sites tree_vars block before (stages_for vars line stages)) ≡ None
 stages_pass tree_vars vars block args before done [] line there takes few is_done all total = refl
 stages_pass tree_vars vars block args before done (stage ∷ stages) line there takes few is_done all total =
     let parts = and_parts (is_stage vars args stage) (list_all (is_stage vars args) stages) all in
@@ -200,9 +200,9 @@ stages_pass tree_vars vars block args before done (stage ∷ stages) line there 
     let read = stage_of (var_names tree_vars) block.arguments in
     let back : read s ≡ stage = ap₂ (λ (names args : List Word). stage_of names args s) there.named takes ∙ stage_back vars args line stage there.once few parts.0 in
     let next : map read (before ++ s ∷ []) ≡ done ++ stage ∷ [] = map_push read before s ∙ ap₂ (λ (xs : List job_stage) (x : job_stage). xs ++ x ∷ []) is_done back in
-    let total_next : sum_by (turns_of vars) ((done ++ stage ∷ []) ++ stages) ≤ 1024 =
-    subst (λ (xs : List job_stage). sum_by (turns_of vars) xs ≤ 1024) (sym (append_assoc done (stage ∷ []) stages)) total in
-    let total_here : sum_by (turns_of vars) (done ++ stage ∷ []) ≤ 1024 = omega (arith, total_next, sum_by-append (turns_of vars) (done ++ stage ∷ []) stages) in
+    let total_next : sum_by (task_count vars) ((done ++ stage ∷ []) ++ stages) ≤ 1024 =
+    subst (λ (xs : List job_stage). sum_by (task_count vars) xs ≤ 1024) (sym (append_assoc done (stage ∷ []) stages)) total in
+    let total_here : sum_by (task_count vars) (done ++ stage ∷ []) ≤ 1024 = omega (arith, total_next, sum_by-append (task_count vars) (done ++ stage ∷ []) stages) in
     passes_on (at_stage tree_vars block before s) (stage_sites tree_vars block (before ++ s ∷ []) (stages_for vars (line + 1) stages))
     (stage_passes tree_vars block before s (sound_stage tree_vars vars block args before done line stage there takes few is_done parts.0 total_here))
     (stages_pass tree_vars vars block args (before ++ s ∷ []) (done ++ stage ∷ []) stages (line + 1) there takes few next parts.1 total_next)

@@ -1,22 +1,23 @@
 -- Where a controller stands in its job, and what a turn of it does.
-use Rattle.std.specs.Prelude.{◌≡◌, ℕ, ◌+◌, ◌<◌, ◌≤◌, true, false, None, List, [], ◌∷◌, length, map, slice_get}
+use Rattle.std.specs.Prelude.{◌≡◌, ℕ, ℤ, ◌+◌, ◌<◌, ◌≤◌, true, false, None, List, [], ◌∷◌, length, map, slice_get, slice_index_or}
 use Rattle.std.specs.Option.{option_map_or}
 use Rattle.nim_base.specs.declared.task.Task.{Task}
 use Rattle.nim_base.specs.declared.task.TaskForm.{TaskForm}
-use Rattle.nim_base.specs.Value.{Grid}
+use Rattle.nim_base.specs.Value.{Grid, cell_of, empty_grid}
 use Rattle.nim_message.specs.declared.order.ToWorker.{ToWorker}
 use Rattle.nim_job.specs.declared.ask.Ask.{Ask}
 use Rattle.nim_job.specs.declared.block.Block.{Block}
 use Rattle.nim_job.specs.declared.job.Job.{Job}
 use Rattle.nim_job.specs.declared.job.Var.{Var}
-use Rattle.nim_job.specs.Machine.{Machine, after_ask, ask_of, machine_at}
-use Rattle.nim_job.specs.Objects.{objects_of, parts_at}
-use Rattle.nim_job.specs.Serial.{driver_at, serial_of, tasks_of}
+use Rattle.nim_job.specs.Follows.{StandsAt, state_at}
+use Rattle.nim_job.specs.Machine.{Machine, after_ask, ask_of}
+use Rattle.nim_job.specs.Objects.{objects_of, parts_at, value_at}
+use Rattle.nim_job.specs.Serial.{serial_of, tasks_of}
 use Rattle.nim_job.specs.Step.{texts_of}
 use Rattle.nim_job.specs.Tasks.{forms_of}
 use Rattle.nim_job.specs.Versions.{values_after}
 use Rattle.nim_top.specs.declared.awaited.Awaited.{Awaited}
-use Rattle.nim_top.specs.declared.awaited.Awaited.TheVariants.{Nothing, Parts}
+use Rattle.nim_top.specs.declared.awaited.Awaited.TheVariants.{Nothing, Cell, Parts}
 use Rattle.nim_top.specs.declared.control.Control.{Control}
 use Rattle.nim_top.specs.declared.control.Turn.{Turn}
 use Rattle.nim_top.specs.declared.control.Turn.TheVariants.{Orders, Finished, Limit}
@@ -26,8 +27,8 @@ use Rattle.nim_top.specs.Leads.{Leads, LeadsOn}
 
 -- the machine and the tasks that were given are those of the job after as many steps as are counted
 pub record IsAt (job : Job) (m : Machine) (tasks : ℕ) : Type 0 where
-  pub machine : m ≡ machine_at job (driver_at job m.driver.count)
-  pub position : tasks ≡ (driver_at job m.driver.count).position
+  pub stands : StandsAt job m
+  pub position : tasks ≡ (state_at job m).position
 
 -- Nothing is unanswered. Where too much was printed the job passes its limits, else all is at a state of the job.
 pub record IsOpen (job : Job) (m : Machine) (position : ℕ) : Type 0 where
@@ -46,12 +47,18 @@ pub record HasAsked (job : Job) (ask : Ask) (m : Machine) (position : ℕ) : Typ
 -- what is unanswered while values are awaited
 abbrev pub Awaits : Job → Awaited → Machine → ℕ → Type 0
 Awaits job Nothing m position = IsOpen job m position
+Awaits job (Cell object row cell) m position = HasAsked job (Ask.Get object row cell) m position
 Awaits job (Parts var) m position = HasAsked job (Ask.Output var) m position
 
--- the values that are awaited: what the parts of a variable hold
+-- the values that are awaited: what an object holds, or the parts of a variable
 abbrev pub wanted : Job → ℕ → Awaited → List Grid
 wanted job position Nothing = []
+wanted job position (Cell object row cell) = value_at (values_after job position) object ∷ []
 wanted job position (Parts var) = parts_at job.vars (values_after job position) var
+
+-- a cell of the first of these values
+abbrev pub cell_in : List Grid → ℕ → ℕ → ℤ
+cell_in values row cell = cell_of (slice_index_or values 0 empty_grid) row cell
 
 -- what is printed of a variable whose parts have these values
 abbrev pub printed_of : List Var → ℕ → List Grid → List ℕ

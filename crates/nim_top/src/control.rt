@@ -1,6 +1,6 @@
 ghost use Rattle.std.specs.Prelude.{◌≡◌, ◌+◌, ◌^◌, ◌<◌, ◌++◌, [], length, slice_index_or, IfOk, IsTrue, OnOk};
 ghost use Rattle.nim_job.specs.Objects.{first_object, parts_of};
-ghost use Rattle.nim_job.specs.Whole.{is_plain, is_whole};
+ghost use Rattle.nim_job.specs.Whole.{is_whole};
 ghost use Rattle.nim_top.specs.declared.awaited.Awaited.{Awaited as awaited_values};
 ghost use Rattle.nim_top.specs.Controls.{Controls, HasAll, IsSettled, IsTurn};
 ghost use Rattle.nim_top.specs.Leads.{value_in};
@@ -9,8 +9,8 @@ ghost use Rattle.nim_top.specs.Orders.{fetch_orders_of, task_orders_of};
 use crate::awaited::Awaited;
 use crate::blocks::all_forms;
 use crate::order_lists::{fetch_orders, task_orders};
-use crate::values::{first_object, printed};
-use nim_base::{Instance, NoMemory, Position, Seq, TaskForm, Value};
+use crate::values::{cell_in, first_object, printed};
+use nim_base::{Instance, NoMemory, Object, Position, Seq, TaskForm, Value};
 use nim_job::{Ask, DriverMachine, Job};
 use nim_message::{FromWorker, ToWorker};
 use std::alloc::Global;
@@ -48,7 +48,7 @@ pub struct Control {
 impl Control {
     /// Stands at the start of a job, where the worker was given the first orders (`first_orders`).
     pub fn new(alloc: Global, job: &Job) -> Result<Control, NoMemory>
-        requires plain { IsTrue (is_plain job.now) }
+        requires whole { IsTrue (is_whole job.now) }
         ensures controls { IfOk result (λ control. Controls job.now control) }
         ensures position { IfOk result (λ control. control.position ≡ 0) }
         ensures awaited { IfOk result (λ control. HasAll job.now control) }
@@ -67,13 +67,12 @@ impl Control {
 
     /// Goes on to the next orders or to the end. All that was awaited is handed in.
     pub fn turn(&mut self, job: &Job) -> Result<Turn, NoMemory>
-        requires plain { IsTrue (is_plain job.now) }
+        requires whole { IsTrue (is_whole job.now) }
         requires controls { Controls job.now self.old }
         requires values { HasAll job.now self.old }
         ensures { IfOk result (IsTurn job.now self.old self.new) }
     {
         self.settle(job)?;
-        let _printed = self.machine.output();
         match self.machine.next()? {
             Ask::Run { block, args } => {
                 let orders = self.run_block(block, args.as_slice())?;
@@ -86,8 +85,14 @@ impl Control {
             }
             Ask::Finished => Ok(Turn::Finished),
             Ask::Limit => Ok(Turn::Limit),
-            Ask::Get { .. } => Ok(Turn::Limit),
-            Ask::Checkpoint => Ok(Turn::Limit),
+            Ask::Get { object, row, cell } => {
+                let orders = self.fetch_cell(object, row, cell)?;
+                Ok(Turn::Orders(orders))
+            }
+            Ask::Checkpoint => {
+                self.machine.answer(0);
+                Ok(Turn::Orders(Vec::new(self.alloc)))
+            }
         }
     }
 
@@ -112,13 +117,20 @@ impl Control {
 
     // Answers what was asked, by the values that were handed in.
     fn settle(&mut self, job: &Job) -> Result<(), NoMemory>
-        requires plain { IsTrue (is_plain job.now) }
+        requires whole { IsTrue (is_whole job.now) }
         requires controls { Controls job.now self.old }
         requires values { HasAll job.now self.old }
         ensures { OnOk result (IsSettled job.now self.old self.new) }
     {
         match self.awaited {
             Awaited::Nothing => Ok(()),
+            Awaited::Cell { row, cell, .. } => {
+                let told = cell_in(self.values.as_slice(), row, cell);
+                self.machine.answer(told);
+                self.values.clear();
+                self.awaited = Awaited::Nothing;
+                Ok(())
+            }
             Awaited::Parts { var } => {
                 let text = printed(self.alloc, job, var, self.values.as_slice())?;
                 self.machine.append(&text)?;
@@ -142,6 +154,23 @@ impl Control {
         let orders = task_orders(self.alloc, self.position, self.instance, 32, forms, args)?;
         self.position += forms.len() as u64;
         self.instance = self.instance.saturating_add(1);
+        Ok(orders)
+    }
+
+    // The order that asks for what an object has, of which a cell is awaited from now on.
+    fn fetch_cell(
+        &mut self,
+        object: Object,
+        row: u64,
+        cell: u64,
+    ) -> Result<Vec<ToWorker>, NoMemory>
+        requires { object.0 < 512 }
+        ensures orders { IfOk result (λ orders. orders.items ≡ fetch_orders_of object.0 self.old.ticket 1) }
+        ensures rest { OnOk result (self.new ≡ record self.old { ticket = self.new.ticket; awaited = awaited_values.Cell object row cell }) }
+    {
+        let orders = fetch_orders(self.alloc, object.0, self.ticket, 1)?;
+        self.ticket = self.ticket.saturating_add(1);
+        self.awaited = Awaited::Cell { object, row, cell };
         Ok(orders)
     }
 

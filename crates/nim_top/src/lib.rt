@@ -3,16 +3,20 @@
 
 mod awaited;
 mod blocks;
+mod check;
 mod control;
-mod first_path;
+mod load;
 mod order_lists;
 mod orders;
+mod read;
 mod replay;
 mod run;
 mod status;
+mod tell;
 mod trace;
 mod values;
 mod words;
 
+pub use check::top_check;
 pub use replay::top_replay;
 pub use status::Status;

@@ -1,7 +1,7 @@
 ghost use Rattle.std.specs.Prelude.{◌≡◌, ◌++◌, ℕ, [], IfOk, IfSome, IfNone, IsTrue, None, List, OnOk};
 ghost use Rattle.nim_job.specs.declared.job.Job.{Job as job_type};
 ghost use Rattle.nim_job.specs.Serial.{serial_of};
-ghost use Rattle.nim_job.specs.Whole.{is_plain, is_whole};
+ghost use Rattle.nim_job.specs.Whole.{is_whole};
 ghost use Rattle.nim_message.specs.declared.order.ToWorker.{ToWorker as order_type};
 ghost use Rattle.nim_worker.specs.Stands.{Stands, reports_in};
 ghost use Rattle.nim_top.specs.Carries.{IsBusy, IsIdle, IsPerformed, Rests};
@@ -21,7 +21,7 @@ use std::collections::VecDeque;
 /// Has the tasks of a job run one after another, and gives the machine that stands at its end and has
 /// what the job prints; nothing where the job passes its limits.
 pub fn run(alloc: Global, job: &Job) -> Result<Option<DriverMachine>, NoMemory>
-    requires { IsTrue (is_plain job.now) }
+    requires { IsTrue (is_whole job.now) }
     ensures output { IfOk result (λ end. IfSome end (λ m. serial_of job.now ≡ record { status = 0; bytes = m.driver.output })) }
     ensures limit { IfOk result (λ end. IfNone end (serial_of job.now ≡ record { status = 4; bytes = [] })) }
 {
@@ -34,7 +34,7 @@ fn drive(
     job: &Job,
     trace: &mut Option<Trace>,
 ) -> Result<Option<DriverMachine>, NoMemory>
-    requires { IsTrue (is_plain job.now) }
+    requires { IsTrue (is_whole job.now) }
     ensures output { IfOk result (λ end. IfSome end (λ m. serial_of job.now ≡ record { status = 0; bytes = m.driver.output })) }
     ensures limit { IfOk result (λ end. IfNone end (serial_of job.now ≡ record { status = 4; bytes = [] })) }
 {

@@ -1,5 +1,5 @@
 ghost use Rattle.std.specs.Prelude.{◌≡◌};
-ghost use Rattle.nim_top.specs.Answer.{status_text};
+ghost use Rattle.nim_top.specs.Answer.{status_of, status_text, text_of};
 
 /// How a command ended: the status that the program ends with.
 #[derive(Clone, Copy, Debug, PartialEq, Eq)]
@@ -21,18 +21,63 @@ impl Status {
     /// The output couldn't be written.
     pub const WRITE: Status = Status(7);
 
-    /// What is told on standard error: a line, or nothing where all is done.
+    /// What is told on standard error, a line; nothing where all is done, nor of a refusal, whose line names the place.
     pub fn text(self) -> &'static str
         ensures { result.now ≡ status_text self.0 }
     {
         match self.0 {
             1 => "nimbus: words refused\n",
-            2 => "nimbus: driver line 0 rule 99\n",
             3 => "nimbus: memory\n",
             4 => "nimbus: limit\n",
             6 => "nimbus: read fault\n",
             7 => "nimbus: write fault\n",
             _ => "",
+        }
+    }
+}
+
+/// How a command ended, with all that is told of it. When each comes is `Ends` of `specs/Answer.antt`.
+#[derive(Debug, Drop)]
+pub enum Outcome {
+    /// What the command asks for is done.
+    Done,
+    /// The words aren't the command's.
+    Words,
+    /// A file is refused, as this line says.
+    Refused(String),
+    /// Memory was refused.
+    Memory,
+    /// The job passes its limits.
+    Limit,
+    /// A file couldn't be read.
+    Read,
+    /// The output couldn't be written.
+    Write,
+}
+
+impl Outcome {
+    /// The status that the program ends with.
+    pub fn status(&self) -> Status
+        ensures { result.0 ≡ status_of self.now }
+    {
+        match self {
+            Outcome::Done => Status::DONE,
+            Outcome::Words => Status::WORDS,
+            Outcome::Refused(_) => Status::REFUSED,
+            Outcome::Memory => Status::MEMORY,
+            Outcome::Limit => Status::LIMIT,
+            Outcome::Read => Status::READ,
+            Outcome::Write => Status::WRITE,
+        }
+    }
+
+    /// What is told on standard error.
+    pub fn text(&self) -> &str
+        ensures { result.now ≡ text_of self.now }
+    {
+        match self {
+            Outcome::Refused(line) => line.as_str(),
+            other => other.status().text(),
         }
     }
 }

@@ -1,6 +1,8 @@
 ghost use Rattle.std.specs.Prelude.{◌≡◌, ◌<◌, ◌≤◌, length, IfOk};
 ghost use Rattle.nim_job.specs.Objects.{first_object, objects_of, parts_of};
 ghost use Rattle.nim_job.specs.Step.{texts_of};
+ghost use Rattle.nim_base.specs.Value.{cell_of};
+ghost use Rattle.nim_top.specs.Controls as spec;
 ghost use Rattle.nim_top.specs.Controls.{printed_of};
 
 use nim_base::{NoMemory, Value, value_text};
@@ -28,6 +30,28 @@ pub fn first_object(vars: &[Var], var: usize) -> usize
         first += before.parts as usize;
     }
     first
+}
+
+/// A cell of the first of these values; 0 where there is none.
+pub fn cell_in(values: &[Value], row: u64, cell: u64) -> i64
+    ensures { result ≡ spec.cell_in values.now row cell }
+{
+    match values.first() {
+        Some(value) => cell_of(value, row, cell),
+        None => 0,
+    }
+}
+
+// A cell of a value; 0 where there is none.
+fn cell_of(value: &Value, row: u64, cell: u64) -> i64
+    ensures { result ≡ cell_of value.now row cell }
+{
+    let _shaped = value.cells();
+    if row < u64::from(value.rows()) && cell < u64::from(value.width()) {
+        value.cell(row as u32, cell as u32)
+    } else {
+        0
+    }
 }
 
 // The texts of the parts, which are so many.

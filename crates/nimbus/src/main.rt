@@ -2,7 +2,7 @@
 #![tactic(auto)]
 
 use nim_io::{HostFiles, HostSink, write_all};
-use nim_top::{Status, top_replay};
+use nim_top::{Status, top_check, top_replay};
 use std::alloc::Global;
 use std::process::ExitCode;
 use std::rt::Env;
@@ -14,7 +14,12 @@ fn main(rt: HostRuntime) -> ExitCode {
         Ok(words) => {
             let mut files = HostFiles::new(rt);
             let mut out = HostSink::out(rt.stdout());
-            top_replay(rt.alloc(), words.as_slice(), &mut files, &mut out, &mut err)
+            let words = words.as_slice();
+            if is_check(words) {
+                top_check(rt.alloc(), words, &mut files, &mut out, &mut err)
+            } else {
+                top_replay(rt.alloc(), words, &mut files, &mut out, &mut err)
+            }
         }
         Err(status) => {
             let _ = write_all(&mut err, status.text().as_bytes());
@@ -22,6 +27,11 @@ fn main(rt: HostRuntime) -> ExitCode {
         }
     };
     ExitCode::from(status.0)
+}
+
+// Whether the command is `check`. Any other words, also none, are for `replay` to take or to refuse.
+fn is_check(words: &[String]) -> bool {
+    words.first().is_some_and(|command| command.as_str() == "check")
 }
 
 // The words behind the program's name. One that isn't text makes the command line a faulty one.

@@ -1,6 +1,6 @@
 use Rattle.std.proofs.Common.{◌≡◌, ◌≤◌, true, map, take, drop, [], length}
 use Rattle.std.specs.List.{list_all, sum_by}
-use Rattle.nim_job.specs.Tasks.{turns_of}
+use Rattle.nim_job.specs.Tasks.{task_count}
 use Rattle.nim_job.specs.Whole.{is_stage}
 use Rattle.nim_check.specs.Made.{stage_of, var_names}
 use Rattle.nim_check.specs.Refusals.{first_refusal}
@@ -12,6 +12,6 @@ invariant-loop-at l = record {
   sites : first_refusal (stage_sites l.vars l.block (take l.at l.stages) (drop l.at l.stages)) ≡ first_refusal (stage_sites l.vars l.block [] l.stages);
   made : l.made ≡ map (stage_of (var_names l.vars) l.block.arguments) (take l.at l.stages);
   whole : list_all (is_stage l.job_vars (length l.block.arguments)) l.made ≡ true;
-  tasks : l.tasks ≡ sum_by (turns_of l.job_vars) l.made;
+  tasks : l.tasks ≡ sum_by (task_count l.job_vars) l.made;
   few : l.tasks ≤ 1024;
 }

@@ -1,16 +1,8 @@
-use Rattle.std.proofs.Common.{sym, subst, ◌∙◌, List, ℕ}
-use Rattle.nim_io.specs.Sink.{AppendsFront}
-use Rattle.nim_top.proofs.Ends.{cut_short, no_limit}
+use Rattle.nim_top.proofs.Ends.{finishes}
 use Rattle.nim_top.proofs.replay.answer.Goals as goal
 
-pub returns-in-Ok-Some-run-clause-cut_short : goal.returns-in-Ok-Some-run-clause-cut_short
-returns-in-Ok-Some-run-clause-cut_short g c = λ seven.
-    let ends = rw c.in-Ok-Some-run.field-0-is at c.in-Ok-Some-run.ensures.output in
-    cut_short c.args.bytes.now c.in-Ok-Some.job c.in-Ok-Some-run.machine.driver.output (g.K.Sink.written c.args.out.now) (g.K.Sink.written c.print.new.out)
-    (sym c.in-Ok-Some.ensures.job ∙ c.in-Ok-Some.field-0-is) ends
-    (subst (λ (output : List ℕ). AppendsFront (g.K.Sink.written c.args.out.now) (g.K.Sink.written c.print.new.out) output) c.output.ensures.output (c.print.ensures.cut_short seven))
-
-pub returns-in-Ok-None-run-clause-ends : goal.returns-in-Ok-None-run-clause-ends
-returns-in-Ok-None-run-clause-ends g c = λ _.
-    let limit = rw c.in-Ok-None-run.field-0-is at c.in-Ok-None-run.ensures.limit in
-    no_limit c.args.bytes.now c.in-Ok-Some.job (sym c.in-Ok-Some.ensures.job ∙ c.in-Ok-Some.field-0-is) limit
+pub returns-in-Ok-Some : goal.returns-in-Ok-Some
+returns-in-Ok-Some g c =
+    let ends = rw c.in-Ok-Some.field-0-is at c.in-Ok-Some.ensures.output in
+    finishes c.args.job.now c.output.result.now c.in-Ok-Some.machine.driver.output (g.K.Sink.written c.args.out.now) (g.K.Sink.written c.print.new.out)
+    (g.K.Sink.faults c.args.out.now) (g.K.Sink.faults c.print.new.out) c.print.result ends c.output.ensures.output c.print.ensures

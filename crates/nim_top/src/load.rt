@@ -1,0 +1,74 @@
+ghost use Rattle.std.specs.Prelude.{◌≡◌, IfErr, IfOk, true};
+ghost use Rattle.nim_io.specs.Counts.{Rose};
+ghost use Rattle.nim_top.specs.Answer.{AreOf, IsOf, IsUnloaded, IsUnread, OfFile, OfFiles};
+ghost use Rattle.nim_top.specs.Words.{is_accepted, texts_of, word_of};
+
+use crate::status::Outcome;
+use crate::words::{WordsFault, given};
+use nim_io::{Files, LoadFault, read_all};
+use std::alloc::Global;
+
+/// The most bytes that a driver may have.
+const DRIVER_LIMIT: usize = 1_048_576;
+
+/// The most bytes that a data file may have.
+const DATA_LIMIT: usize = 33_554_432;
+
+/// What was read of a file. One that is too long isn't refused before it is its turn.
+#[derive(Debug, Drop)]
+pub enum FileText {
+    Whole(Vec<u8>),
+    TooLong,
+}
+
+/// What was read of a driver and of its data.
+#[derive(Debug, Drop)]
+pub struct Inputs {
+    pub driver: FileText,
+    pub data_file: FileText,
+}
+
+/// Reads the files that the words of this command name, first the driver. A file that isn't named is empty.
+pub fn load<L: Files>(
+    alloc: Global,
+    command: &str,
+    words: &[String],
+    files: &mut L,
+) -> Result<Inputs, Outcome>
+    ensures accepted { IfOk result (λ inputs. is_accepted command.now (texts_of words.now) ≡ true) }
+    ensures inputs { IfOk result (λ inputs. OfFiles (L.told files.old) (texts_of words.now) (AreOf inputs)) }
+    ensures quiet { IfOk result (λ inputs. L.faults files.new ≡ L.faults files.old) }
+    ensures unloaded { IfErr result (IsUnloaded command.now (texts_of words.now) (L.faults files.old) (L.faults files.new)) }
+{
+    let names = match given(alloc, command, words) {
+        Ok(names) => names,
+        Err(WordsFault::Refused) => return Err(Outcome::Words),
+        Err(WordsFault::NoMemory) => return Err(Outcome::Memory),
+    };
+    let driver = load_one(alloc, files, Some(names.driver), DRIVER_LIMIT)?;
+    let data_file = load_one(alloc, files, names.data_file, DATA_LIMIT)?;
+    Ok(Inputs { driver, data_file })
+}
+
+// Reads one file, of which at most so many bytes are wanted.
+fn load_one<L: Files>(
+    alloc: Global,
+    files: &mut L,
+    name: Option<&str>,
+    most: usize,
+) -> Result<FileText, Outcome>
+    ensures text { IfOk result (λ text. OfFile (L.told files.old) (word_of name.entry) (IsOf most text)) }
+    ensures quiet { IfOk result (λ text. L.faults files.new ≡ L.faults files.old) }
+    ensures unread { IfErr result (IsUnread (L.faults files.old) (L.faults files.new)) }
+    ensures same { L.told files.new ≡ L.told files.old }
+{
+    let Some(name) = name else {
+        return Ok(FileText::Whole(Vec::new(alloc)));
+    };
+    match read_all(alloc, files, name, most) {
+        Ok(bytes) => Ok(FileText::Whole(bytes)),
+        Err(LoadFault::TooLong) => Ok(FileText::TooLong),
+        Err(LoadFault::Open | LoadFault::Read) => Err(Outcome::Read),
+        Err(LoadFault::NoMemory) => Err(Outcome::Memory),
+    }
+}

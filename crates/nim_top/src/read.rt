@@ -1,0 +1,68 @@
+ghost use Rattle.std.specs.Prelude.{◌≡◌, ◌<◌, ℕ, List, length, string_bytes, IfOk, IsTrue};
+ghost use Rattle.nim_job.specs.Whole.{is_whole};
+ghost use Rattle.nim_check.specs.Refusals.{IsFileRefusal, refused};
+ghost use Rattle.nim_top.specs.Answer.{AreOf, IsLine, Reads, refusal_line};
+
+use crate::load::{FileText, Inputs};
+use crate::status::Outcome;
+use nim_check::{CheckFault, Input, ReadFault, read_driver, read_job};
+use nim_job::Job;
+use std::alloc::{AllocError, Global};
+
+/// The job of a driver and its data, or why they are refused.
+pub fn read(alloc: Global, inputs: &Inputs) -> Result<Job, ReadFault>
+    ensures reads { (driver file : List ℕ) → AreOf inputs.now driver file → Reads driver file result }
+    ensures whole { IfOk result (λ job. IsTrue (is_whole job)) }
+{
+    match (&inputs.driver, &inputs.data_file) {
+        (FileText::Whole(driver), FileText::Whole(data_file)) => read_job(alloc, driver, data_file),
+        (FileText::Whole(driver), FileText::TooLong) => Err(refused_data(alloc, driver)),
+        (FileText::TooLong, _) => Err(ReadFault::At {
+            input: Input::Driver,
+            line: 0,
+            rule: 1,
+        }),
+    }
+}
+
+// Why a driver or, where no rule refuses it, its data are refused, which are too long.
+fn refused_data(alloc: Global, driver: &[u8]) -> ReadFault
+    ensures { (file : List ℕ) → 33554432 < length file → IsFileRefusal (refused driver.now file) result }
+{
+    match read_driver(alloc, driver) {
+        Ok(_job) => ReadFault::At {
+            input: Input::Data,
+            line: 0,
+            rule: 70,
+        },
+        Err(CheckFault::At { line, rule }) => ReadFault::At {
+            input: Input::Driver,
+            line,
+            rule,
+        },
+        Err(CheckFault::NoMemory) => ReadFault::NoMemory,
+    }
+}
+
+/// The outcome of files that are refused.
+pub fn refused(alloc: Global, fault: ReadFault) -> Outcome
+    ensures { IsLine fault result }
+{
+    match fault {
+        ReadFault::At { input, line, rule } => match refusal_line(alloc, input, line, rule) {
+            Ok(line) => Outcome::Refused(line),
+            Err(_) => Outcome::Memory,
+        },
+        ReadFault::NoMemory => Outcome::Memory,
+    }
+}
+
+// The line that tells a refusal.
+fn refusal_line(alloc: Global, input: Input, line: u32, rule: u8) -> Result<String, AllocError>
+    ensures { IfOk result (λ text. string_bytes text ≡ refusal_line (record { input = input; line = line; rule = rule })) }
+{
+    match input {
+        Input::Driver => format!(in alloc; "nimbus: driver line {line} rule {rule}\n"),
+        Input::Data => format!(in alloc; "nimbus: data line {line} rule {rule}\n"),
+    }
+}
