@@ -11,3 +11,4 @@ pub mod Asking
 pub mod Made
 pub mod Turns
 pub mod Performing
+pub mod Cells

@@ -9,9 +9,9 @@ ghost use Rattle.nim_top.specs.Orders.{fetch_orders_of, task_orders_of};
 use crate::awaited::Awaited;
 use crate::blocks::all_forms;
 use crate::order_lists::{fetch_orders, task_orders};
-use crate::values::{cell_in, first_object, printed};
+use crate::values::{cell_in, printed};
 use nim_base::{Instance, NoMemory, Object, Position, Seq, TaskForm, Value};
-use nim_job::{Ask, DriverMachine, Job};
+use nim_job::{Ask, DriverMachine, Job, first_object};
 use nim_message::{FromWorker, ToWorker};
 use std::alloc::Global;
 
@@ -79,12 +79,6 @@ impl Control {
                 self.machine.answer(0);
                 Ok(Turn::Orders(orders))
             }
-            Ask::Output { var } => {
-                let orders = self.fetch_parts(job, var)?;
-                Ok(Turn::Orders(orders))
-            }
-            Ask::Finished => Ok(Turn::Finished),
-            Ask::Limit => Ok(Turn::Limit),
             Ask::Get { object, row, cell } => {
                 let orders = self.fetch_cell(object, row, cell)?;
                 Ok(Turn::Orders(orders))
@@ -93,6 +87,12 @@ impl Control {
                 self.machine.answer(0);
                 Ok(Turn::Orders(Vec::new(self.alloc)))
             }
+            Ask::Output { var } => {
+                let orders = self.fetch_parts(job, var)?;
+                Ok(Turn::Orders(orders))
+            }
+            Ask::Finished => Ok(Turn::Finished),
+            Ask::Limit => Ok(Turn::Limit),
         }
     }
 
@@ -183,7 +183,7 @@ impl Control {
         ensures rest { OnOk result (self.new ≡ record self.old { ticket = self.new.ticket; awaited = awaited_values.Parts var }) }
     {
         let vars = job.vars.as_slice();
-        let first = first_object(vars, usize::from(var)) as u16;
+        let first = first_object(vars, var);
         let parts = vars[usize::from(var)].parts;
         let orders = fetch_orders(self.alloc, first, self.ticket, parts)?;
         self.ticket = self.ticket.saturating_add(parts);

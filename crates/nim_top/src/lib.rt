@@ -19,4 +19,6 @@ mod words;
 
 pub use check::top_check;
 pub use replay::top_replay;
+pub use run::traced;
 pub use status::Status;
+pub use trace::Trace;

@@ -28,6 +28,15 @@ pub fn run(alloc: Global, job: &Job) -> Result<Option<DriverMachine>, NoMemory>
     drive(alloc, job, &mut None)
 }
 
+/// Does the same, and gives the orders that the worker was given and the reports that it gave, each in order.
+pub fn traced(alloc: Global, job: &Job) -> Result<Trace, NoMemory>
+    requires { IsTrue (is_whole job.now) }
+{
+    let mut trace = Some(Trace::new(alloc));
+    drive(alloc, job, &mut trace)?;
+    trace.ok_or(NoMemory)
+}
+
 /// The same, and keeps what goes between controller and worker where there is a trace.
 fn drive(
     alloc: Global,

@@ -1,12 +1,12 @@
-ghost use Rattle.std.specs.Prelude.{◌≡◌, ◌<◌, ◌≤◌, length, IfOk};
-ghost use Rattle.nim_job.specs.Objects.{first_object, objects_of, parts_of};
-ghost use Rattle.nim_job.specs.Step.{texts_of};
+ghost use Rattle.std.specs.Prelude.{◌≡◌, ◌<◌, length, IfOk};
 ghost use Rattle.nim_base.specs.Value.{cell_of};
+ghost use Rattle.nim_job.specs.Objects.{parts_of};
+ghost use Rattle.nim_job.specs.Step.{texts_of};
 ghost use Rattle.nim_top.specs.Controls as spec;
 ghost use Rattle.nim_top.specs.Controls.{printed_of};
 
 use nim_base::{NoMemory, Value, value_text};
-use nim_job::{Job, Var};
+use nim_job::Job;
 use std::alloc::Global;
 
 /// What `output` prints of a variable whose parts have these values.
@@ -17,19 +17,6 @@ pub fn printed(alloc: Global, job: &Job, var: u8, values: &[Value]) -> Result<Ve
 {
     let var = &job.vars.as_slice()[usize::from(var)];
     texts(alloc, var.name.as_str(), values, var.parts)
-}
-
-/// The object that is part 0 of a variable.
-pub fn first_object(vars: &[Var], var: usize) -> usize
-    requires few { objects_of vars.now ≤ 512 }
-    requires var { var < length vars.now }
-    ensures { result ≡ first_object vars.now var }
-{
-    let mut first = 0usize;
-    for before in &vars[..var] {
-        first += before.parts as usize;
-    }
-    first
 }
 
 /// A cell of the first of these values; 0 where there is none.
@@ -47,11 +34,13 @@ fn cell_of(value: &Value, row: u64, cell: u64) -> i64
     ensures { result ≡ cell_of value.now row cell }
 {
     let _shaped = value.cells();
-    if row < u64::from(value.rows()) && cell < u64::from(value.width()) {
-        value.cell(row as u32, cell as u32)
-    } else {
-        0
+    if row >= u64::from(value.rows()) {
+        return 0;
     }
+    if cell >= u64::from(value.width()) {
+        return 0;
+    }
+    value.cell(row as u32, cell as u32)
 }
 
 // The texts of the parts, which are so many.
