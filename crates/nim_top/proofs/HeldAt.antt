@@ -1,6 +1,6 @@
 -- What main slots hold after each order, and that the orders may be given.
-use Rattle.std.proofs.Common.{◌≡◌, ◌≢◌, ℕ, ◌+◌, ◌<◌, ◌≤◌, suc, zero, Bool, true, false, ℤ, List, [], ◌∷◌, ◌++◌, length, get_or, map, take, replicate, refl, ap, ap₂, sym, subst, ◌∙◌, arith, add-one, Option, None, Some}
-use Rattle.std.specs.Prelude.{◌==◌, ◌%◌, ◌&&◌, ◌||◌, if◌then◌else◌, slice_get, IfSome, IsSomeAnd}
+use Rattle.std.proofs.Common.{◌≡◌, ℕ, ◌+◌, ◌<◌, ◌≤◌, suc, zero, Bool, true, false, ℤ, List, [], ◌∷◌, ◌++◌, length, get_or, map, take, replicate, refl, ap, ap₂, sym, subst, ◌∙◌, arith, add-one, Option, None, Some}
+use Rattle.std.specs.Prelude.{◌==◌, ◌%◌, ◌||◌, if◌then◌else◌, slice_get, IsSomeAnd}
 use Rattle.std.specs.List.{list_all, list_any}
 use Rattle.std.specs.Option.{option_map_or}
 use Rattle.std.proofs.lemmas.Bool.{and_parts, both_ways, eqb-false, eqb-true, ltb-true}

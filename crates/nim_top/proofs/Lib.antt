@@ -4,7 +4,6 @@ pub mod Next
 pub mod NoLimit
 pub mod Numbers
 pub mod Limits
-pub mod LongFiles
 pub mod NamedFiles
 pub mod Ended
 pub mod Stood
