@@ -1,4 +1,3 @@
-pub mod LongFiles
 pub mod NamedFiles
 pub mod Ended
 pub mod Ends

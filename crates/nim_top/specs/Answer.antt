@@ -1,5 +1,5 @@
 -- What a command answers: which files it reads, how it may end, and what is told of that.
-use Rattle.std.specs.Prelude.{◌≡◌, ℕ, ◌⊎◌, ◌<◌, ◌≤◌, true, false, Option, None, Some, List, [], ◌∷◌, ◌==◌, codes, decimal, if◌then◌else◌, length, ◌++◌, string_bytes, IfSome, IsSomeAnd, Result, Ok, Err}
+use Rattle.std.specs.Prelude.{◌≡◌, ℕ, ◌⊎◌, ◌<◌, true, false, Option, None, Some, List, [], ◌∷◌, ◌==◌, codes, decimal, if◌then◌else◌, length, ◌++◌, string_bytes, IfSome, IsSomeAnd, Result, Ok, Err}
 use Rattle.std.specs.Io.KnownBytes.{Appends}
 use Rattle.nim_io.specs.Counts.{Rose}
 use Rattle.nim_io.specs.Files.{content}
