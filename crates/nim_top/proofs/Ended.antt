@@ -1,41 +1,29 @@
 -- How a command ends, from how its parts end.
-use Rattle.std.proofs.Common.{◌≡◌, ℕ, true, Option, None, List, [], refl, sym, ap, subst, ◌∙◌}
+use Rattle.std.proofs.Common.{◌≡◌, ℕ, true, Option, None, List, refl, sym, ap, subst, ◌∙◌}
 use Rattle.std.specs.Io.KnownBytes.{Appends}
 use Rattle.std.proofs.KnownBytes.{Appends-nil}
 use Rattle.nim_io.specs.Sink.{AppendsFront}
-use Rattle.nim_check.specs.Refusals.{IsFileRefusal}
+use Rattle.nim_check.specs.Faults.{TellsFile}
 use Rattle.nim_check.specs.declared.fault.ReadFault.{ReadFault}
-use Rattle.nim_check.specs.declared.fault.ReadFault.TheVariants.{At, NoMemory}
+use Rattle.nim_check.specs.declared.fault.ReadFault.TheVariants.{At}
 use Rattle.nim_job.specs.Serial.{Ending}
-use Rattle.nim_top.specs.Answer.{Comes, Ends, Finishes, IsLine, IsUnloaded, Meaning, OfFiles, Outside, outside}
+use Rattle.nim_top.specs.Answer.{Ends, Finishes, IsLine, Meaning, OfFiles, outside}
 use Rattle.clap.specs.Words.{Text}
 use Rattle.nim_top.specs.Words.{is_accepted}
 use Rattle.nim_top.specs.declared.status.Outcome.{Outcome}
-use Rattle.nim_top.specs.declared.status.Outcome.TheVariants.{Done, Words, Refused, Memory, Limit, Read, Write}
+use Rattle.nim_top.specs.declared.status.Outcome.TheVariants.{Done, Refused, Memory, Limit, Write}
 use Rattle.nim_top.proofs.NamedFiles.{files_more}
 
 abbrev Told : Type 0
 Told = Option (List (List ℕ × List ℕ))
 
--- no files were loaded
-pub ends_unloaded : (meaning : Meaning) (command : Text) (words : List Text) (told told2 : Told) (faults faults2 : ℕ) (written : Option (List ℕ)) (write_faults : ℕ)
-    (outcome : Outcome) → IsUnloaded command words faults faults2 outcome
-    → Ends meaning command words (outside told faults written write_faults) (outside told2 faults2 written write_faults) outcome
-ends_unloaded meaning command words told told2 faults faults2 written write_faults Words h = (h.0, (h.1, refl), Appends-nil written)
-ends_unloaded meaning command words told told2 faults faults2 written write_faults Memory h = ((h, refl), Appends-nil written)
-ends_unloaded meaning command words told told2 faults faults2 written write_faults Read h = (h.0, h.1, refl, Appends-nil written)
-ends_unloaded meaning command words told told2 faults faults2 written write_faults Done h = absurd h
-ends_unloaded meaning command words told told2 faults faults2 written write_faults (Refused line) h = absurd h
-ends_unloaded meaning command words told told2 faults faults2 written write_faults Limit h = absurd h
-ends_unloaded meaning command words told told2 faults faults2 written write_faults Write h = absurd h
-
 -- the files are refused
 pub ends_refused : (meaning : Meaning) (command : Text) (words : List Text) (told told2 : Told) (faults faults2 : ℕ) (written : Option (List ℕ)) (write_faults : ℕ)
     (fault : ReadFault) (outcome : Outcome) → is_accepted command words ≡ true → faults2 ≡ faults
-    → OfFiles told words (λ driver file. IsFileRefusal (meaning.refusal driver file) fault) → IsLine fault outcome
+    → OfFiles told words (λ driver file. TellsFile (meaning.refusal driver file) fault) → IsLine fault outcome
     → Ends meaning command words (outside told faults written write_faults) (outside told2 faults2 written write_faults) outcome
-ends_refused meaning command words told told2 faults faults2 written write_faults (At input line rule) (Refused text) accepted same refusal is =
-    (accepted, (record { input = input; line = line; rule = rule }, is, refusal), (same, refl), Appends-nil written)
+ends_refused meaning command words told told2 faults faults2 written write_faults (At input refused_line) (Refused text) accepted same refusal is =
+    (accepted, (record { input = input; refusal = refused_line }, is, refusal), (same, refl), Appends-nil written)
 ends_refused meaning command words told told2 faults faults2 written write_faults fault Memory accepted same refusal is = ((same, refl), Appends-nil written)
 ends_refused meaning command words told told2 faults faults2 written write_faults fault outcome accepted same refusal is = absurd is
 

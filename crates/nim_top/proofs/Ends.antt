@@ -1,20 +1,11 @@
--- What a driver of the first form comes to, and that the tasks of its job read the versions that program order names.
-use Rattle.std.proofs.Common.{◌≡◌, ℕ, Option, None, Some, List, sym, ap, subst, ◌∙◌}
-use Rattle.std.specs.Prelude.{Err, IfSome}
-use Rattle.nim_check.specs.Refusals.{IsFileRefusal}
-use Rattle.nim_check.specs.declared.fault.ReadFault.{ReadFault}
-use Rattle.nim_check.specs.declared.fault.ReadFault.TheVariants.{At, NoMemory}
+-- What a driver and its data come to.
+use Rattle.std.proofs.Common.{◌≡◌, ℕ, Option, None, List, sym, ap, subst, ◌∙◌}
+use Rattle.std.specs.Prelude.{Ok}
+use Rattle.nim_check.specs.Refusals.{job_from, refused}
 use Rattle.nim_job.specs.declared.job.Job.{Job}
 use Rattle.nim_job.specs.Serial.{Ending, serial_of}
-use Rattle.nim_job.specs.Versions.{KeepsVersions, ReadsVersions}
-use Rattle.nim_job.proofs.Versions.{keeps_versions, reads_versions}
-use Rattle.nim_top.specs.Answer.{Finishes, ReadsFirst, answer_of, ending_from, refusal_from}
-use Rattle.nim_top.specs.FirstPath.{job_of}
+use Rattle.nim_top.specs.Answer.{Finishes, Reads}
 use Rattle.nim_top.specs.declared.status.Outcome.{Outcome}
-
-pub versions : (found : Option Job) → IfSome found (λ job. ReadsVersions job × KeepsVersions job)
-versions None = tt
-versions (Some job) = (reads_versions job, keeps_versions job)
 
 -- a job that was done
 pub finishes : (job : Job) (output bytes : List ℕ) (old new : Option (List ℕ)) (old_faults new_faults : ℕ) (outcome : Outcome)
@@ -25,10 +16,6 @@ finishes job output bytes old new old_faults new_faults outcome ends same printe
     ap (λ (b : List ℕ). let e : Ending = record { status = 0; bytes = b } in e) same ∙ sym ends in
     subst (λ (ending : Ending). Finishes ending old new old_faults new_faults outcome) is printed
 
--- a driver that is read isn't refused, and its ending is that of its job
-pub first_means : (driver : List ℕ) (job : Job) → job_of driver ≡ Some job → (refusal_from (job_of driver) ≡ None) × (answer_of driver ≡ serial_of job)
-first_means driver job is = (ap refusal_from is, ap ending_from is)
-
-pub first_refused : (driver : List ℕ) (fault : ReadFault) → ReadsFirst driver (Err fault) → IsFileRefusal (refusal_from (job_of driver)) fault
-first_refused driver (At input line rule) is = is
-first_refused driver NoMemory is = tt
+-- files that are read aren't refused, and their ending is that of their job
+pub read_means : (driver file : List ℕ) (job : Job) → Reads driver file (Ok job) → (refused driver file ≡ None) × (serial_of (job_from driver file) ≡ serial_of job)
+read_means driver file job reads = (reads.0, ap serial_of (sym reads.1))

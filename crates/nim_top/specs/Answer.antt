@@ -1,17 +1,17 @@
 -- What a command answers: which files it reads, how it may end, and what is told of that.
-use Rattle.std.specs.Prelude.{◌≡◌, ℕ, ◌⊎◌, ◌<◌, ◌≤◌, true, false, Option, None, Some, List, [], ◌∷◌, ◌==◌, codes, decimal, if◌then◌else◌, length, ◌++◌, string_bytes, IfSome, IsSomeAnd, Result, Ok, Err}
+use Rattle.std.specs.Prelude.{◌≡◌, ℕ, ◌⊎◌, ◌<◌, true, false, Option, None, Some, List, [], ◌∷◌, ◌==◌, codes, decimal, if◌then◌else◌, length, ◌++◌, string_bytes, IfSome, IsSomeAnd, Result, Ok, Err}
 use Rattle.std.specs.Io.KnownBytes.{Appends}
 use Rattle.nim_io.specs.Counts.{Rose}
 use Rattle.nim_io.specs.Files.{content}
 use Rattle.nim_io.specs.Sink.{AppendsFront}
-use Rattle.nim_check.specs.Refusals.{FileRefusal, IsFileRefusal, job_from, refused}
+use Rattle.nim_check.specs.Faults.{FileRefusal, TellsFile}
+use Rattle.nim_check.specs.Refusals.{job_from, refused}
 use Rattle.nim_check.specs.declared.fault.Input.{Input}
 use Rattle.nim_check.specs.declared.fault.Input.TheVariants.{Driver, Data}
 use Rattle.nim_check.specs.declared.fault.ReadFault.{ReadFault}
 use Rattle.nim_check.specs.declared.fault.ReadFault.TheVariants.{At, NoMemory}
 use Rattle.nim_job.specs.declared.job.Job.{Job}
 use Rattle.nim_job.specs.Serial.{Ending, serial_of}
-use Rattle.nim_top.specs.FirstPath.{job_of}
 use Rattle.clap.specs.Words.{Text}
 use Rattle.nim_top.specs.Words.{data_given, driver_name, is_accepted}
 use Rattle.nim_top.specs.declared.load.FileText.{FileText}
@@ -59,23 +59,9 @@ line_of text = text ++ 10 ∷ []
 abbrev pub checked : Meaning
 checked = record { refusal = refused; ending = λ driver file. record { status = 0; bytes = line_of (codes "accepted") } }
 
--- a job's answer is that of its tasks run one by one; a driver that stands for no job is refused
-abbrev pub ending_from : Option Job → Ending
-ending_from None = record { status = 2; bytes = [] }
-ending_from (Some job) = serial_of job
-
--- the status and the bytes that a driver's text has
-abbrev pub answer_of : List ℕ → Ending
-answer_of bytes = ending_from (job_of bytes)
-
--- a driver of another form is refused as a whole
-abbrev pub refusal_from : Option Job → Option FileRefusal
-refusal_from None = Some (record { input = Driver; line = 0; rule = 99 })
-refusal_from (Some job) = None
-
--- `replay` does the job of the driver
+-- `replay` does the job of the driver and its data: its tasks run one by one
 abbrev pub replayed : Meaning
-replayed = record { refusal = λ driver file. refusal_from (job_of driver); ending = λ driver file. answer_of driver }
+replayed = record { refusal = refused; ending = λ driver file. serial_of (job_from driver file) }
 
 -- nothing is refused, and this is the status
 abbrev pub Comes : Meaning → ℕ → List ℕ → List ℕ → Type 0
@@ -109,7 +95,7 @@ input_name Data = codes "data"
 
 abbrev pub refusal_line : FileRefusal → List ℕ
 refusal_line refusal =
-    codes "nimbus: " ++ (input_name refusal.input ++ (codes " line " ++ (decimal refusal.line ++ (codes " rule " ++ (decimal refusal.rule ++ 10 ∷ [])))))
+    codes "nimbus: " ++ (input_name refusal.input ++ (codes " line " ++ (decimal refusal.refusal.line ++ (codes " rule " ++ (decimal refusal.refusal.rule ++ 10 ∷ [])))))
 
 -- the line tells the refusal of the files
 abbrev pub TellsRefusal : Meaning → Outside → List Text → List ℕ → Type 0
@@ -201,11 +187,11 @@ IsUnread old new _ = ⊥
 -- what reading gave is the job of a driver and its data, or why they are refused
 abbrev pub Reads : List ℕ → List ℕ → Result Job ReadFault → Type 0
 Reads driver file (Ok job) = (refused driver file ≡ None) × (job ≡ job_from driver file)
-Reads driver file (Err fault) = IsFileRefusal (refused driver file) fault
+Reads driver file (Err fault) = TellsFile (refused driver file) fault
 
 -- the outcome tells why files are refused, unless memory was refused
 abbrev pub IsLine : ReadFault → Outcome → Type 0
-IsLine (At input line rule) (outcome.Refused text) = string_bytes text ≡ refusal_line (record { input = input; line = line; rule = rule })
+IsLine (At input refusal) (outcome.Refused text) = string_bytes text ≡ refusal_line (record { input = input; refusal = refusal })
 IsLine _ outcome.Memory = Unit {0}
 IsLine _ _ = ⊥
 
@@ -216,9 +202,3 @@ Finishes ending old new old_faults new_faults outcome.Write = (ending.status ≡
 Finishes ending old new old_faults new_faults outcome.Limit = (ending.status ≡ 4) × Appends old new [] × (new_faults ≡ old_faults)
 Finishes ending old new old_faults new_faults outcome.Memory = Appends old new [] × (new_faults ≡ old_faults)
 Finishes ending old new old_faults new_faults _ = ⊥
-
--- what reading a driver of the first form gave
-abbrev pub ReadsFirst : List ℕ → Result Job ReadFault → Type 0
-ReadsFirst driver (Ok job) = job_of driver ≡ Some job
-ReadsFirst driver (Err (At input line rule)) = refusal_from (job_of driver) ≡ Some (record { input = input; line = line; rule = rule })
-ReadsFirst driver (Err NoMemory) = Unit {0}

@@ -1,7 +1,6 @@
 pub mod Answer
-pub mod FirstPath
-pub mod Lines
-pub mod Runs
-pub mod Words
+pub mod Carries
+pub mod Controls
+pub mod Leads
 pub mod Orders
-pub mod Works
+pub mod Words

@@ -1,6 +1,6 @@
 ghost use Rattle.std.specs.Prelude.{◌≡◌, IfOk, IsTrue};
 ghost use Rattle.nim_job.specs.Whole.{is_whole};
-ghost use Rattle.nim_top.specs.Works.{forms_in};
+ghost use Rattle.nim_top.specs.Controls.{forms_in};
 
 use nim_base::{NoMemory, Seq, TaskForm};
 use nim_job::{Job, block_forms};

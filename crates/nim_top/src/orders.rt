@@ -1,30 +1,17 @@
-ghost use Rattle.std.specs.Prelude.{◌≡◌, map, IfOk};
+ghost use Rattle.std.specs.Prelude.{◌≡◌, ◌*◌, ◌<◌, ◌≤◌, pos, map, IfOk, IsTrue};
+ghost use Rattle.nim_job.specs.Objects.{first_cell};
 ghost use Rattle.nim_job.specs.Tasks.{task_of};
+ghost use Rattle.nim_job.specs.Whole.{is_filled, is_var};
 ghost use Rattle.nim_top.specs.Orders as spec;
 
-use nim_base::{Instance, NoMemory, Object, Position, Seq, Shape, Slot, TaskForm, Worker};
+use nim_base::{Copied, Instance, NoMemory, Object, Position, Seq, Shape, Slot, TaskForm, Worker};
 use nim_command::{Command, Kind};
-use nim_job::put_in;
+use nim_job::{Init, Var, put_in};
 use nim_message::ToWorker;
 use std::alloc::Global;
 
-/// The main slot of an object.
-fn main_slot(object: Object) -> Slot
-    ensures { result ≡ spec.main_slot object }
-{
-    Slot(object.0)
-}
-
-/// The main slots of objects, in order.
-fn main_slots(alloc: Global, objects: &[Object]) -> Result<Seq<Slot>, NoMemory>
-    ensures { IfOk result (λ slots. slots ≡ map spec.main_slot objects.now) }
-{
-    let mut slots = Vec::with_capacity(alloc, objects.len())?;
-    for object in objects {
-        slots.push(main_slot(*object))?;
-    }
-    Ok(Seq::from_vec(slots))
-}
+/// An instance that no `do` has.
+pub const NO_INSTANCE: Instance = 4_294_967_295;
 
 /// The order that a run begins with: the epoch 0, worker 0 alone, and the shapes of all objects.
 pub fn reset(shapes: Vec<Shape>) -> ToWorker
@@ -55,15 +42,31 @@ pub fn single(alloc: Global, instance: Instance, id: u32, kind: Kind) -> Result<
     })
 }
 
-/// Fills the main slot of an object by a number.
-pub fn create(object: Object, number: i64) -> Kind
-    ensures { result ≡ spec.create_of object number }
+/// Makes what a part of a variable holds at first, or puts it there where it was loaded.
+pub fn first(var: &Var, part: u32, object: Object) -> Result<Kind, NoMemory>
+    requires filled { IsTrue (is_filled var.now) }
+    requires part { part < var.now.parts }
+    requires sizes { IsTrue (is_var var.now) }
+    ensures { IfOk result (λ kind. kind ≡ spec.first_of var.now.shape var.now.init part object) }
 {
-    Kind::Create {
-        slot: main_slot(object),
-        iota: false,
-        number,
-    }
+    let slot = main_slot(object);
+    Ok(match &var.init {
+        Init::Fill(number) => Kind::Create {
+            slot,
+            iota: false,
+            number: *number,
+        },
+        Init::Iota => Kind::Create {
+            slot,
+            iota: true,
+            number: first_cell(var.shape, part),
+        },
+        Init::Loaded(values) => Kind::Load {
+            slot,
+            version: 0,
+            value: values.as_slice()[part as usize].copy()?,
+        },
+    })
 }
 
 /// Runs a task over main slots, the arguments put in.
@@ -92,4 +95,31 @@ pub fn fetch(object: Object, ticket: u32) -> Kind
         slot: main_slot(object),
         ticket,
     }
+}
+
+// The number of a part's first cell, all cells of a variable counted row by row.
+fn first_cell(shape: Shape, part: u32) -> i64
+    requires cells { shape.rows * shape.width ≤ 65536 }
+    requires part { part < 64 }
+    ensures { result ≡ pos (first_cell shape part) }
+{
+    i64::from(part * (shape.rows * shape.width))
+}
+
+// The main slot of an object.
+fn main_slot(object: Object) -> Slot
+    ensures { result ≡ spec.main_slot object }
+{
+    Slot(object.0)
+}
+
+// The main slots of objects, in order.
+fn main_slots(alloc: Global, objects: &[Object]) -> Result<Seq<Slot>, NoMemory>
+    ensures { IfOk result (λ slots. slots ≡ map spec.main_slot objects.now) }
+{
+    let mut slots = Vec::with_capacity(alloc, objects.len())?;
+    for object in objects {
+        slots.push(main_slot(*object))?;
+    }
+    Ok(Seq::from_vec(slots))
 }

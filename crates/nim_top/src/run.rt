@@ -1,79 +1,144 @@
-ghost use Rattle.std.specs.Prelude.{◌≡◌, ◌+◌, [], length, IfOk, IfSome, IfNone, IsTrue};
+ghost use Rattle.std.specs.Prelude.{◌≡◌, ◌++◌, ℕ, [], IfOk, IfSome, IfNone, IsTrue, None, List, OnOk};
+ghost use Rattle.nim_job.specs.declared.job.Job.{Job as job_type};
 ghost use Rattle.nim_job.specs.Serial.{serial_of};
-ghost use Rattle.nim_job.specs.Whole.{is_plain};
-ghost use Rattle.nim_top.specs.Runs.{Stands};
-ghost use Rattle.nim_top.specs.Works.{HasForms, WorksAt};
-ghost use Rattle.nim_top.specs.declared.run.Progress.{Progress};
+ghost use Rattle.nim_job.specs.Whole.{is_whole};
+ghost use Rattle.nim_message.specs.declared.order.ToWorker.{ToWorker as order_type};
+ghost use Rattle.nim_worker.specs.Stands.{Stands, reports_in};
+ghost use Rattle.nim_top.specs.Carries.{IsBusy, IsIdle, IsPerformed, Rests};
+ghost use Rattle.nim_top.specs.Leads.{done_behind, values_in};
+ghost use Rattle.nim_top.specs.Orders.{start_orders};
 
-use crate::control::Control;
-use nim_base::NoMemory;
-use nim_job::{Ask, DriverMachine, Job};
+use crate::control::{Control, Turn};
+use crate::order_lists::first_orders;
+use crate::trace::Trace;
+use nim_base::{NoMemory, Worker};
+use nim_job::{DriverMachine, Job};
+use nim_message::ToWorker;
+use nim_worker::{Out, WorkerCore};
 use std::alloc::Global;
-
-/// Whether a driver goes on.
-#[derive(Clone, Copy, Debug, PartialEq, Eq)]
-pub enum Progress {
-    Goes,
-    Finished,
-    Limit,
-}
+use std::collections::VecDeque;
 
 /// Has the tasks of a job run one after another, and gives the machine that stands at its end and has
 /// what the job prints; nothing where the job passes its limits.
 pub fn run(alloc: Global, job: &Job) -> Result<Option<DriverMachine>, NoMemory>
-    requires { IsTrue (is_plain job.now) }
+    requires { IsTrue (is_whole job.now) }
     ensures output { IfOk result (λ end. IfSome end (λ m. serial_of job.now ≡ record { status = 0; bytes = m.driver.output })) }
     ensures limit { IfOk result (λ end. IfNone end (serial_of job.now ≡ record { status = 4; bytes = [] })) }
 {
-    let mut control = Control::new(alloc, job, None)?;
-    drive(alloc, job, &mut control)
+    drive(alloc, job, &mut None)
 }
 
-/// The same with a controller that has given no task yet.
-pub fn drive(
+/// Does the same, and gives the orders that the worker was given and the reports that it gave, each in order.
+pub fn traced(alloc: Global, job: &Job) -> Result<Trace, NoMemory>
+    requires { IsTrue (is_whole job.now) }
+{
+    let mut trace = Some(Trace::new(alloc));
+    drive(alloc, job, &mut trace)?;
+    trace.ok_or(NoMemory)
+}
+
+/// The same, and keeps what goes between controller and worker where there is a trace.
+fn drive(
     alloc: Global,
     job: &Job,
-    control: &mut Control,
+    trace: &mut Option<Trace>,
 ) -> Result<Option<DriverMachine>, NoMemory>
-    requires plain { IsTrue (is_plain job.now) }
-    requires works { WorksAt job.now control.old.core 0 }
-    requires position { control.old.position ≡ 0 }
-    requires forms { HasForms job.now control.old }
+    requires { IsTrue (is_whole job.now) }
     ensures output { IfOk result (λ end. IfSome end (λ m. serial_of job.now ≡ record { status = 0; bytes = m.driver.output })) }
     ensures limit { IfOk result (λ end. IfNone end (serial_of job.now ≡ record { status = 4; bytes = [] })) }
 {
-    let mut machine = DriverMachine::new(alloc, job)?;
+    let mut control = Control::new(alloc, job)?;
+    let mut core = start(alloc, job, trace)?;
     loop {
-        match turn(job, control, &mut machine)? {
-            Progress::Goes => {}
-            Progress::Finished => return Ok(Some(machine)),
-            Progress::Limit => return Ok(None),
+        work(&mut core, &mut control, trace)?;
+        match control.turn(job)? {
+            Turn::Orders(orders) => give(&mut core, orders, trace)?,
+            Turn::Finished => return Ok(Some(control.into_machine())),
+            Turn::Limit => return Ok(None),
         }
     }
 }
 
-// Does what the driver asks for next.
-fn turn(job: &Job, control: &mut Control, machine: &mut DriverMachine) -> Result<Progress, NoMemory>
-    requires plain { IsTrue (is_plain job.now) }
-    requires stands { Stands job.now machine.old control.old }
-    ensures goes { IfOk result (λ turn. turn ≡ Progress.Goes → Stands job.now machine.new control.new) }
-    ensures nearer { IfOk result (λ turn. turn ≡ Progress.Goes → length machine.new.driver.todo + 1 ≡ length machine.old.driver.todo) }
-    ensures finished { IfOk result (λ turn. turn ≡ Progress.Finished → serial_of job.now ≡ record { status = 0; bytes = machine.new.driver.output }) }
-    ensures limit { IfOk result (λ turn. turn ≡ Progress.Limit → serial_of job.now ≡ record { status = 4; bytes = [] }) }
+// A worker that was given the orders that a run begins with.
+fn start(alloc: Global, job: &Job, trace: &mut Option<Trace>) -> Result<WorkerCore, NoMemory>
+    requires { IsTrue (is_whole job.now) }
+    ensures { IfOk result (λ core. Stands core None (start_orders job.now) 0) }
 {
-    let _printed = machine.output();
-    match machine.next()? {
-        Ask::Run { block, args } => {
-            control.run_block(job, block, args.as_slice())?;
-            machine.answer(0);
-            Ok(Progress::Goes)
-        }
-        Ask::Output { var } => {
-            let text = control.output(job, var)?;
-            machine.append(&text)?;
-            Ok(Progress::Goes)
-        }
-        Ask::Finished => Ok(Progress::Finished),
-        Ask::Limit | Ask::Get { .. } | Ask::Checkpoint => Ok(Progress::Limit),
+    let mut core = WorkerCore::new(alloc, Worker(0));
+    give(&mut core, first_orders(alloc, job)?, trace)?;
+    Ok(core)
+}
+
+// Gives orders to a worker.
+fn give(
+    core: &mut WorkerCore,
+    orders: Vec<ToWorker>,
+    trace: &mut Option<Trace>,
+) -> Result<(), NoMemory>
+    ensures { (before : List order_type) (done : ℕ) → Stands core.old None before done
+        → OnOk result (Stands core.new None (before ++ orders.items) (done_behind done orders.items)) }
+{
+    let mut orders = VecDeque::from_vec(orders);
+    while let Some(order) = orders.pop_front() {
+        note_order(trace, &order)?;
+        core.on_message(order)?;
+    }
+    Ok(())
+}
+
+// Has a worker do all that it is asked for, and hands in what it reports.
+fn work(
+    core: &mut WorkerCore,
+    control: &mut Control,
+    trace: &mut Option<Trace>,
+) -> Result<(), NoMemory>
+    requires rests { Rests core.old }
+    ensures idle { (job : job_type) → IsTrue (is_whole job) → IsBusy job core.old control.old → OnOk result (IsIdle job core.new control.new) }
+    ensures rest { control.new ≡ record control.old { values = control.new.values } }
+{
+    while let Some(outs) = perform(core)? {
+        note_outs(trace, &outs)?;
+        hand_in(control, outs)?;
+    }
+    Ok(())
+}
+
+// Completes the next command, and gives what it reports; nothing where no command is left.
+fn perform(core: &mut WorkerCore) -> Result<Option<Vec<Out>>, NoMemory>
+    requires rests { Rests core.old }
+    ensures { (orders : List order_type) (done : ℕ) → Stands core.old None orders done → IfOk result (IsPerformed core.new orders done) }
+{
+    let mut batch = core.begin(1);
+    let is_idle = batch.works().is_empty();
+    let outs = core.finish(batch)?;
+    Ok(if is_idle { None } else { Some(outs) })
+}
+
+// Hands in reports, in order.
+fn hand_in(control: &mut Control, outs: Vec<Out>) -> Result<(), NoMemory>
+    ensures values { OnOk result (control.new.values.items ≡ control.old.values.items ++ values_in (reports_in outs.items)) }
+    ensures rest { control.new ≡ record control.old { values = control.new.values } }
+{
+    let mut outs = VecDeque::from_vec(outs);
+    while let Some(out) = outs.pop_front() {
+        let Out::Report(report) = out;
+        control.on_report(report)?;
+    }
+    Ok(())
+}
+
+// Keeps an order, where there is a trace.
+fn note_order(trace: &mut Option<Trace>, order: &ToWorker) -> Result<(), NoMemory> {
+    match trace {
+        Some(trace) => trace.order(order),
+        None => Ok(()),
+    }
+}
+
+// Keeps what a worker gave, where there is a trace.
+fn note_outs(trace: &mut Option<Trace>, outs: &[Out]) -> Result<(), NoMemory> {
+    match trace {
+        Some(trace) => trace.outs(outs),
+        None => Ok(()),
     }
 }

@@ -1,57 +1,50 @@
-ghost use Rattle.std.specs.Prelude.{◌≡◌, ◌<◌, ◌≤◌, ◌++◌, length, replicate, IfOk, OnOk};
-ghost use Rattle.nim_job.specs.Objects.{first_object, objects_of};
+ghost use Rattle.std.specs.Prelude.{◌≡◌, ◌<◌, length, IfOk};
+ghost use Rattle.nim_base.specs.Value.{cell_of};
+ghost use Rattle.nim_job.specs.Objects.{parts_of};
 ghost use Rattle.nim_job.specs.Step.{texts_of};
-ghost use Rattle.nim_top.specs.Orders.{number_of, numbers_of};
+ghost use Rattle.nim_top.specs.Controls as spec;
+ghost use Rattle.nim_top.specs.Controls.{printed_of};
 
 use nim_base::{NoMemory, Value, value_text};
-use nim_job::{Init, Var};
+use nim_job::Job;
 use std::alloc::Global;
 
-/// The numbers that fill all objects at first.
-pub fn numbers(alloc: Global, vars: &[Var]) -> Result<Vec<i64>, NoMemory>
-    ensures { IfOk result (λ numbers. numbers.items ≡ numbers_of vars.now) }
+/// What `output` prints of a variable whose parts have these values.
+pub fn printed(alloc: Global, job: &Job, var: u8, values: &[Value]) -> Result<Vec<u8>, NoMemory>
+    requires var { var < length job.now.vars }
+    requires values { length values.now ≡ parts_of job.now.vars var }
+    ensures { IfOk result (λ text. text.items ≡ printed_of job.now.vars var values.now) }
 {
-    let mut numbers = Vec::new(alloc);
-    for var in vars {
-        push_times(&mut numbers, var.parts, number(&var.init))?;
-    }
-    Ok(numbers)
+    let var = &job.vars.as_slice()[usize::from(var)];
+    texts(alloc, var.name.as_str(), values, var.parts)
 }
 
-// The number that fills the parts of a variable at first.
-fn number(init: &Init) -> i64
-    ensures { result ≡ number_of init.now }
+/// A cell of the first of these values; 0 where there is none.
+pub fn cell_in(values: &[Value], row: u64, cell: u64) -> i64
+    ensures { result ≡ spec.cell_in values.now row cell }
 {
-    match init {
-        Init::Fill(number) => *number,
-        _ => 0,
+    match values.first() {
+        Some(value) => cell_of(value, row, cell),
+        None => 0,
     }
 }
 
-fn push_times(numbers: &mut Vec<i64>, times: u32, number: i64) -> Result<(), NoMemory>
-    ensures { OnOk result (numbers.new.items ≡ numbers.old.items ++ replicate times number) }
+// A cell of a value; 0 where there is none.
+fn cell_of(value: &Value, row: u64, cell: u64) -> i64
+    ensures { result ≡ cell_of value.now row cell }
 {
-    for _ in 0..times {
-        numbers.push(number)?;
+    let _shaped = value.cells();
+    if row >= u64::from(value.rows()) {
+        return 0;
     }
-    Ok(())
+    if cell >= u64::from(value.width()) {
+        return 0;
+    }
+    value.cell(row as u32, cell as u32)
 }
 
-/// The object that is part 0 of a variable.
-pub fn first_object(vars: &[Var], var: usize) -> usize
-    requires few { objects_of vars.now ≤ 512 }
-    requires var { var < length vars.now }
-    ensures { result ≡ first_object vars.now var }
-{
-    let mut first = 0usize;
-    for before in &vars[..var] {
-        first += before.parts as usize;
-    }
-    first
-}
-
-/// The texts of the parts, which are so many.
-pub fn texts(alloc: Global, name: &str, values: &[Value], parts: u32) -> Result<Vec<u8>, NoMemory>
+// The texts of the parts, which are so many.
+fn texts(alloc: Global, name: &str, values: &[Value], parts: u32) -> Result<Vec<u8>, NoMemory>
     requires { length values.now ≡ parts }
     ensures { IfOk result (λ text. text.items ≡ texts_of name.now 0 values.now) }
 {

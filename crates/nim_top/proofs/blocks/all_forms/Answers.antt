@@ -1,6 +1,6 @@
 use Rattle.std.proofs.Common.{◌∙◌, [], ◌∷◌, ◌++◌, List, ap₂, sym, arith}
 use Rattle.nim_base.specs.declared.task.TaskForm.{TaskForm}
-use Rattle.nim_top.proofs.HeldAt.{forms_more}
+use Rattle.nim_top.proofs.Made.{forms_more}
 use Rattle.nim_top.proofs.blocks.all_forms.Goals as goal
 
 pub loop-block-preserved : goal.loop-block-preserved

@@ -1,5 +1,25 @@
-use Rattle.nim_top.proofs.Stood.{begins_stood}
+use Rattle.std.proofs.Common.{length, subst}
+use Rattle.nim_worker.specs.Stands.{asked_for}
+use Rattle.nim_top.specs.Controls.{GoesOn, IsTurn}
+use Rattle.nim_top.proofs.Serving.{idle_has_all, starts_busy, turn_given}
 use Rattle.nim_top.proofs.run.drive.Goals as goal
 
-pub loop-machine-init : goal.loop-machine-init
-loop-machine-init c = begins_stood c.args.job.now c.in_ok-machine.machine c.args.control.now c.in_ok-machine.ensures c.requires.works c.requires.position c.requires.forms
+pub loop-core-init : goal.loop-core-init
+loop-core-init c = (
+  starts_busy c.args.job.now c.in_ok-core.core c.in_ok-control.control c.requires c.in_ok-core.ensures c.in_ok-control.ensures.position c.in_ok-control.ensures.awaited,
+  c.in_ok-control.ensures.controls,
+)
+
+pub turn-requires-clause-values : goal.turn-requires-clause-values
+turn-requires-clause-values c =
+    idle_has_all c.args.job.now c.work.new.core c.work.new.control (c.in_ok-work.ensures.idle c.args.job.now c.requires c.loop-core.invariant.0)
+
+pub loop-core-preserved : goal.loop-core-preserved
+loop-core-preserved c =
+    let idle = c.in_ok-work.ensures.idle c.args.job.now c.requires c.loop-core.invariant.0 in
+    let goes : GoesOn c.args.job.now c.work.new.control c.turn.new.self c.in-Orders.orders.items =
+    subst (IsTurn c.args.job.now c.work.new.control c.turn.new.self) c.in-Orders.is c.in_ok-orders.ensures in (
+      turn_given c.args.job.now c.work.new.core c.give.new.core c.work.new.control c.turn.new.self c.in-Orders.orders.items idle goes
+          (c.in_ok-give-in-Orders.ensures idle.orders (length (asked_for idle.orders)) idle.carries.stands),
+      goes.controls,
+    )

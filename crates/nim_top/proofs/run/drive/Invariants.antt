@@ -1,9 +1,10 @@
-use Rattle.std.proofs.Common.{length}
-use Rattle.nim_top.specs.Runs.{Stands}
+use Rattle.std.proofs.Common.{◌≡◌, ◌-◌}
+use Rattle.nim_top.specs.Carries.{IsBusy}
+use Rattle.nim_top.specs.Controls.{Controls}
 use Rattle.nim_top.proofs.run.drive.Given as goal
 
-abbrev pub invariant-loop-machine : goal.invariant-loop-machine
-invariant-loop-machine l = Stands l.job l.machine l.control
+abbrev pub invariant-loop-core : goal.invariant-loop-core
+invariant-loop-core l = IsBusy l.job l.core l.control × Controls l.job l.control
 
-abbrev pub decreases-loop-machine : goal.decreases-loop-machine
-decreases-loop-machine l = length l.machine.driver.todo
+abbrev pub decreases-loop-core : goal.decreases-loop-core
+decreases-loop-core l = l.job.steps - l.control.machine.driver.count

@@ -1,5 +1,5 @@
-use Rattle.std.proofs.Common.{◌≡◌, ◌∙◌, sym, ap, true, codes, List, [], ◌∷◌}
-use Rattle.clap.specs.Words.{App, app_of, fault_of, first_of, found_of, is_simple, is_simple_and_free, matches_of}
+use Rattle.std.proofs.Common.{◌∙◌, sym, ap, codes}
+use Rattle.clap.specs.Words.{App, fault_of, first_of, found_of, is_simple, is_simple_and_free, matches_of}
 use Rattle.clap.proofs.WalkLemmas.{first_value-rows}
 use Rattle.nim_top.specs.Words.{faults, found, texts_of}
 use Rattle.nim_top.proofs.words.parse.Goals as goal

@@ -1,8 +1,9 @@
-use Rattle.std.proofs.Common.{[], ap, ◌∙◌}
-use Rattle.nim_top.specs.Orders.{reset_of}
-use Rattle.nim_top.proofs.HeldAt.{begins_held}
+use Rattle.std.proofs.Common.{refl}
+use Rattle.nim_top.proofs.Asking.{begins_open}
 use Rattle.nim_top.proofs.control.Control.new.Goals as goal
 
-pub create_all-requires-clause-works : goal.create_all-requires-clause-works
-create_all-requires-clause-works c =
-    begins_held c.args.job.now c.tell.new.self.core c.reset.result (c.reset.ensures ∙ ap reset_of c.in_ok-shapes.ensures.shapes) (c.in_ok-tell.ensures.stands [] 0 c.new.ensures.stands)
+pub returns-clause-controls : goal.returns-clause-controls
+returns-clause-controls c = record {
+  forms = c.in_ok-all_forms.ensures;
+  awaits = begins_open c.args.job.now c.in_ok-new.field-0 0 c.in_ok-new.ensures refl;
+}
