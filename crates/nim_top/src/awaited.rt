@@ -5,13 +5,7 @@ use nim_base::Object;
 pub enum Awaited {
     Nothing,
     /// That of an object, for one of its cells.
-    Cell {
-        object: Object,
-        row: u64,
-        cell: u64,
-    },
+    Cell { object: Object, row: u64, cell: u64 },
     /// Those of all parts of a variable, in order.
-    Parts {
-        var: u8,
-    },
+    Parts { var: u8 },
 }

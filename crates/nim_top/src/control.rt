@@ -158,12 +158,7 @@ impl Control {
     }
 
     // The order that asks for what an object has, of which a cell is awaited from now on.
-    fn fetch_cell(
-        &mut self,
-        object: Object,
-        row: u64,
-        cell: u64,
-    ) -> Result<Vec<ToWorker>, NoMemory>
+    fn fetch_cell(&mut self, object: Object, row: u64, cell: u64) -> Result<Vec<ToWorker>, NoMemory>
         requires { object.0 < 512 }
         ensures orders { IfOk result (λ orders. orders.items ≡ fetch_orders_of object.0 self.old.ticket 1) }
         ensures rest { OnOk result (self.new ≡ record self.old { ticket = self.new.ticket; awaited = awaited_values.Cell object row cell }) }
