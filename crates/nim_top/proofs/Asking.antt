@@ -52,12 +52,10 @@ record IsQuiet (old new : Driver) : Type 0 where
 
 quiet_kept : (n : ℕ) (driver : Driver) → IsQuiet driver (quiet_steps n driver)
 quiet_kept zero driver = record { output = refl; count = omega arith }
-quiet_kept (suc n) driver = either (is_quiet driver.todo) where
-  either : (b : Bool) → IsQuiet driver (if b then quiet_steps n (quiet_step driver) else driver)
-  either false = record { output = refl; count = omega arith }
-  either true =
-      let rest = quiet_kept n (quiet_step driver) in
-      record { output = rest.output; count = omega (arith, rest.count) }
+quiet_kept (suc n) driver = either (quiet_kept n (quiet_step driver)) (is_quiet driver.todo) where
+  either : IsQuiet (quiet_step driver) (quiet_steps n (quiet_step driver)) → (b : Bool) → IsQuiet driver (if b then quiet_steps n (quiet_step driver) else driver)
+  either rest false = record { output = refl; count = omega arith }
+  either rest true = record { output = rest.output; count = omega (arith, rest.count) }
 
 -- before it asks a machine is kept but for its driver
 record IsBefore (old new : Machine) : Type 0 where
@@ -133,7 +131,7 @@ goes_open job m next p tasks at further = record {
 
 goes_open_quiet : (job : Job) (m next : Machine) (p : ℕ) → IsAt job m p → GoesFurther job m next [] → IsOpen job next p
 goes_open_quiet job m next p at further =
-    let same : p + length [] ≡ p = omega arith in
+    let same : p + 0 ≡ p = omega arith in
     subst (IsOpen job next) same (goes_open job m next p [] at further)
 
 -- what the objects hold where the machine stands is what the tasks so far leave

@@ -10,4 +10,3 @@ pub mod Asking
 pub mod Made
 pub mod Turns
 pub mod Performing
-pub mod Cells

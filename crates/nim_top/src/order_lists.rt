@@ -24,25 +24,6 @@ pub fn first_orders(alloc: Global, job: &Job) -> Result<Vec<ToWorker>, NoMemory>
     Ok(orders)
 }
 
-// The first values of a variable's parts, whose part 0 is this object.
-fn push_parts(
-    alloc: Global,
-    orders: &mut Vec<ToWorker>,
-    var: &Var,
-    object: u16,
-) -> Result<(), NoMemory>
-    requires filled { IsTrue (is_filled var.now) }
-    requires sizes { IsTrue (is_var var.now) }
-    requires few { object + var.now.parts ≤ 512 }
-    ensures { OnOk result (orders.new.items ≡ orders.old.items ++ map (first_order var.now object) (range_with_len 0 var.now.parts)) }
-{
-    for part in 0..var.parts {
-        let kind = first(var, part, Object(object + part as u16))?;
-        orders.push(single(alloc, NO_INSTANCE, 0, kind)?)?;
-    }
-    Ok(())
-}
-
 /// The tasks of a block as one order each, numbered from `id` on in steps of 64, the arguments put in.
 pub fn task_orders(
     alloc: Global,
@@ -80,4 +61,23 @@ pub fn fetch_orders(
         orders.push(single(alloc, NO_INSTANCE, 0, kind)?)?;
     }
     Ok(orders)
+}
+
+// The first values of a variable's parts, whose part 0 is this object.
+fn push_parts(
+    alloc: Global,
+    orders: &mut Vec<ToWorker>,
+    var: &Var,
+    object: u16,
+) -> Result<(), NoMemory>
+    requires filled { IsTrue (is_filled var.now) }
+    requires sizes { IsTrue (is_var var.now) }
+    requires few { object + var.now.parts ≤ 512 }
+    ensures { OnOk result (orders.new.items ≡ orders.old.items ++ map (first_order var.now object) (range_with_len 0 var.now.parts)) }
+{
+    for part in 0..var.parts {
+        let kind = first(var, part, Object(object + part as u16))?;
+        orders.push(single(alloc, NO_INSTANCE, 0, kind)?)?;
+    }
+    Ok(())
 }

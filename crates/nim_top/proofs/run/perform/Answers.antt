@@ -1,5 +1,7 @@
-use Rattle.std.proofs.Common.{◌≡◌, ◌∙◌, ap, length, sym, subst, None, Some}
+use Rattle.std.proofs.Common.{◌≡◌, ◌∙◌, ap, length, sym, subst, arith}
+use Rattle.std.specs.Vec.{with_items}
 use Rattle.std.proofs.lemmas.Bool.{eqb-false, eqb-true}
+use Rattle.std.proofs.lemmas.List.{with_items_is}
 use Rattle.nim_top.specs.Carries.{IsPerformed}
 use Rattle.nim_top.proofs.Performing.{IsFinished, finished_none, finished_one}
 use Rattle.nim_top.proofs.run.perform.Goals as goal
@@ -7,11 +9,12 @@ use Rattle.nim_top.proofs.run.perform.Goals.{then-is_idle, else-is_idle}
 
 pub returns : goal.returns
 returns c = λ orders done stands.
-    let finished : IsFinished c.args.core.now c.begin-batch.new.self c.finish.new.self c.begin-batch.result _ c.in_ok-outs.outs.items orders done = record {
+    let finished : IsFinished c.args.core.now c.begin-batch.new.self c.finish.new.self c.begin-batch.result
+    (record { epoch = c.begin-batch.result.epoch; works = with_items c.begin-batch.result.works c.works.result.now }) c.in_ok-outs.outs.items orders done = record {
       before = stands;
       stale = c.begin-batch.ensures.stale;
       out = c.begin-batch.ensures.stands orders done stands;
-      same = c.works.ensures.value;
+      same = with_items_is c.begin-batch.result.works c.works.result.now (omega (arith, ap length c.works.ensures.value, c.begin-batch.result.works.ok.0)) ∙ c.works.ensures.value;
       released = c.begin-batch.ensures.released orders done stands;
       stands = c.in_ok-outs.ensures.stands orders done;
       told = c.in_ok-outs.ensures.reports orders done;

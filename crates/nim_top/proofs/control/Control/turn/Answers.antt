@@ -1,4 +1,4 @@
-use Rattle.std.proofs.Common.{◌≡◌, ◌+◌, ◌∙◌, ℤ, pos, Some, List, [], length, ap, sym, subst, arith}
+use Rattle.std.proofs.Common.{◌≡◌, ◌+◌, ◌∙◌, ℤ, pos, Some, List, [], length, refl, ap, sym, subst, arith}
 use Rattle.std.specs.Prelude.{slice_index_or}
 use Rattle.nim_job.specs.declared.ask.Ask.{Ask}
 use Rattle.nim_job.specs.Machine.{Machine, answered, ask_of}
@@ -105,10 +105,10 @@ returns-in_ok-orders-in-Get c =
 
 pub returns-in-Checkpoint : goal.returns-in-Checkpoint
 returns-in-Checkpoint c =
-    quiet_turn c.args.job.now c.args.self.now c.settle.new.self _ _ c.requires.whole c.in_ok-settle.ensures
+    quiet_turn c.args.job.now c.args.self.now c.settle.new.self (record c.settle.new.self { machine = c.answer-in-Checkpoint.new.self }) _ c.requires.whole c.in_ok-settle.ensures
     (record {
       asks = sym c.in_ok-block.ensures.ask ∙ c.in-Checkpoint.is;
-      machine = c.answer.ensures ∙ ap (λ (m : Machine). answered m (pos 0)) c.in_ok-block.ensures.ok;
+      machine = c.answer-in-Checkpoint.ensures ∙ ap (λ (m : Machine). answered m (pos 0)) c.in_ok-block.ensures.ok;
       rest = refl;
     })
     c.new.ensures.items
