@@ -10,6 +10,7 @@ mod plans;
 mod session;
 mod shown;
 mod texts;
+mod traces;
 mod values;
 mod words;
 

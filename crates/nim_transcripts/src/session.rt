@@ -5,6 +5,7 @@ use crate::orders::{push_report, reset, single};
 use crate::plans::{commands_line, holds_line, rank_line};
 use crate::shown::{push_answer, push_contents, push_number};
 use crate::texts::tokens_line;
+use crate::traces::trace_line;
 use crate::values::{cell_line, fit_line, made_line, text_line};
 use crate::words::{number, parts};
 use nim_base::{Copied, Worker};
@@ -93,6 +94,7 @@ impl Session {
             "cell" => cell_line(alloc, text, out),
             "text" => text_line(alloc, text, out),
             "tokens" => tokens_line(alloc, text, out),
+            "trace" => trace_line(alloc, text, out),
             "slots" => slots_line(alloc, text, out),
             "object" => push_number(alloc, out, object_line(text)?),
             _ => self.answer_plan(alloc, word, text, out),
