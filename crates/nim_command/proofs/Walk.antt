@@ -28,7 +28,7 @@ none_behind f (x ∷ past) at is = ap (λ (n : ℕ). drop n (f x ∷ map f past)
 pub free_first : (later : Footprint) (free : List Slot) → free ≡ later.reads ++ later.writes → free ≡ free_slots [] later
 free_first later free is = is ∙ sym (filter_all (λ (s : Slot). true) (λ s. refl) (later.reads ++ later.writes))
 
-not_either : (w u : Bool) → not (w || u) ≡ (not u && not w)
+pub not_either : (w u : Bool) → not (w || u) ≡ (not u && not w)
 not_either true true = refl
 not_either true false = refl
 not_either false true = refl
@@ -52,7 +52,7 @@ swapped false true second eq = refl
 swapped false false second eq = refl
 
 -- a slot is among those that pass a test where it is among all and passes it
-among_filter : (f : Slot → Bool) (xs : List Slot) (s : Slot) → is_among (filter f xs) s ≡ (is_among xs s && f s)
+pub among_filter : (f : Slot → Bool) (xs : List Slot) (s : Slot) → is_among (filter f xs) s ≡ (is_among xs s && f s)
 among_filter f xs s =
     any_filter (λ (x : Slot). x.0 == s.0) f xs
     ∙ any_same (λ (x : Slot). f x && (x.0 == s.0)) (λ (x : Slot). (x.0 == s.0) && f s) (λ x. swapped (x.0 == s.0) (f x) (f s) (λ test. ap f (same_slot x s test))) xs
@@ -65,7 +65,7 @@ among_free between later s =
     among_filter (λ (slot : Slot). not (is_rewritten between slot)) (later.reads ++ later.writes) s
     ∙ ap (λ (b : Bool). b && not (is_rewritten between s)) (list_any-append (λ (x : Slot). x.0 == s.0) later.reads later.writes)
 
-rewritten : (r w f : Bool) → (((r || w) && f) && w) ≡ (w && f)
+pub rewritten : (r w f : Bool) → (((r || w) && f) && w) ≡ (w && f)
 rewritten true true true = refl
 rewritten true true false = refl
 rewritten true false true = refl

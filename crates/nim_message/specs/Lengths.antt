@@ -1,8 +1,6 @@
 -- How many bytes a message takes as a frame: a length number and a body of that length. Numbers have 1, 2, 4 or 8
 -- bytes; a list is its count and its items.
 use Rattle.std.specs.Prelude.{ℕ, ◌+◌, ◌-◌, ◌*◌, ◌^◌, min, nat_lt, if◌then◌else◌, List, length, map, sum}
-use Rattle.nim_base.specs.declared.number.Object.{Object}
-use Rattle.nim_base.specs.declared.number.Slot.{Slot}
 use Rattle.nim_base.specs.declared.task.Param.{Param}
 use Rattle.nim_base.specs.declared.task.Param.TheVariants.{Const, Arg}
 use Rattle.nim_base.specs.Value.{Grid}

@@ -1,6 +1,6 @@
 -- Which messages have a frame: their numbers are in range, the counts of tasks are those of their functions, lists are
 -- as long as their counts can say, and the body isn't too long.
-use Rattle.std.specs.Prelude.{ℕ, ◌*◌, nat_lt, nat_le, Bool, true, ◌&&◌, List, length}
+use Rattle.std.specs.Prelude.{ℕ, ◌*◌, nat_lt, nat_le, Bool, true, ◌&&◌, length}
 use Rattle.std.specs.List.{list_all}
 use Rattle.nim_base.specs.declared.number.Object.{Object}
 use Rattle.nim_base.specs.declared.number.Shape.{Shape}

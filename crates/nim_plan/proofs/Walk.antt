@@ -3,7 +3,6 @@ use Rattle.std.proofs.Common.{◌≡◌, ℕ, suc, ◌+◌, ◌-◌, ◌<◌, �
 use Rattle.std.specs.Prelude.{◌==◌, ◌&&◌, ◌||◌, if◌then◌else◌, slice_range}
 use Rattle.std.specs.List.{filter, list_any, range_with_len}
 use Rattle.std.specs.Option.{option_map_or}
-use Rattle.std.proofs.lemmas.Bool.{eqb-true}
 use Rattle.std.proofs.lemmas.List.{append-nil, reverse-append}
 use Rattle.std.proofs.lemmas.List.Folds.{list_any-append}
 use Rattle.std.proofs.lemmas.Option.{slice_get-get_or}
@@ -11,8 +10,9 @@ use Rattle.nim_base.specs.declared.number.Slot.{Slot}
 use Rattle.nim_command.specs.declared.command.Kind.{Kind}
 use Rattle.nim_command.specs.Slots.{does_read, does_touch, does_write, is_among, reads_of, writes_of}
 use Rattle.nim_command.specs.Waits.{Member, is_waited, is_written_by, waits_for}
+use Rattle.nim_command.proofs.Walk.{among_filter, not_either, rewritten}
 use Rattle.nim_plan.specs.Free.{does_name, free_slots, has_free, has_rewritten, is_waited_free, kept_free, touched_by}
-use Rattle.nim_plan.proofs.Lists.{any_filter, any_same, any_and, filter_all, filter_twice}
+use Rattle.nim_plan.proofs.Lists.{any_same, filter_all, filter_twice}
 
 -- a list from a place on begins with the item there
 slice_step : {X : Type 0} (xs : List X) (a b : ℕ) (d : X) → a < b → b ≤ length xs → slice_range xs a b ≡ get_or xs a d ∷ slice_range xs (a + 1) b
@@ -34,12 +34,6 @@ free_first members place kind free is =
 pub waits_first : (p : ℕ → Bool) (place : ℕ) (waits : List ℕ) → waits ≡ [] → reverse waits ≡ filter p (range_with_len place (place - place))
 waits_first p place waits is = let none : 0 ≡ place - place = omega arith in ap reverse is ∙ ap (λ (n : ℕ). filter p (range_with_len place n)) none
 
-not_either : (w u : Bool) → not (w || u) ≡ (not u && not w)
-not_either true true = refl
-not_either true false = refl
-not_either false true = refl
-not_either false false = refl
-
 -- the free slots, one place further down
 pub free_step : (members : List Member) (next old place : ℕ) (kind : Kind) (m : Member) (free kept : List Slot) → old ≡ next + 1 → old ≤ place → place ≤ length members
     → m ≡ get_or members next m → free ≡ free_slots (slice_range members old place) kind → kept ≡ kept_free m.command.kind free
@@ -54,36 +48,11 @@ free_step members next old place kind m free kept above within there is before n
     ∙ ap (λ (between : List Member). free_slots between kind)
     (ap₂ (λ (first : Member) (n : ℕ). first ∷ slice_range members n place) is above ∙ sym (slice_step members next place m less there))
 
-same_slot : (x s : Slot) → (x.0 == s.0) ≡ true → x ≡ s
-same_slot x s test = let slot : ℕ → Slot = λ n. record { 0 = n } in ap slot (eqb-true x.0 s.0 test)
-
-swapped : (same first second : Bool) → (same ≡ true → first ≡ second) → (first && same) ≡ (same && second)
-swapped true true second eq = eq refl
-swapped true false second eq = eq refl
-swapped false true second eq = refl
-swapped false false second eq = refl
-
--- a slot is among those that pass a test where it is among all and passes it
-among_filter : (f : Slot → Bool) (xs : List Slot) (s : Slot) → is_among (filter f xs) s ≡ (is_among xs s && f s)
-among_filter f xs s =
-    any_filter (λ (x : Slot). x.0 == s.0) f xs
-    ∙ any_same (λ (x : Slot). f x && (x.0 == s.0)) (λ (x : Slot). (x.0 == s.0) && f s) (λ x. swapped (x.0 == s.0) (f x) (f s) (λ test. ap f (same_slot x s test))) xs
-    ∙ any_and (λ (x : Slot). x.0 == s.0) (f s) xs
-
 -- a slot is free where the command touches it and no command between writes it
 among_free : (between : List Member) (kind : Kind) (s : Slot) → is_among (free_slots between kind) s ≡ (does_touch kind s && not (is_written_by between s))
 among_free between kind s =
     among_filter (λ (slot : Slot). not (is_written_by between slot)) (touched_by kind) s
     ∙ ap (λ (b : Bool). b && not (is_written_by between s)) (list_any-append (λ (x : Slot). x.0 == s.0) (reads_of kind) (writes_of kind))
-
-rewritten : (r w f : Bool) → (((r || w) && f) && w) ≡ (w && f)
-rewritten true true true = refl
-rewritten true true false = refl
-rewritten true false true = refl
-rewritten true false false = refl
-rewritten false true true = refl
-rewritten false true false = refl
-rewritten false false f = refl
 
 -- by the free slots a command waits for the same ones
 pub waited_same : (earlier later : Member) (between : List Member) (free : List Slot) → free ≡ free_slots between later.command.kind
