@@ -31,7 +31,9 @@ fn main(rt: HostRuntime) -> ExitCode {
 
 // Whether the command is `check`. Any other words, also none, are for `replay` to take or to refuse.
 fn is_check(words: &[String]) -> bool {
-    words.first().is_some_and(|command| command.as_str() == "check")
+    words
+        .first()
+        .is_some_and(|command| command.as_str() == "check")
 }
 
 // The words behind the program's name. One that isn't text makes the command line a faulty one.

@@ -4,9 +4,7 @@ use nim_funcs::{
     add_is_sum, group_gathers_all_rows, keep_counts_all_rows, merge_joins_groups, order_is_free,
     split_keeps_all_rows,
 };
-use nim_job::{
-    Job, division_is_total, is_checked, is_whole, machine_follows, versions_are_read,
-};
+use nim_job::{Job, division_is_total, is_checked, is_whole, machine_follows, versions_are_read};
 use nim_lex::tokens;
 use nim_order::{
     any_order, any_step, before_sets_cover, front_stays, held_at_ends, longer_list_stands,
