@@ -15,7 +15,7 @@ use Rattle.nim_base.specs.Value.{Grid}
 use Rattle.nim_command.specs.declared.command.Command.{Command}
 use Rattle.nim_command.specs.declared.command.Kind.{Kind}
 use Rattle.nim_command.specs.Holds.{Content, holds, left_by}
-use Rattle.nim_command.specs.Waits.{Group, commands_of}
+use Rattle.nim_command.specs.Waits.{Group, commands_of, single_group}
 use Rattle.nim_message.specs.declared.order.ToWorker.{ToWorker}
 use Rattle.nim_message.specs.Orders.{Session, after_order, is_current, no_session, session_of, with_group}
 use Rattle.nim_job.specs.declared.job.Job.{Job}
@@ -32,7 +32,7 @@ abbrev command_of : ℕ → Kind → Command
 command_of id kind = record { id = id; kind = kind; before = [] }
 
 abbrev group_of : ℕ → ℕ → Kind → Group
-group_of instance id kind = record { epoch = 0; instance = instance; commands = command_of id kind ∷ [] }
+group_of instance id kind = single_group 0 instance (command_of id kind ∷ [])
 
 -- what the slots hold behind all that orders ask for
 abbrev pub held_by : List ToWorker → Slot → Content
