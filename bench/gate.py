@@ -12,7 +12,6 @@ import sys
 import time
 
 TICKS = os.sysconf("SC_CLK_TCK")
-EDITS = ("rt-edit-", "rt-seed-")
 
 
 def processes():
@@ -26,8 +25,8 @@ def processes():
         yield number, fields[19], (int(fields[11]) + int(fields[12])) / TICKS
 
 
-def prover(number):
-    """The crate that a process proves and why, if it is a prover."""
+def prover(number, run):
+    """The crate that a process of the run proves and why, if it is a prover."""
     try:
         with open(f"/proc/{number}/cmdline") as line:
             words = line.read().split("\0")
@@ -36,7 +35,10 @@ def prover(number):
         return None
     if not words[0].endswith("/rattle") or "--crate-name" not in words:
         return None
-    kind = "tests" if "--test" in words else "edits" if any(it in folder for it in EDITS) else "proof"
+    is_edit = f"/rt-edit-{run.pid}-" in folder
+    if not is_edit and not folder.startswith(os.getcwd()):
+        return None
+    kind = "tests" if "--test" in words else "edits" if is_edit else "proof"
     return words[words.index("--crate-name") + 1], kind
 
 
@@ -46,8 +48,9 @@ def watch(run):
     while run.poll() is None:
         for number, begun, seconds in processes():
             key = number, begun
-            if key not in kinds:
-                kinds[key] = prover(number)
+            # (a process is first seen before it has become a prover)
+            if not kinds.get(key):
+                kinds[key] = prover(number, run)
             if kinds[key]:
                 seen[key] = max(seconds, seen.get(key, 0))
                 first = spans.get(kinds[key][0], (time.time() - start,))[0]
