@@ -20,8 +20,8 @@ key_cmp a b =
     (ordering_then (nat_cmp a.object.0 b.object.0) (nat_cmp a.version b.version))))
 
 -- whether a key is of this epoch or a later one
-abbrev pub is_from : ℕ → Key → Bool
-is_from epoch key = not (nat_lt key.epoch epoch)
+abbrev pub is_not_before : ℕ → Key → Bool
+is_not_before epoch key = not (nat_lt key.epoch epoch)
 
 -- a key as its numbers, and back
 abbrev pub Numbers : Type 0

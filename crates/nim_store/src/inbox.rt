@@ -1,6 +1,6 @@
 ghost use Rattle.std.specs.Prelude.{◌≡◌, OnOk, OnErr, filter};
 ghost use Rattle.std.specs.FinMap as map;
-ghost use Rattle.nim_store.specs.Keys.{is_from, key_of};
+ghost use Rattle.nim_store.specs.Keys.{is_not_before, key_of};
 
 use crate::Key;
 use nim_base::{Epoch, NoMemory, Value};
@@ -66,14 +66,14 @@ impl Inbox {
 
     /// Lets go of the frames of earlier epochs; all others stay. Takes no memory.
     pub fn forget_before(&mut self, epoch: Epoch)
-        ensures { self.new ≡ map.retain_keys self.old (is_from epoch) }
+        ensures { self.new ≡ map.retain_keys self.old (is_not_before epoch) }
     {
         retain_from(&mut self.values, epoch);
     }
 }
 
 fn retain_from(values: &mut BTreeMap<Key, Value>, epoch: Epoch)
-    ensures { values.new.entries ≡ filter (λ entry. is_from epoch entry.0) values.old.entries }
+    ensures { values.new.entries ≡ filter (λ entry. is_not_before epoch entry.0) values.old.entries }
 {
     values.retain(|key, _| epoch <= key.epoch);
 }

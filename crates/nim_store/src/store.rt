@@ -1,8 +1,8 @@
-ghost use Rattle.std.specs.Prelude.{◌≡◌, ◌<◌, [], None, Some, length, slice_get, OnOk, OnErr};
+ghost use Rattle.std.specs.Prelude.{◌≡◌, ◌<◌, ◌≤◌, [], None, Some, length, slice_get, IsOk, OnOk, OnErr};
 ghost use Rattle.std.specs.Option.{option_copied};
 ghost use Rattle.nim_base.specs.declared.number.Slot.{Slot as slot_number};
 ghost use Rattle.nim_command.specs.Holds.{put_at};
-ghost use Rattle.nim_store.specs.Stored.{numbered, slot_at};
+ghost use Rattle.nim_store.specs.Stored.{HasPlace, KeepsPlaces, numbered, slot_at};
 
 use crate::Held;
 use nim_base::{NoMemory, Object, Shape, Slot};
@@ -10,8 +10,9 @@ use std::alloc::Global;
 use std::marker::Model;
 
 /// The slots of a worker, and the shapes of all objects. Contracts see it as a map from slots (`slot_at` of
-/// `specs/Stored.antt`) and the list of the shapes. Any number is a slot. Memory is taken only by a `put` into a slot
-/// past all that were put into since the store was made.
+/// `specs/Stored.antt`) and the list of the shapes. Any number is a slot. A slot that was put into has a place until the
+/// next `reset`, and so have those of smaller numbers. Only a `put` takes memory, and only into a slot past all that had
+/// a place since the store was made.
 #[derive(Drop)]
 pub struct Store {
     shapes: Vec<Shape>,
@@ -66,16 +67,20 @@ impl Store {
         ensures value { result ≡ slot_at self.old slot }
         ensures slots { slot_at self.new ≡ put_at slot None (slot_at self.old) }
         ensures shapes { self.new.shapes ≡ self.old.shapes }
+        ensures places { KeepsPlaces self.old self.new }
     {
         take_from(&mut self.slots, slot)
     }
 
-    /// Puts this into a slot, in place of what was there. After want of memory the store is as it was. It takes memory
-    /// only for a slot past all that were put into before.
+    /// Puts this into a slot, in place of what was there, which is dropped. After want of memory the store is as it was;
+    /// a slot that has a place wants none.
     pub fn put(&mut self, slot: Slot, held: Held) -> Result<(), NoMemory>
         ensures ok { OnOk result (slot_at self.new ≡ put_at slot (Some held) (slot_at self.old)) }
         ensures shapes { self.new.shapes ≡ self.old.shapes }
         ensures err { OnErr result (self.new ≡ self.old) }
+        ensures room { HasPlace self.old slot → IsOk result }
+        ensures place { OnOk result (HasPlace self.new slot) }
+        ensures places { KeepsPlaces self.old self.new }
     {
         put_into(&mut self.slots, slot, held)
     }
@@ -93,6 +98,7 @@ fn look(slots: &[Option<Held>], slot: Slot) -> Option<&Held>
 fn take_from(slots: &mut Vec<Option<Held>>, slot: Slot) -> Option<Held>
     ensures value { result ≡ numbered slots.old.items slot }
     ensures slots { numbered slots.new.items ≡ put_at slot None (numbered slots.old.items) }
+    ensures places { length slots.new.items ≡ length slots.old.items }
 {
     let at = usize::from(slot.0);
     if at < slots.len() {
@@ -105,6 +111,9 @@ fn take_from(slots: &mut Vec<Option<Held>>, slot: Slot) -> Option<Held>
 fn put_into(slots: &mut Vec<Option<Held>>, slot: Slot, held: Held) -> Result<(), NoMemory>
     ensures ok { OnOk result (numbered slots.new.items ≡ put_at slot (Some held) (numbered slots.old.items)) }
     ensures err { OnErr result (slots.new.items ≡ slots.old.items) }
+    ensures room { slot.0 < length slots.old.items → IsOk result }
+    ensures place { OnOk result (slot.0 < length slots.new.items) }
+    ensures places { length slots.old.items ≤ length slots.new.items }
 {
     reach(slots, slot)?;
     slots[usize::from(slot.0)] = Some(held);
@@ -116,6 +125,8 @@ fn reach(slots: &mut Vec<Option<Held>>, slot: Slot) -> Result<(), NoMemory>
     ensures slots { numbered slots.new.items ≡ numbered slots.old.items }
     ensures there { OnOk result (slot.0 < length slots.new.items) }
     ensures err { OnErr result (slots.new.items ≡ slots.old.items) }
+    ensures room { slot.0 < length slots.old.items → IsOk result }
+    ensures places { length slots.old.items ≤ length slots.new.items }
 {
     let count = usize::from(slot.0) + 1;
     if slots.len() < count {

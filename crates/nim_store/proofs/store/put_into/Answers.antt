@@ -1,4 +1,4 @@
-use Rattle.std.proofs.Common.{arith, Some, ap, ◌∙◌}
+use Rattle.std.proofs.Common.{Some, ap, ◌∙◌}
 use Rattle.nim_command.specs.Holds.{put_at}
 use Rattle.nim_store.proofs.Slots.{set_put}
 use Rattle.nim_store.proofs.store.put_into.Goals as goal

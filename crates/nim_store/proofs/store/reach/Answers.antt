@@ -1,4 +1,4 @@
-use Rattle.std.proofs.Common.{arith, rules}
+use Rattle.std.proofs.Common.{rules}
 use Rattle.nim_store.proofs.Slots.{filled_up}
 use Rattle.nim_store.proofs.store.reach.Goals as goal
 
