@@ -1,5 +1,6 @@
 -- What slots have once there is room for more, and once one is set.
-use Rattle.std.proofs.Common.{◌≡◌, ◌<◌, ◌≤◌, ◌++◌, ◌∷◌, [], ℕ, zero, suc, Bool, true, false, List, Option, None, Some, length, take, get_or, refl, ap, ◌∙◌, arith}
+use Rattle.std.proofs.Common.{◌≡◌, ◌<◌, ◌≤◌, ◌++◌, ◌∷◌, [], ℕ, zero, suc, Bool, true, false, List, Option, None, length, take, get_or, refl}
+use Rattle.std.proofs.Common.{ap, ◌∙◌}
 use Rattle.std.proofs.Math.Path.{fun_ext}
 use Rattle.std.proofs.lemmas.Bool.{eqb-false, eqb-true}
 use Rattle.std.proofs.lemmas.List.{get_or-set_other, get_or-set_same, take_all}
@@ -39,10 +40,3 @@ set_put xs slot held within = fun_ext (λ (s : Slot). either s (s.0 == slot.0) r
   either : (s : Slot) (b : Bool) → (s.0 == slot.0) ≡ b → get_or (slice_set xs slot.0 held) s.0 None ≡ (if b then held else get_or xs s.0 None)
   either s true same = ap (λ (n : ℕ). get_or (slice_set xs slot.0 held) n None) (eqb-true s.0 slot.0 same) ∙ get_or-set_same xs slot.0 held None within
   either s false other = get_or-set_other xs slot.0 s.0 held None (eqb-false s.0 slot.0 other)
-
--- a slot that has something has a place
-pub held_place : {X : Type 0} (xs : List (Option X)) (n : ℕ) (x : X) → get_or xs n None ≡ Some x → n < length xs
-held_place [] zero x has = absurd cc
-held_place [] (suc n) x has = absurd cc
-held_place (y ∷ xs) zero x has = omega arith
-held_place (y ∷ xs) (suc n) x has = omega (arith, held_place xs n x has)

@@ -1,4 +1,4 @@
-ghost use Rattle.std.specs.Prelude.{◌≡◌, ◌<◌, ◌≤◌, [], None, Some, length, slice_get, IsOk, OnOk, OnErr};
+ghost use Rattle.std.specs.Prelude.{◌≡◌, ◌<◌, ◌≤◌, [], None, Some, length, slice_get, IsOk, IsSome, OnOk, OnErr};
 ghost use Rattle.std.specs.Option.{option_copied};
 ghost use Rattle.nim_base.specs.declared.number.Slot.{Slot as slot_number};
 ghost use Rattle.nim_command.specs.Holds.{put_at};
@@ -10,9 +10,9 @@ use std::alloc::Global;
 use std::marker::Model;
 
 /// The slots of a worker, and the shapes of all objects. Contracts see it as a map from slots (`slot_at` of
-/// `specs/Stored.antt`) and the list of the shapes. Any number is a slot. A slot that was put into has a place until the
-/// next `reset`, and so have those of smaller numbers. Only a `put` takes memory, and only into a slot past all that had
-/// a place since the store was made.
+/// `specs/Stored.antt`) and the list of the shapes. Any number is a slot. A slot that was put into has a place until
+/// the next `reset`, and so have those of smaller numbers. Only a `put` takes memory, and only into a slot past all
+/// that had a place since the store was made.
 #[derive(Drop)]
 pub struct Store {
     shapes: Vec<Shape>,
@@ -57,7 +57,8 @@ impl Store {
 
     /// What a slot has, which stays there.
     pub fn held(&self, slot: Slot) -> Option<&Held>
-        ensures { option_copied result ≡ slot_at self.now slot }
+        ensures value { option_copied result ≡ slot_at self.now slot }
+        ensures place { IsSome result → HasPlace self.now slot }
     {
         look(self.slots.as_slice(), slot)
     }
@@ -67,13 +68,14 @@ impl Store {
         ensures value { result ≡ slot_at self.old slot }
         ensures slots { slot_at self.new ≡ put_at slot None (slot_at self.old) }
         ensures shapes { self.new.shapes ≡ self.old.shapes }
+        ensures place { IsSome result → HasPlace self.new slot }
         ensures places { KeepsPlaces self.old self.new }
     {
         take_from(&mut self.slots, slot)
     }
 
-    /// Puts this into a slot, in place of what was there, which is dropped. After want of memory the store is as it was;
-    /// a slot that has a place wants none.
+    /// Puts this into a slot, in place of what was there, which is dropped. After want of memory the store is as it
+    /// was; a slot that has a place wants none.
     pub fn put(&mut self, slot: Slot, held: Held) -> Result<(), NoMemory>
         ensures ok { OnOk result (slot_at self.new ≡ put_at slot (Some held) (slot_at self.old)) }
         ensures shapes { self.new.shapes ≡ self.old.shapes }
@@ -87,7 +89,8 @@ impl Store {
 }
 
 fn look(slots: &[Option<Held>], slot: Slot) -> Option<&Held>
-    ensures { option_copied result ≡ numbered slots.now slot }
+    ensures value { option_copied result ≡ numbered slots.now slot }
+    ensures place { IsSome result → slot.0 < length slots.now }
 {
     match slots.get(usize::from(slot.0)) {
         Some(held) => held.as_ref(),
@@ -98,6 +101,7 @@ fn look(slots: &[Option<Held>], slot: Slot) -> Option<&Held>
 fn take_from(slots: &mut Vec<Option<Held>>, slot: Slot) -> Option<Held>
     ensures value { result ≡ numbered slots.old.items slot }
     ensures slots { numbered slots.new.items ≡ put_at slot None (numbered slots.old.items) }
+    ensures place { IsSome result → slot.0 < length slots.new.items }
     ensures places { length slots.new.items ≡ length slots.old.items }
 {
     let at = usize::from(slot.0);
