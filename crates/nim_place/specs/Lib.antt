@@ -1,1 +1,3 @@
 pub mod Placement
+pub mod Stands
+pub mod Versions
