@@ -2,7 +2,9 @@
 #![tactic(auto)]
 
 mod placement;
+mod schedule;
 mod versions;
 
 pub use placement::{Placement, home};
+pub use schedule::schedule_task;
 pub use versions::VersionMap;
