@@ -1,0 +1,4 @@
+pub mod History
+pub mod Live
+pub mod Places
+pub mod Puts

@@ -1,0 +1,4 @@
+pub mod Placement
+pub mod Schedule
+pub mod Stands
+pub mod Versions

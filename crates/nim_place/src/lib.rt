@@ -1,0 +1,10 @@
+//! Where data lies, and the commands that one task needs: placement, the map of versions, and single scheduling.
+#![tactic(auto)]
+
+mod placement;
+mod schedule;
+mod versions;
+
+pub use placement::{Placement, home};
+pub use schedule::schedule_task;
+pub use versions::VersionMap;
