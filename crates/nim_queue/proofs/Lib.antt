@@ -1,0 +1,5 @@
+pub mod Arriving
+pub mod Completing
+pub mod Lists
+pub mod Searches
+pub mod Standing
