@@ -47,7 +47,8 @@ hidden_at all m done place x rest within =
     let made : List Slot → List Slot → List ℕ → Waiting =
     λ reads writes waits. record { ticket = place; group = x.group; command = x.command; reads = reads; writes = writes; waits = waits } in
     let open_waits : List ℕ → List ℕ = λ waits. filter (λ earlier. not (done earlier)) waits in
-    ap (λ (waits : List ℕ). made (unwritten (rest ++ m ∷ []) (reads_of x.command.kind)) (unwritten (rest ++ m ∷ []) (writes_of x.command.kind)) (open_waits waits))
+    let more : List Slot → List Slot = unwritten (rest ++ m ∷ []) in
+    ap (λ (waits : List ℕ). made (more (reads_of x.command.kind)) (more (writes_of x.command.kind)) (open_waits waits))
     (waits_of_front all (m ∷ []) place within)
     ∙ ap₂ (λ (reads writes : List Slot). made reads writes (open_waits (waits_of all place))) (unwritten_more rest m (reads_of x.command.kind))
     (unwritten_more rest m (writes_of x.command.kind))
@@ -83,7 +84,8 @@ waits_last all past x rest m place is at =
     let waits : List Member → Option Member → Option Member → Bool =
     λ between o p. option_map_or (λ (l : Member). option_map_or (λ (e : Member). is_waited e between l) p false) o false in
     let between : slice_range (all ++ m ∷ []) (place + 1) (length all) ≡ rest =
-    ap (λ (ms : List Member). slice_range (ms ++ m ∷ []) (place + 1) (length all)) is ∙ range_behind past x rest (m ∷ []) place (length all) at (ap length is) in
+    ap (λ (ms : List Member). slice_range (ms ++ m ∷ []) (place + 1) (length all)) is
+    ∙ range_behind past x rest (m ∷ []) place (length all) at (ap length is) in
     let earlier : slice_get (all ++ m ∷ []) place ≡ Some x =
     ap₂ (λ (ms : List Member) (k : ℕ). slice_get ms k) (ap (λ (ms : List Member). ms ++ m ∷ []) is ∙ append_assoc past (x ∷ rest) (m ∷ [])) at
     ∙ get_at past (rest ++ m ∷ []) x in
@@ -91,7 +93,8 @@ waits_last all past x rest m place is at =
     ∙ ap₂ (waits rest) (get_at all [] m) earlier
 
 first_kept : (test : ℕ → Bool) (place : ℕ) (rest : List ℕ) (goes : Bool)
-    → filter test (if goes then place ∷ rest else rest) ≡ (if goes then (if test place then place ∷ filter test rest else filter test rest) else filter test rest)
+    → filter test (if goes then place ∷ rest else rest)
+    ≡ (if goes then (if test place then place ∷ filter test rest else filter test rest) else filter test rest)
 first_kept test place rest true = refl
 first_kept test place rest false = refl
 
@@ -129,9 +132,10 @@ one_more all m done none =
     ap (λ (b : Bool). if b then [] else waiting_at (all ++ m ∷ []) done (length all) m [] ∷ []) none in
     let held : filter (λ earlier. not (done earlier)) (waits_of (all ++ m ∷ []) (length all)) ≡ holders (waiting_of all done) m.group [] m.command =
     held_last all [] all m done 0 refl refl in
-    let is : waiting_at (all ++ m ∷ []) done (length all) m [] ≡ arrived_as (length all) m.group m.command (holders (waiting_of all done) m.group [] m.command) =
+    let tickets : List ℕ = holders (waiting_of all done) m.group [] m.command in
+    let is : waiting_at (all ++ m ∷ []) done (length all) m [] ≡ arrived_as (length all) m.group m.command tickets =
     ap (made (unwritten [] (reads_of m.command.kind)) (unwritten [] (writes_of m.command.kind))) held
-    ∙ ap₂ (λ (reads writes : List Slot). made reads writes (holders (waiting_of all done) m.group [] m.command)) (every (reads_of m.command.kind)) (every (writes_of m.command.kind)) in
+    ∙ ap₂ (λ (reads writes : List Slot). made reads writes tickets) (every (reads_of m.command.kind)) (every (writes_of m.command.kind)) in
     waiting_more all m done 0 all (omega arith)
     ∙ ap (λ (ws : List Waiting). map (hidden (writes_of m.command.kind)) (waiting_of all done) ++ ws) (last ∙ ap (λ (w : Waiting). w ∷ []) is)
 
@@ -168,7 +172,8 @@ hidden_twice : (written more : List Slot) (ws : List Waiting) → map (hidden (w
 hidden_twice written more [] = refl
 hidden_twice written more (w ∷ ws) =
     let made : List Slot → List Slot → Waiting = λ reads writes. record w { reads = reads; writes = writes } in
-    ap₂ (λ (v : Waiting) (vs : List Waiting). v ∷ vs) (ap₂ made (without_twice written more w.reads) (without_twice written more w.writes)) (hidden_twice written more ws)
+    ap₂ (λ (v : Waiting) (vs : List Waiting). v ∷ vs) (ap₂ made (without_twice written more w.reads) (without_twice written more w.writes))
+    (hidden_twice written more ws)
 
 hidden_none : (ws : List Waiting) → map (hidden []) ws ≡ ws
 hidden_none [] = refl
@@ -208,7 +213,9 @@ one_arrived waiting group first ticket commands command arrived next have at fre
     let m : Member = record { group = group; command = command } in
     let all : List Member = members ++ as_members group commands in
     let before : joined waiting arrived ≡ waiting_of all done = have members done is begins none in
-    let long : length all ≡ ticket = length-append members (as_members group commands) ∙ count group commands (length members) ∙ sym (at ∙ ap (λ (n : ℕ). n + length commands) begins) in
+    let long : length all ≡ ticket =
+    length-append members (as_members group commands) ∙ count group commands (length members)
+    ∙ sym (at ∙ ap (λ (n : ℕ). n + length commands) begins) in
     let waits : held_by waiting group command arrived ≡ holders (joined waiting arrived) group [] command =
     ap (λ (ts : List ℕ). ts ++ holders arrived.fresh.items group [] command) (sym (holders_hidden waiting group arrived.written.items command))
     ∙ sym (holders_append (map (hidden arrived.written.items) waiting) arrived.fresh.items group [] command) in
@@ -216,16 +223,19 @@ one_arrived waiting group first ticket commands command arrived next have at fre
     ap₂ (λ (slots : List Slot) (ws : List Waiting). map (hidden slots) waiting ++ ws) written fresh
     ∙ ap₂ (λ (ws : List Waiting) (ts : List ℕ). ws ++ (map (hidden writes) arrived.fresh.items ++ arrived_as ticket group command ts ∷ []))
     (hidden_twice arrived.written.items writes waiting) waits
-    ∙ sym (append_assoc (map (hidden writes) (map (hidden arrived.written.items) waiting)) (map (hidden writes) arrived.fresh.items) (entry (joined waiting arrived) ticket ∷ []))
-    ∙ ap (λ (ws : List Waiting). ws ++ entry (joined waiting arrived) ticket ∷ []) (sym (map-append (hidden writes) (map (hidden arrived.written.items) waiting) arrived.fresh.items))
+    ∙ sym
+    (append_assoc (map (hidden writes) (map (hidden arrived.written.items) waiting)) (map (hidden writes) arrived.fresh.items)
+    (entry (joined waiting arrived) ticket ∷ []))
+    ∙ ap (λ (ws : List Waiting). ws ++ entry (joined waiting arrived) ticket ∷ [])
+    (sym (map-append (hidden writes) (map (hidden arrived.written.items) waiting) arrived.fresh.items))
     ∙ ap₂ (λ (ws : List Waiting) (n : ℕ). map (hidden writes) ws ++ entry ws n ∷ []) before (sym long)
     ∙ sym (one_more all m done (none (length all) (omega (arith, length-append members (as_members group commands)))))
     ∙ ap (λ (ms : List Member). waiting_of ms done)
     (append_assoc members (as_members group commands) (m ∷ []) ∙ ap (λ (ms : List Member). members ++ ms) (sym (as_members_more group commands command)))
 
 -- how many have arrived with one more
-pub count_more : (written : List Slot) (before after : List Waiting) (w : Waiting) (n m : ℕ) → after ≡ map (hidden written) before ++ w ∷ [] → length before ≡ n → m ≡ n + 1
-    → length after ≡ m
+pub count_more : (written : List Slot) (before after : List Waiting) (w : Waiting) (n m : ℕ) → after ≡ map (hidden written) before ++ w ∷ []
+    → length before ≡ n → m ≡ n + 1 → length after ≡ m
 count_more written before after w n m is count more =
     ap length is ∙ length-append (map (hidden written) before) (w ∷ []) ∙ ap (λ (k : ℕ). k + 1) (length-map before (hidden written) ∙ count) ∙ sym more
 

@@ -12,15 +12,16 @@ use Rattle.nim_queue.proofs.Lists.{not_or}
 
 -- what is complete with one more
 abbrev pub with_one : (ℕ → Bool) → ℕ → ℕ → Bool
-with_one done ticket place = done place || (place == ticket)
+with_one done ticket place = done place || (ticket == place)
 
 freed_at : (all : List Member) (done : ℕ → Bool) (ticket place : ℕ) (x : Member) (rest : List Member)
     → freed ticket (waiting_at all done place x rest) ≡ waiting_at all (with_one done ticket) place x rest
 freed_at all done ticket place x rest =
     ap (λ (waits : List ℕ). record (waiting_at all done place x rest) { waits = waits })
-    (filter_twice (λ (n : ℕ). not (n == ticket)) (λ (n : ℕ). not (done n)) (λ (n : ℕ). not (with_one done ticket n)) (λ n. not_or (done n) (n == ticket)) (waits_of all place))
+    (filter_twice (λ (n : ℕ). not (ticket == n)) (λ (n : ℕ). not (done n)) (λ (n : ℕ). not (with_one done ticket n)) (λ n. not_or (done n) (ticket == n))
+    (waits_of all place))
 
-freed_step : (ticket : ℕ) (d e : Bool) (old next : Waiting) (before after : List Waiting) → (old.ticket == ticket) ≡ e → freed ticket old ≡ next
+freed_step : (ticket : ℕ) (d e : Bool) (old next : Waiting) (before after : List Waiting) → (ticket == old.ticket) ≡ e → freed ticket old ≡ next
     → all_freed ticket before ≡ after → all_freed ticket (if d then before else old ∷ before) ≡ (if d || e then after else next ∷ after)
 freed_step ticket true e old next before after is one all = all
 freed_step ticket false true old next before after is one all =
@@ -33,6 +34,6 @@ pub one_complete : (all : List Member) (done : ℕ → Bool) (ticket place : ℕ
     → all_freed ticket (waiting_from all done place rest) ≡ waiting_from all (with_one done ticket) place rest
 one_complete all done ticket place [] = refl
 one_complete all done ticket place (x ∷ rest) =
-    freed_step ticket (done place) (place == ticket) (waiting_at all done place x rest) (waiting_at all (with_one done ticket) place x rest)
+    freed_step ticket (done place) (ticket == place) (waiting_at all done place x rest) (waiting_at all (with_one done ticket) place x rest)
     (waiting_from all done (place + 1) rest) (waiting_from all (with_one done ticket) (place + 1) rest) refl (freed_at all done ticket place x rest)
     (one_complete all done ticket (place + 1) rest)

@@ -37,7 +37,8 @@ first_released all done after place (x ∷ rest) =
     (first_that (λ ticket. is_after after ticket && (not (done ticket) && list_all done (waits_of all ticket))) (range_with_len (place + 1) (length rest)))
     (none_left done (waits_of all place)) (first_released all done after (place + 1) rest)
 
-pass_step : (ticket : ℕ) (d : Bool) (w : Waiting) (ws : List Waiting) → (w.ticket == ticket) ≡ false → command_at (if d then ws else w ∷ ws) ticket ≡ command_at ws ticket
+pass_step : (ticket : ℕ) (d : Bool) (w : Waiting) (ws : List Waiting) → (w.ticket == ticket) ≡ false
+    → command_at (if d then ws else w ∷ ws) ticket ≡ command_at ws ticket
 pass_step ticket true w ws is = refl
 pass_step ticket false w ws is = ap (λ (b : Bool). if b then Some w.command else command_at ws ticket) is
 

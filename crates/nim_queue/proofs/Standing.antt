@@ -21,7 +21,8 @@ admitted old new groups done next commands arrived stands same have waiting give
     let members : members_of groups ++ as_members old.groups commands ≡ members_of (groups ++ next ∷ []) =
     ap₂ (λ (n : ℕ) (cs : List Command). members_of groups ++ as_members n cs) stands.numbered (sym same) ∙ sym (members_more groups next) in
     let count : length (members_of groups) + length commands ≡ count_of (groups ++ next ∷ []) =
-    ap (λ (n : ℕ). length (members_of groups) + n) (sym (length_members old.groups commands)) ∙ sym (length-append (members_of groups) (as_members old.groups commands))
+    ap (λ (n : ℕ). length (members_of groups) + n) (sym (length_members old.groups commands))
+    ∙ sym (length-append (members_of groups) (as_members old.groups commands))
     ∙ ap length members in
     record {
       waiting = waiting ∙ have (members_of groups) done stands.waiting stands.given stands.later ∙ ap (λ (ms : List Member). waiting_of ms done) members;
@@ -35,11 +36,12 @@ pub completed : (old new : BeforeQueue) (groups : List Group) (done : ℕ → Bo
     → Stands new groups (done_with groups done ticket)
 completed old new groups done ticket stands within waiting given numbered =
     let inside : ticket < count_of groups = subst (λ (n : ℕ). ticket < n) stands.given within in
-    let same : done_with groups done ticket ≡ with_one done ticket = ap (λ (b : Bool). if b then with_one done ticket else done) (lt-ltb ticket (count_of groups) inside) in
+    let same : done_with groups done ticket ≡ with_one done ticket =
+    ap (λ (b : Bool). if b then with_one done ticket else done) (lt-ltb ticket (count_of groups) inside) in
     let now : Stands new groups (with_one done ticket) = record {
       waiting = waiting ∙ ap (all_freed ticket) stands.waiting ∙ one_complete (members_of groups) done ticket 0 (members_of groups);
       given = given ∙ stands.given;
       numbered = numbered ∙ stands.numbered;
-      later = λ place from. or_from (done place) (place == ticket) (stands.later place from) (ne_eqb place ticket (λ is. omega (arith, is, from, inside)));
+      later = λ place from. or_from (done place) (ticket == place) (stands.later place from) (ne_eqb ticket place (λ is. omega (arith, is, from, inside)));
     } in
     subst (λ (d : ℕ → Bool). Stands new groups d) (sym same) now

@@ -17,7 +17,8 @@ joined waiting arrived = map (hidden arrived.written.items) waiting ++ arrived.f
 
 -- the tickets of those that hold a command of a group back, among those that wait and what has arrived of its group
 abbrev pub held_by : List Waiting → ℕ → Command → Arrivals → List ℕ
-held_by waiting group command arrived = holders waiting group arrived.written.items command ++ holders arrived.fresh.items group [] command
+held_by waiting group command arrived =
+    holders waiting group arrived.written.items command ++ holders arrived.fresh.items group [] command
 
 -- Where those that wait are the ones of some members, with what has arrived they are the ones of more members.
 abbrev pub HaveArrived : List Waiting → ℕ → ℕ → List Command → Arrivals → Type 0

@@ -39,7 +39,8 @@ command_of groups done ticket =
 
 -- What is complete once the command of a ticket is. A ticket that was never given changes nothing.
 abbrev pub done_with : List Group → (ℕ → Bool) → ℕ → ℕ → Bool
-done_with groups done ticket = if nat_lt ticket (count_of groups) then (λ place. done place || (place == ticket)) else done
+done_with groups done ticket =
+    if nat_lt ticket (count_of groups) then (λ place. done place || (ticket == place)) else done
 
 -- nothing is complete
 abbrev pub nothing_done : ℕ → Bool

@@ -18,8 +18,14 @@ slots_without written slots = filter (λ slot. not (is_among written slot)) slot
 
 -- a command of a group that waits for these, with nothing behind it
 abbrev pub arrived_as : ℕ → ℕ → Command → List ℕ → Waiting
-arrived_as ticket group command waits =
-    record { ticket = ticket; group = group; command = command; reads = reads_of command.kind; writes = writes_of command.kind; waits = waits }
+arrived_as ticket group command waits = record {
+  ticket = ticket;
+  group = group;
+  command = command;
+  reads = reads_of command.kind;
+  writes = writes_of command.kind;
+  waits = waits;
+}
 
 -- a waiting command once later ones write these slots
 abbrev pub hidden : List Slot → Waiting → Waiting
@@ -31,13 +37,14 @@ abbrev pub is_touched : List Slot → Command → List Slot → Bool
 is_touched written command slots = list_any (λ slot. does_touch command.kind slot && not (is_among written slot)) slots
 
 abbrev pub is_overwritten : List Slot → Command → List Slot → Bool
-is_overwritten written command slots = list_any (λ slot. does_write command.kind slot && not (is_among written slot)) slots
+is_overwritten written command slots =
+    list_any (λ slot. does_write command.kind slot && not (is_among written slot)) slots
 
 abbrev pub does_name : Command → ℕ → Bool
 does_name command id = list_any (λ number. number == id) command.before
 
 -- Whether a waiting command holds back one of this group that comes behind it: one of its own group by its number, any
--- other by a slot that none between them writes, where those between are what the queue has and what writes these slots.
+-- other by a slot that none between them writes: none that the queue has, and none that writes these slots.
 abbrev pub holds_back : Waiting → ℕ → List Slot → Command → Bool
 holds_back w group written command =
     if w.group == group then does_name command w.command.id
@@ -47,15 +54,16 @@ holds_back w group written command =
 abbrev pub holders : List Waiting → ℕ → List Slot → Command → List ℕ
 holders [] group written command = []
 holders (w ∷ rest) group written command =
-    if holds_back w group written command then w.ticket ∷ holders rest group written command else holders rest group written command
+    if holds_back w group written command then w.ticket ∷ holders rest group written command
+    else holders rest group written command
 
 -- a waiting command once this one is complete
 abbrev pub freed : ℕ → Waiting → Waiting
-freed ticket w = record w { waits = filter (λ earlier. not (earlier == ticket)) w.waits }
+freed ticket w = record w { waits = filter (λ earlier. not (ticket == earlier)) w.waits }
 
 -- all but the one of this ticket
 abbrev pub all_but : ℕ → List Waiting → List Waiting
-all_but ticket waiting = filter (λ (w : Waiting). not (w.ticket == ticket)) waiting
+all_but ticket waiting = filter (λ (w : Waiting). not (ticket == w.ticket)) waiting
 
 -- those that wait once this one is complete
 abbrev pub all_freed : ℕ → List Waiting → List Waiting

@@ -1,7 +1,8 @@
-ghost use Rattle.std.specs.Prelude.{◌≡◌, ℕ, ◌+◌, ◌≤◌, ◌<◌, ◌^◌, ◌++◌, ◌∷◌, [], Bool, List, length, OnOk, OnErr};
+ghost use Rattle.std.specs.Prelude.{◌≡◌, ℕ, ◌+◌, ◌≤◌, ◌<◌, ◌^◌, ◌++◌, ◌∷◌, [], Bool, List, length, IfSome, OnOk, OnErr};
 ghost use Rattle.std.specs.Vec.{vec_capacity, vec_len};
 ghost use Rattle.std.specs.Option.{option_copied};
-ghost use Rattle.nim_command.specs.Waits.{Group as group_type};
+ghost use Rattle.nim_command.specs.Waits.{Group as group_type, placed_commands};
+ghost use Rattle.nim_order.specs.Progress.{IsReleasedAt};
 ghost use Rattle.nim_queue.specs.Arrived.{joined};
 ghost use Rattle.nim_queue.specs.Stands.{Stands, command_of, done_with, nothing_done, ready_of};
 
@@ -58,7 +59,9 @@ impl BeforeQueue {
     /// The ticket of the first command after the given one, the first of all where none is given, that isn't complete
     /// and whose waits are all complete; takes no memory.
     pub fn ready(&self, after: Option<u64>) -> Option<u64>
-        ensures { (groups : List group_type) (done : ℕ → Bool) → Stands self.now groups done → result ≡ ready_of groups done after }
+        ensures first { (groups : List group_type) (done : ℕ → Bool) → Stands self.now groups done → result ≡ ready_of groups done after }
+        ensures released { (groups : List group_type) (done : ℕ → Bool) → Stands self.now groups done
+            → IfSome result (λ ticket. IsReleasedAt (placed_commands groups) done ticket) }
     {
         first_free(self.waiting.as_slice(), after)
     }

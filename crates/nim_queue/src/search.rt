@@ -56,7 +56,7 @@ pub(crate) fn free_all(waiting: &mut Vec<Waiting>, ticket: u64)
 fn drop_ticket(waiting: &mut Vec<Waiting>, ticket: u64)
     ensures { waiting.new.items ≡ spec.all_but ticket waiting.old.items }
 {
-    waiting.retain(|w| w.ticket != ticket);
+    waiting.retain(|w| ticket != w.ticket);
 }
 
 fn free_each(waiting: &mut [Waiting], ticket: u64)

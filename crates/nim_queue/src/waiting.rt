@@ -93,9 +93,9 @@ fn keep_unwritten(slots: &mut Vec<Slot>, written: &[Slot])
 }
 
 fn drop_number(numbers: &mut Vec<u64>, number: u64)
-    ensures { numbers.new.items ≡ filter (λ n. not (n == number)) numbers.old.items }
+    ensures { numbers.new.items ≡ filter (λ n. not (number == n)) numbers.old.items }
 {
-    numbers.retain(|n| *n != number);
+    numbers.retain(|n| number != *n);
 }
 
 fn does_name(command: &Command, id: u32) -> bool

@@ -6,7 +6,9 @@ use Rattle.nim_queue.proofs.arrivals.arrive.Goals as goal
 
 pub loop-command-init : goal.loop-command-init
 loop-command-init c = record {
-  arrived = none_arrived c.args.waiting.now c.args.group c.args.first (record { fresh = c.new.result; written = c.new-2.result }) c.new.ensures.items c.new-2.ensures.items;
+  arrived =
+      none_arrived c.args.waiting.now c.args.group c.args.first (record { fresh = c.new.result; written = c.new-2.result }) c.new.ensures.items
+      c.new-2.ensures.items;
   count = ap length c.new.ensures.items;
   ticket = omega arith;
 }
@@ -19,7 +21,8 @@ loop-command-preserved c =
           one_arrived c.args.waiting.now c.args.group c.args.first c.loop-command.ticket c.loop-command.yielded c.in-Some.command before c.take.new.self
           c.loop-command.invariant.arrived c.loop-command.invariant.ticket c.in_ok-take.ensures.fresh c.in_ok-take.ensures.written;
       count =
-          count_more (writes_of c.in-Some.command.kind) before.fresh.items c.take.new.self.fresh.items _ (length c.loop-command.yielded) (length (c.loop-command.yielded ++ c.in-Some.command ∷ []))
+          count_more (writes_of c.in-Some.command.kind) before.fresh.items c.take.new.self.fresh.items _ (length c.loop-command.yielded)
+          (length (c.loop-command.yielded ++ c.in-Some.command ∷ []))
           c.in_ok-take.ensures.fresh c.loop-command.invariant.count (length-append c.loop-command.yielded (c.in-Some.command ∷ []));
       ticket = omega (arith, c.loop-command.invariant.ticket, length-append c.loop-command.yielded (c.in-Some.command ∷ []));
     }

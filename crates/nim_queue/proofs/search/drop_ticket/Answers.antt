@@ -5,4 +5,4 @@ use Rattle.nim_queue.specs.declared.waiting.Waiting.{Waiting}
 use Rattle.nim_queue.proofs.search.drop_ticket.Goals as goal
 
 pub returns : goal.returns
-returns c = filter_same _ (λ (w : Waiting). not (w.ticket == c.args.ticket)) _ (λ x b f' called. search rules) _ _ c.retain.ensures.filtered
+returns c = filter_same _ (λ (w : Waiting). not (c.args.ticket == w.ticket)) _ (λ x b f' called. search rules) _ _ c.retain.ensures.filtered
