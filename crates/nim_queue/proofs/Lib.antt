@@ -1,0 +1,6 @@
+pub mod Arriving
+pub mod Completing
+pub mod Lists
+pub mod Released
+pub mod Searches
+pub mod Standing

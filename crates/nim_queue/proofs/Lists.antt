@@ -1,0 +1,59 @@
+-- Lists, and what passes tests of them.
+use Rattle.std.proofs.Common.{◌≡◌, ℕ, zero, suc, ◌+◌, ◌-◌, ◌<◌, ◌≤◌, Bool, true, false, not, List, [], ◌∷◌, ◌++◌, length, take, drop, refl, ap, ap₂, sym, ◌∙◌, arith, Some}
+use Rattle.std.specs.Prelude.{◌&&◌, ◌||◌, if◌then◌else◌, slice_get, slice_range}
+use Rattle.std.specs.List.{filter, list_all, list_any, range_with_len}
+use Rattle.std.proofs.lemmas.List.{append_assoc, drop-append-le, drop_at, length-append, length-drop, take-append-le}
+use Rattle.std.proofs.Math.Seq.{take-append_seam}
+use Rattle.nim_command.proofs.Lists.{any_filter, any_same}
+
+pub not_or : (a b : Bool) → not (a || b) ≡ (not a && not b)
+not_or true b = refl
+not_or false b = refl
+
+pub not_last : (a b : Bool) → not (a || (b || false)) ≡ (not a && not b)
+not_last true b = refl
+not_last false true = refl
+not_last false false = refl
+
+swapped : (a b : Bool) → (a && (b && true)) ≡ (b && a)
+swapped true true = refl
+swapped true false = refl
+swapped false true = refl
+swapped false false = refl
+
+-- one of those that pass a test passes another one
+pub any_kept : {X : Type 0} (p q : X → Bool) (xs : List X) → list_any (λ x. p x && true) (filter q xs) ≡ list_any (λ x. p x && q x) xs
+any_kept {X} p q xs =
+    any_filter (λ (x : X). p x && true) q xs ∙ any_same (λ (x : X). q x && (p x && true)) (λ (x : X). p x && q x) (λ x. swapped (q x) (p x)) xs
+
+pub filter_range : (p q : ℕ → Bool) (a n : ℕ) → ((k : ℕ) → a ≤ k → k < a + n → p k ≡ q k) → filter p (range_with_len a n) ≡ filter q (range_with_len a n)
+filter_range p q a zero same = refl
+filter_range p q a (suc n) same =
+    ap₂ (λ (b : Bool) (rest : List ℕ). if b then a ∷ rest else rest) (same a (omega arith) (omega arith))
+    (filter_range p q (a + 1) n (λ k from to. same k (omega arith) (omega arith)))
+
+pub get_front : {X : Type 0} (xs ys : List X) (i : ℕ) → i < length xs → slice_get (xs ++ ys) i ≡ slice_get xs i
+get_front [] ys i within = absurd (omega (arith, within))
+get_front (x ∷ xs) ys zero within = refl
+get_front (x ∷ xs) ys (suc i) within = get_front xs ys i (omega (arith, within))
+
+pub get_at : {X : Type 0} (xs ys : List X) (y : X) → slice_get (xs ++ y ∷ ys) (length xs) ≡ Some y
+get_at [] ys y = refl
+get_at (x ∷ xs) ys y = get_at xs ys y
+
+-- what stands between two places is the same in a longer list
+pub range_front : {X : Type 0} (xs ys : List X) (a b : ℕ) → a ≤ b → b ≤ length xs → slice_range (xs ++ ys) a b ≡ slice_range xs a b
+range_front xs ys a b less within =
+    ap (take (b - a)) (drop-append-le a xs ys (omega arith)) ∙ take-append-le (b - a) (drop a xs) ys (omega (arith, length-drop a xs))
+
+-- what stands between a place and one behind the list
+pub range_behind : {X : Type 0} (past : List X) (x : X) (rest more : List X) (place last : ℕ) → place ≡ length past → last ≡ length (past ++ x ∷ rest)
+    → slice_range ((past ++ x ∷ rest) ++ more) (place + 1) last ≡ rest
+range_behind {X} past x rest more place last at end =
+    let long : place + 1 ≡ length (past ++ x ∷ []) = omega (arith, length-append past (x ∷ [])) in
+    let count : last - (place + 1) ≡ length rest = omega (arith, length-append past (x ∷ rest)) in
+    let split : (past ++ x ∷ rest) ++ more ≡ (past ++ x ∷ []) ++ (rest ++ more) =
+    append_assoc past (x ∷ rest) more ∙ sym (append_assoc past (x ∷ []) (rest ++ more)) in
+    ap₂ (λ (n : ℕ) (ys : List X). take n (drop (place + 1) ys)) count split
+    ∙ ap (take (length rest)) (drop_at (past ++ x ∷ []) (rest ++ more) (place + 1) (sym long))
+    ∙ take-append_seam rest more

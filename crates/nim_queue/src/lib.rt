@@ -1,0 +1,9 @@
+//! Commands that wait for others, handed out once those are complete.
+#![tactic(auto)]
+
+mod arrivals;
+mod queue;
+mod search;
+mod waiting;
+
+pub use queue::BeforeQueue;

@@ -1,0 +1,68 @@
+ghost use Rattle.std.specs.Prelude.{◌≡◌, map};
+ghost use Rattle.std.specs.Option.{option_copied};
+ghost use Rattle.nim_queue.specs.Stands as stands;
+ghost use Rattle.nim_queue.specs.Steps as spec;
+
+use crate::waiting::Waiting;
+use nim_command::Command;
+
+/// The ticket of the first that waits for nothing, after the given one.
+pub(crate) fn first_free(waiting: &[Waiting], after: Option<u64>) -> Option<u64>
+    ensures { result ≡ spec.first_free waiting.now after }
+{
+    for w in waiting {
+        if is_free_after(w, after) {
+            return Some(w.ticket);
+        }
+    }
+    None
+}
+
+fn is_free_after(w: &Waiting, after: Option<u64>) -> bool
+    ensures { result ≡ spec.is_free_after w.now after }
+{
+    is_after(after, w.ticket) && w.waits.as_slice().is_empty()
+}
+
+fn is_after(after: Option<u64>, ticket: u64) -> bool
+    ensures { result ≡ stands.is_after after ticket }
+{
+    match after {
+        None => true,
+        Some(after) => after < ticket,
+    }
+}
+
+/// The waiting command of a ticket.
+pub(crate) fn command_at(waiting: &[Waiting], ticket: u64) -> Option<&Command>
+    ensures { option_copied result ≡ spec.command_at waiting.now ticket }
+{
+    for w in waiting {
+        if w.ticket == ticket {
+            return Some(&w.command);
+        }
+    }
+    None
+}
+
+/// The command of this ticket is complete: it waits no more, and none waits for it.
+pub(crate) fn free_all(waiting: &mut Vec<Waiting>, ticket: u64)
+    ensures { waiting.new.items ≡ spec.all_freed ticket waiting.old.items }
+{
+    drop_ticket(waiting, ticket);
+    free_each(waiting, ticket);
+}
+
+fn drop_ticket(waiting: &mut Vec<Waiting>, ticket: u64)
+    ensures { waiting.new.items ≡ spec.all_but ticket waiting.old.items }
+{
+    waiting.retain(|w| ticket != w.ticket);
+}
+
+fn free_each(waiting: &mut [Waiting], ticket: u64)
+    ensures { waiting.new ≡ map (spec.freed ticket) waiting.old }
+{
+    for w in waiting.iter_mut() {
+        w.free(ticket);
+    }
+}
