@@ -1,18 +1,18 @@
 -- What one more command does to those that wait.
-use Rattle.std.proofs.Common.{◌≡◌, ℕ, zero, suc, ◌+◌, ◌-◌, ◌<◌, ◌≤◌, Bool, true, false, not, List, [], ◌∷◌, ◌++◌, length, map, refl, ap, ap₂, sym, subst, ◌∙◌, arith, Option, Some}
-use Rattle.std.specs.Prelude.{◌==◌, ◌&&◌, ◌||◌, if◌then◌else◌, slice_get, slice_range}
-use Rattle.std.specs.List.{filter, list_any, range_with_len}
+use Rattle.std.proofs.Common.{◌≡◌, ℕ, suc, ◌+◌, ◌<◌, Bool, true, false, not, List, [], ◌∷◌, ◌++◌, length, map, refl, ap, ap₂, sym, ◌∙◌, arith, Option, Some}
+use Rattle.std.specs.Prelude.{◌==◌, ◌||◌, if◌then◌else◌, slice_get, slice_range}
+use Rattle.std.specs.List.{filter, range_with_len}
 use Rattle.std.specs.Option.{option_map_or}
 use Rattle.std.proofs.lemmas.List.{append-nil, append_assoc, length-append, length-map, map-append}
 use Rattle.std.proofs.lemmas.List.Folds.{list_any-append}
 use Rattle.nim_base.specs.declared.number.Slot.{Slot}
 use Rattle.nim_command.specs.declared.command.Command.{Command}
 use Rattle.nim_command.specs.Slots.{does_touch, does_write, is_among, reads_of, writes_of}
-use Rattle.nim_command.specs.Waits.{Group, Member, is_border, is_waited, is_written_by, members_from, members_of, waits_for, waits_of}
-use Rattle.nim_command.proofs.Lists.{any_same, filter_all, filter_twice}
+use Rattle.nim_command.specs.Waits.{Group, Member, is_waited, is_written_by, members_from, members_of, waits_for, waits_of}
+use Rattle.nim_command.proofs.Lists.{filter_all, filter_twice}
 use Rattle.nim_queue.specs.Arrived.{HaveArrived, as_members, held_by, joined}
 use Rattle.nim_queue.specs.Stands.{unwritten, waiting_at, waiting_from, waiting_of}
-use Rattle.nim_queue.specs.Steps.{arrived_as, does_name, hidden, holders, holds_back, is_overwritten, is_touched, slots_without}
+use Rattle.nim_queue.specs.Steps.{arrived_as, does_name, hidden, holders, holds_back, slots_without}
 use Rattle.nim_queue.specs.declared.arrivals.Arrivals.{Arrivals}
 use Rattle.nim_queue.specs.declared.waiting.Waiting.{Waiting}
 use Rattle.nim_queue.proofs.Lists.{any_kept, filter_range, get_at, get_front, not_last, not_or, range_behind, range_front}

@@ -1,11 +1,9 @@
 -- What a complete command leaves of those that wait.
-use Rattle.std.proofs.Common.{◌≡◌, ℕ, ◌+◌, Bool, true, false, not, List, [], ◌∷◌, map, refl, ap, ap₂, sym, ◌∙◌}
-use Rattle.std.specs.Prelude.{◌==◌, ◌&&◌, ◌||◌, if◌then◌else◌}
-use Rattle.std.specs.List.{filter}
-use Rattle.nim_command.specs.Slots.{reads_of, writes_of}
+use Rattle.std.proofs.Common.{◌≡◌, ℕ, ◌+◌, Bool, true, false, not, List, [], ◌∷◌, map, refl, ap, ap₂, ◌∙◌}
+use Rattle.std.specs.Prelude.{◌==◌, ◌||◌, if◌then◌else◌}
 use Rattle.nim_command.specs.Waits.{Member, waits_of}
 use Rattle.nim_command.proofs.Lists.{filter_twice}
-use Rattle.nim_queue.specs.Stands.{unwritten, waiting_at, waiting_from}
+use Rattle.nim_queue.specs.Stands.{waiting_at, waiting_from}
 use Rattle.nim_queue.specs.Steps.{all_but, all_freed, freed}
 use Rattle.nim_queue.specs.declared.waiting.Waiting.{Waiting}
 use Rattle.nim_queue.proofs.Lists.{not_or}

@@ -1,7 +1,8 @@
 -- Lists, and what passes tests of them.
 use Rattle.std.proofs.Common.{◌≡◌, ℕ, zero, suc, ◌+◌, ◌-◌, ◌<◌, ◌≤◌, Bool, true, false, not, List, [], ◌∷◌, ◌++◌, length, take, drop, refl, ap, ap₂, sym, ◌∙◌, arith, Some}
 use Rattle.std.specs.Prelude.{◌&&◌, ◌||◌, if◌then◌else◌, slice_get, slice_range}
-use Rattle.std.specs.List.{filter, list_all, list_any, range_with_len}
+use Rattle.std.specs.List.{filter, list_any, range_with_len}
+use Rattle.std.proofs.lemmas.Bool.{or_parts}
 use Rattle.std.proofs.lemmas.List.{append_assoc, drop-append-le, drop_at, length-append, length-drop, take-append-le}
 use Rattle.std.proofs.Math.Seq.{take-append_seam}
 use Rattle.nim_command.proofs.Lists.{any_filter, any_same}
@@ -25,6 +26,13 @@ swapped false false = refl
 pub any_kept : {X : Type 0} (p q : X → Bool) (xs : List X) → list_any (λ x. p x && true) (filter q xs) ≡ list_any (λ x. p x && q x) xs
 any_kept {X} p q xs =
     any_filter (λ (x : X). p x && true) q xs ∙ any_same (λ (x : X). q x && (p x && true)) (λ (x : X). p x && q x) (λ x. swapped (q x) (p x)) xs
+
+-- where none passes a test, all are left
+pub none_dropped : {X : Type 0} (p : X → Bool) (xs : List X) → list_any p xs ≡ false → filter (λ x. not (p x)) xs ≡ xs
+none_dropped p [] none = refl
+none_dropped {X} p (x ∷ xs) none =
+    let parts = or_parts (p x) (list_any p xs) none in
+    ap₂ (λ (b : Bool) (rest : List X). if not b then x ∷ rest else rest) parts.0 (none_dropped p xs parts.1)
 
 pub filter_range : (p q : ℕ → Bool) (a n : ℕ) → ((k : ℕ) → a ≤ k → k < a + n → p k ≡ q k) → filter p (range_with_len a n) ≡ filter q (range_with_len a n)
 filter_range p q a zero same = refl

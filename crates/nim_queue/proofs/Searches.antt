@@ -7,7 +7,7 @@ use Rattle.std.proofs.lemmas.Bool.{eq-eqb, ne_eqb}
 use Rattle.nim_command.specs.declared.command.Command.{Command}
 use Rattle.nim_command.specs.Waits.{Member, waits_of}
 use Rattle.nim_queue.specs.Stands.{first_that, is_after, waiting_at, waiting_from}
-use Rattle.nim_queue.specs.Steps.{command_at, first_free, is_free_after, is_nil}
+use Rattle.nim_queue.specs.Steps.{command_at, first_free, is_nil}
 use Rattle.nim_queue.specs.declared.waiting.Waiting.{Waiting}
 
 none_step : (done : ℕ → Bool) (n : ℕ) (rest : List ℕ) (b all : Bool) → done n ≡ b → is_nil rest ≡ all → is_nil (if not b then n ∷ rest else rest) ≡ (b && all)

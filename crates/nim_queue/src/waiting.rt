@@ -1,5 +1,5 @@
 ghost use Rattle.std.specs.Prelude.{◌≡◌, ◌==◌, ◌||◌, not, if◌then◌else◌, IfOk};
-ghost use Rattle.std.specs.List.{filter};
+ghost use Rattle.std.specs.List.{filter, list_any};
 ghost use Rattle.nim_command.specs.Slots as slots_spec;
 ghost use Rattle.nim_queue.specs.Steps as spec;
 
@@ -70,16 +70,27 @@ impl Waiting {
     pub(crate) fn free(&mut self, ticket: u64)
         ensures { self.new ≡ spec.freed ticket self.old }
     {
-        let alloc = self.waits.alloc();
-        let mut waits = mem::replace(&mut self.waits, Seq::new(alloc)).into_vec();
-        drop_number(&mut waits, ticket);
-        self.waits = Seq::from_vec(waits);
+        if is_waited(self.waits.as_slice(), ticket) {
+            let alloc = self.waits.alloc();
+            let mut waits = mem::replace(&mut self.waits, Seq::new(alloc)).into_vec();
+            drop_number(&mut waits, ticket);
+            self.waits = Seq::from_vec(waits);
+        }
     }
+}
+
+fn is_waited(waits: &[u64], ticket: u64) -> bool
+    ensures { result ≡ list_any (λ earlier. ticket == earlier) waits.now }
+{
+    waits.iter().any(|earlier| ticket == *earlier)
 }
 
 fn drop_slots(slots: &mut Seq<Slot>, written: &[Slot])
     ensures { slots.new ≡ spec.slots_without written.now slots.old }
 {
+    if slots.as_slice().is_empty() {
+        return;
+    }
     let alloc = slots.alloc();
     let mut kept = mem::replace(slots, Seq::new(alloc)).into_vec();
     keep_unwritten(&mut kept, written);

@@ -1,6 +1,5 @@
 -- the commands so far have arrived
-use Rattle.std.proofs.Common.{◌≡◌, ◌+◌, ◌++◌, length}
-use Rattle.std.specs.Vec.Iter.{into_iter_items}
+use Rattle.std.proofs.Common.{◌≡◌, ◌+◌, length}
 use Rattle.nim_queue.specs.Arrived.{HaveArrived}
 use Rattle.nim_queue.proofs.arrivals.arrive.Given as goal
 

@@ -1,4 +1,4 @@
-use Rattle.std.proofs.Common.{◌≡◌, ◌∙◌, ℕ, Bool, List, Option, IfSome, ap, subst, sym}
+use Rattle.std.proofs.Common.{◌∙◌, ℕ, List, Option, IfSome, ap, subst, sym}
 use Rattle.nim_command.specs.Waits.{members_of, placed_commands}
 use Rattle.nim_order.specs.Progress.{IsReleasedAt}
 use Rattle.nim_queue.specs.Steps.{first_free}
