@@ -2,3 +2,4 @@ mod copies;
 mod files;
 mod jobs;
 mod laws;
+mod plane;

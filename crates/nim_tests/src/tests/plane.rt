@@ -1,0 +1,126 @@
+use nim_base::{Func, NoMemory, Object, Seq, Shape, Slot, Task, Value, Worker};
+use nim_command::{Command, Kind};
+use nim_message::Data;
+use nim_place::{Placement, VersionMap, home, schedule_task};
+use nim_queue::BeforeQueue;
+use nim_store::{Held, Inbox, Key, Store};
+use std::alloc::Global;
+use std::test::Fail;
+
+const ONE: Shape = Shape { width: 1, rows: 1 };
+
+/// Four workers, of which the third is lost.
+const LIVE: [bool; 4] = [true, true, false, true];
+
+/// An object of ten, how it is placed, and its home.
+const HOMES: [(u16, Placement, u16); 6] = [
+    (5, Placement::Cyclic, 1),
+    (6, Placement::Cyclic, 3),
+    (9, Placement::Block, 3),
+    (3, Placement::Block, 1),
+    (5, Placement::Block, 3),
+    (0, Placement::Mixed(0), 3),
+];
+
+#[test]
+fn homes_are_live(rt: HostRuntime) -> Result<(), Fail> {
+    for (object, place, worker) in &HOMES {
+        if *object < 10 {
+            assert_eq!(rt; home(place, Object(*object), 10, &LIVE), Worker(*worker));
+        }
+    }
+    Ok(())
+}
+
+fn filled(alloc: Global, id: u32, slot: u16) -> Command {
+    Command {
+        id,
+        kind: Kind::Create {
+            slot: Slot(slot),
+            iota: false,
+            number: 3,
+        },
+        before: Seq::new(alloc),
+    }
+}
+
+/// A task that adds to object 1 and writes object 0.
+fn task(alloc: Global) -> Result<Task, NoMemory> {
+    Ok(Task {
+        func: Func::Addc,
+        params: Seq::from_vec(Vec::from_slice(alloc, &[4])?),
+        reads: Seq::from_vec(Vec::from_slice(alloc, &[Object(1)])?),
+        writes: Seq::from_vec(Vec::from_slice(alloc, &[Object(0)])?),
+    })
+}
+
+#[test]
+fn what_a_task_reads_is_sent_to_it(rt: HostRuntime) -> Result<(), Fail> {
+    let mut map = VersionMap::new(rt.alloc(), 2, 2)?;
+    map.apply_command(Worker(0), &filled(rt.alloc(), 0, 0));
+    map.apply_command(Worker(1), &filled(rt.alloc(), 0, 1));
+    assert_eq!(rt; map.holder(Object(1)), Some(Worker(1)));
+    let task = task(rt.alloc())?;
+    if map.objects() == 2 && task.writes.as_slice() == [Object(0)].as_slice() {
+        let place = Placement::Cyclic;
+        let given = schedule_task(rt.alloc(), &mut map, &task, 0, 0, &place, &[true, true])?;
+        let [(from, send), (to, receive), (owner, run)] = given.as_slice() else {
+            return Err(Fail::from("a send, a receive and a run"));
+        };
+        assert_eq!(rt; (*from, *to, *owner), (Worker(1), Worker(0), Worker(0)));
+        assert_eq!(rt; (send.id, receive.id, run.id), (0, 8, 32));
+        assert_eq!(rt; run.before.as_slice(), [8].as_slice());
+        assert_eq!(rt; map.latest(Object(0)), 1);
+    }
+    Ok(())
+}
+
+#[test]
+fn commands_wait_for_those_before(rt: HostRuntime) -> Result<(), Fail> {
+    let mut queue = BeforeQueue::new(rt.alloc());
+    for _ in 0..2u32 {
+        let mut group = Vec::new(rt.alloc());
+        group.push(filled(rt.alloc(), 0, 5))?;
+        queue.admit(group)?;
+    }
+    assert_eq!(rt; queue.ready(None), Some(0));
+    assert_eq!(rt; queue.ready(Some(0)), None);
+    queue.complete(0);
+    assert_eq!(rt; queue.ready(None), Some(1));
+    assert!(rt; queue.command(0).is_none());
+    Ok(())
+}
+
+#[test]
+fn a_store_and_an_inbox_keep_what_comes(rt: HostRuntime) -> Result<(), Fail> {
+    let mut store = Store::new(rt.alloc());
+    store.reset(Vec::from_slice(rt.alloc(), &[ONE])?);
+    let value = Value::filled(rt.alloc(), ONE, 7)?;
+    store.put(
+        Slot(513),
+        Held {
+            object: Object(1),
+            version: 4,
+            value,
+        },
+    )?;
+    assert!(rt; store.held(Slot(1)).is_none());
+    assert!(rt; store.take(Slot(513)).is_some());
+    assert!(rt; store.take(Slot(513)).is_none());
+    let frame = Data {
+        epoch: 1,
+        instance: 2,
+        entry: 65,
+        object: Object(3),
+        version: 4,
+        value: Value::filled(rt.alloc(), ONE, 9)?,
+    };
+    let key = Key::of(&frame);
+    let mut inbox = Inbox::new(rt.alloc());
+    inbox.keep(frame)?;
+    inbox.forget_before(1);
+    assert!(rt; inbox.has(&key));
+    assert!(rt; inbox.take(&key).is_some());
+    assert!(rt; !inbox.has(&key));
+    Ok(())
+}
