@@ -31,11 +31,11 @@ arrived_as ticket group command waits = record {
 abbrev pub hidden : List Slot → Waiting → Waiting
 hidden written w = record w { reads = slots_without written w.reads; writes = slots_without written w.writes }
 
--- whether one of the earlier command's slots is touched by the later one, and one that it reads written, where nothing
--- between them writes the slot
+-- whether the later command touches one of these slots that nothing between writes
 abbrev pub is_touched : List Slot → Command → List Slot → Bool
 is_touched written command slots = list_any (λ slot. does_touch command.kind slot && not (is_among written slot)) slots
 
+-- whether it writes one of these slots that nothing between writes
 abbrev pub is_overwritten : List Slot → Command → List Slot → Bool
 is_overwritten written command slots =
     list_any (λ slot. does_write command.kind slot && not (is_among written slot)) slots

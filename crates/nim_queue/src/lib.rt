@@ -2,6 +2,7 @@
 #![tactic(auto)]
 
 mod arrivals;
+mod complete;
 mod queue;
 mod search;
 mod waiting;

@@ -7,7 +7,8 @@ ghost use Rattle.nim_queue.specs.Arrived.{joined};
 ghost use Rattle.nim_queue.specs.Stands.{Stands, command_of, done_with, nothing_done, ready_of};
 
 use crate::arrivals::{Arrivals, arrive, hide_all};
-use crate::search::{command_at, first_free, free_all};
+use crate::complete::free_all;
+use crate::search::{command_at, first_free};
 use crate::waiting::Waiting;
 use nim_base::NoMemory;
 use nim_command::Command;
