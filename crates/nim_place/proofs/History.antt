@@ -1,14 +1,13 @@
 -- A map of versions stands for the commands so far: none at first, and one more.
-use Rattle.std.proofs.Common.{◌≡◌, ℕ, zero, suc, ◌*◌, ◌<◌, ◌≤◌, Bool, true, false, not, List, [], ◌∷◌, ◌++◌, length, map, slice_get, refl, ap, ap₂, sym, subst, ◌∙◌, arith, Option, None, Some}
+use Rattle.std.proofs.Common.{◌≡◌, ℕ, zero, suc, ◌<◌, ◌≤◌, Bool, true, false, not, List, [], ◌∷◌, ◌++◌, length, map, slice_get, refl, ap, ap₂, sym, subst, ◌∙◌, arith, Option, Some}
 use Rattle.std.specs.Prelude.{◌==◌, ◌&&◌, ◌||◌, nat_lt, if◌then◌else◌}
 use Rattle.std.specs.List.{filter}
 use Rattle.std.specs.Option.{option_map, option_map_or}
 use Rattle.std.proofs.Math.Path.{fun_ext}
 use Rattle.std.proofs.lemmas.Bool.{eqb-false, eqb-true, false≢true, ltb-false}
-use Rattle.std.proofs.lemmas.List.{append-nil, get_or-replicate, length-append, length-replicate, map-append}
+use Rattle.std.proofs.lemmas.List.{append-nil, length-append, map-append}
 use Rattle.std.proofs.lemmas.List.Elements.{filter-append}
 use Rattle.std.proofs.lemmas.List.Sums.{fold-append}
-use Rattle.std.proofs.lemmas.Nat.{mul-add-lt}
 use Rattle.nim_base.specs.declared.number.Slot.{Slot}
 use Rattle.nim_base.specs.declared.number.Worker.{Worker}
 use Rattle.nim_command.specs.declared.command.Command.{Command}
@@ -18,7 +17,7 @@ use Rattle.nim_command.specs.Holds.{Content, content_at, holds, left_by}
 use Rattle.nim_command.specs.Numbers.{main_slot}
 use Rattle.nim_command.specs.Slots.{is_among, object_of}
 use Rattle.nim_place.specs.Stands.{Stands, StandsOn, commands_for, greater_put, is_aside}
-use Rattle.nim_place.specs.Versions.{Versions, after_kind, held_at, is_kept, no_versions, place_of, puts_of, version_of}
+use Rattle.nim_place.specs.Versions.{Versions, after_kind, held_at, is_kept, puts_of, version_of}
 use Rattle.nim_place.proofs.Puts.{IsPut, IsWhole, kept_bounds, put_all, whole_after}
 
 -- ---- lists of commands
@@ -83,7 +82,7 @@ left_seen versions (Fetch written ticket) before slot below aside = refl
 -- ---- one worker's commands
 
 -- one more command is its worker's last
-for_more : (worker : Worker) (given : List (Worker × Command)) (c : Worker × Command)
+pub for_more : (worker : Worker) (given : List (Worker × Command)) (c : Worker × Command)
     → commands_for worker (given ++ c ∷ []) ≡ commands_for worker given ++ (if c.0.0 == worker.0 then c.1 ∷ [] else [])
 for_more worker given c =
     let mine : Worker × Command → Bool = λ d. d.0.0 == worker.0 in
@@ -131,20 +130,6 @@ stands_more given versions worker c stands below aside =
           ∙ ap (λ (n : ℕ). greater_put (main_slot object) n (worker, c)) (stands.latest object had)
           ∙ sym (fold-append (greater_put (main_slot object)) 0 given ((worker, c) ∷ []));
     }
-
--- none at first
-pub stands_none : (workers objects : ℕ) → Stands [] (no_versions workers objects)
-stands_none workers objects = record {
-  slots = length-replicate (objects * workers) None;
-  all = length-replicate objects 0;
-  held = λ worker slot there.
-      let chosen : Bool → Option ℕ → Option ℕ = λ b o. if b then o else None in
-      let bounds = kept_bounds (no_versions workers objects) worker slot there in
-      let within : place_of (no_versions workers objects) worker slot < objects * workers = mul-add-lt worker.0 objects slot.0 workers bounds.0 bounds.1 in
-      let empty = get_or-replicate (objects * workers) (place_of (no_versions workers objects) worker slot) None None within in
-      sym (ap (option_map (λ (n : ℕ). (object_of slot, n))) (ap₂ chosen there empty));
-  latest = λ object there. get_or-replicate objects object.0 0 0 there;
-}
 
 pub stands_on : (before after : Versions) (worker : Worker) (c : Command) → after ≡ after_kind worker before c.kind → worker.0 < before.workers → is_aside before c.kind ≡ true
     → StandsOn before after ((worker, c) ∷ [])

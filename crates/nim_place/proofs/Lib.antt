@@ -1,4 +1,7 @@
+pub mod ByTask
+pub mod Given
 pub mod History
 pub mod Live
+pub mod Moves
 pub mod Places
 pub mod Puts
