@@ -38,7 +38,7 @@ aside versions (Receive slot version) is = refl
 aside versions (Run position func params reads writes) is = refl
 aside versions (Fetch slot ticket) is = refl
 
-all_stand : (cs : List (Worker × Command)) (versions : Versions) → AllFit versions.workers cs → StandsOn versions (after_commands versions cs) cs
+pub all_stand : (cs : List (Worker × Command)) (versions : Versions) → AllFit versions.workers cs → StandsOn versions (after_commands versions cs) cs
 all_stand [] versions fit given stands = subst (λ (l : List (Worker × Command)). Stands l versions) (sym (append-nil given)) stands
 all_stand (c ∷ cs) versions fit given stands =
     let next : Versions = after_kind c.0 versions c.1.kind in
@@ -46,7 +46,7 @@ all_stand (c ∷ cs) versions fit given stands =
     subst (λ (l : List (Worker × Command)). Stands l (after_commands next cs)) (append_assoc given (c ∷ []) cs)
     (all_stand cs next (subst (λ (n : ℕ). AllFit n cs) (sym workers) fit.2) (given ++ c ∷ []) (stands_more given versions c.0 c.1 stands fit.0 (aside versions c.1.kind fit.1)))
 
-copies_fit : (versions : Versions) (number : ℕ) (owner : Worker) (reads : List Object) (moved : List Moved) → AreMoves versions owner reads moved → owner.0 < versions.workers
+pub copies_fit : (versions : Versions) (number : ℕ) (owner : Worker) (reads : List Object) (moved : List Moved) → AreMoves versions owner reads moved → owner.0 < versions.workers
     → AllFit versions.workers (copies_of versions number owner moved)
 copies_fit versions number owner reads [] are below = tt
 copies_fit versions number owner reads (m ∷ ms) are below = (are.0, refl, (below, refl, copies_fit versions number owner reads ms are.4 below))

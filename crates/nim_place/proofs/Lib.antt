@@ -1,4 +1,5 @@
 pub mod ByTask
+pub mod Finds
 pub mod Given
 pub mod History
 pub mod Live

@@ -66,11 +66,11 @@ source_facts versions owner past object from is = either (is_one_of past object)
         current = facts.1;
       }
 
-or_right : (a b : Bool) → b ≡ true → (a || b) ≡ true
+pub or_right : (a b : Bool) → b ≡ true → (a || b) ≡ true
 or_right true b is = refl
 or_right false b is = is
 
-or_left : (a b : Bool) → a ≡ true → (a || b) ≡ true
+pub or_left : (a b : Bool) → a ≡ true → (a || b) ≡ true
 or_left true b is = refl
 or_left false b is = absurd (false≢true is)
 
@@ -82,7 +82,7 @@ now_one_of past object =
     list_any-append (λ (o : Object). o.0 == object.0) past (object ∷ [])
     ∙ or_right (is_one_of past object) ((object.0 == object.0) || false) (or_left (object.0 == object.0) false (eq-eqb object.0 object.0 refl))
 
-both_false : (a b : Bool) → a ≡ false → b ≡ false → (a || b) ≡ false
+pub both_false : (a b : Bool) → a ≡ false → b ≡ false → (a || b) ≡ false
 both_false true b is also = absurd (false≢true (sym is))
 both_false false b is also = also
 

@@ -1,6 +1,7 @@
 ghost use Rattle.std.specs.Prelude.{◌≡◌, ◌<◌, ◌≤◌, ◌∷◌, ◌++◌, [], true, length, map, slice_get, IfOk, OnOk, OnErr, IsSomeAnd};
 ghost use Rattle.std.specs.List.{list_any};
 ghost use Rattle.nim_command.specs.Numbers as numbers;
+ghost use Rattle.nim_place.specs.Finds.{FindsLatest};
 ghost use Rattle.nim_place.specs.Schedule as spec;
 ghost use Rattle.nim_place.specs.Stands.{AreByRule, StandsOn};
 ghost use Rattle.nim_place.specs.Versions.{after_commands};
@@ -39,6 +40,7 @@ pub fn schedule_task(
     ensures ok { IfOk result (λ commands. map.new ≡ after_commands map.old commands.items) }
     ensures err { OnErr result (map.new ≡ map.old) }
     ensures stands { IfOk result (λ commands. StandsOn map.old map.new commands.items) }
+    ensures finds { IfOk result (λ commands. FindsLatest map.old (spec.owner_of place.now task.now map.old.objects live.now) task.now number) }
     ensures by_rule { IfOk result (λ commands. AreByRule commands.items) }
 {
     let owner = owner_of(place, task, map.objects(), live);
