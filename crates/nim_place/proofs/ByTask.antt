@@ -39,14 +39,17 @@ no_before f rest later none nothing =
 quiet_before : (past : List Footprint) (later : Footprint) → Quiet past → later.writes ≡ [] → before_of past later ≡ []
 quiet_before [] later quiet nothing = refl
 quiet_before (f ∷ past) later quiet nothing =
-    ap (λ (b : Bool). if b then f.number ∷ before_of past later else before_of past later) (no_before f past later quiet.0 nothing) ∙ quiet_before past later quiet.1 nothing
+    ap (λ (b : Bool). if b then f.number ∷ before_of past later else before_of past later) (no_before f past later quiet.0 nothing)
+    ∙ quiet_before past later quiet.1 nothing
 
 sends_ruled : (number : ℕ) (owner : Worker) (past : List Footprint) (ms : List Moved) → Quiet past
-    → map (λ (c : Command). c.before) (map (λ (m : Moved). (send_of number owner m).1) ms) ≡ befores_behind past (map footprint_of (map (λ (m : Moved). (send_of number owner m).1) ms))
+    → map (λ (c : Command). c.before) (map (λ (m : Moved). (send_of number owner m).1) ms)
+    ≡ befores_behind past (map footprint_of (map (λ (m : Moved). (send_of number owner m).1) ms))
 sends_ruled number owner past [] quiet = refl
 sends_ruled number owner past (m ∷ ms) quiet =
     let print : Footprint = footprint_of (send_of number owner m).1 in
-    ap₂ (λ (first : List ℕ) (rest : List (List ℕ)). first ∷ rest) (sym (quiet_before past print quiet refl)) (sends_ruled number owner (past ++ print ∷ []) ms (quiet_more past print quiet refl))
+    ap₂ (λ (first : List ℕ) (rest : List (List ℕ)). first ∷ rest) (sym (quiet_before past print quiet refl))
+    (sends_ruled number owner (past ++ print ∷ []) ms (quiet_more past print quiet refl))
 
 -- ---- what is received waits for nothing, and the run for all of it
 
@@ -75,7 +78,8 @@ touches : (same free : Bool) → same ≡ false → ((((false || (same || false)
 touches true free is = absurd (false≢true (sym is))
 touches false free is = refl
 
-receive_before : (number : ℕ) (past : List Moved) (m : Moved) (ms : List Moved) → Unmoved past (m ∷ ms) → before_of (map (print_of number) past) (print_of number m) ≡ []
+receive_before : (number : ℕ) (past : List Moved) (m : Moved) (ms : List Moved) → Unmoved past (m ∷ ms)
+    → before_of (map (print_of number) past) (print_of number m) ≡ []
 receive_before number [] m ms before = refl
 receive_before number (x ∷ past) m ms before =
     let rest : List Footprint = map (print_of number) past in
@@ -91,23 +95,28 @@ among_reads (r ∷ reads) object is = either (r.0 == object.0) is (among_reads r
   either true here rest = refl
   either false here rest = rest here
 
-not_rewritten : (number : ℕ) (ms : List Moved) (object : Object) → is_moved ms object ≡ false → is_rewritten (map (print_of number) ms) (main_slot object) ≡ false
+not_rewritten : (number : ℕ) (ms : List Moved) (object : Object) → is_moved ms object ≡ false
+    → is_rewritten (map (print_of number) ms) (main_slot object) ≡ false
 not_rewritten number [] object is = refl
 not_rewritten number (m ∷ ms) object is =
-    ap₂ (λ (a b : Bool). (a || false) || b) (first_false (m.object.0 == object.0) (is_moved ms object) is) (not_rewritten number ms object (second_false (m.object.0 == object.0) (is_moved ms object) is))
+    ap₂ (λ (a b : Bool). (a || false) || b) (first_false (m.object.0 == object.0) (is_moved ms object) is)
+    (not_rewritten number ms object (second_false (m.object.0 == object.0) (is_moved ms object) is))
 
-run_before : (versions : Versions) (owner : Worker) (number : ℕ) (reads : List Object) (run : Footprint) (ms : List Moved) → run.reads ≡ map main_slot reads → AreMoves versions owner reads ms
+run_before : (versions : Versions) (owner : Worker) (number : ℕ) (reads : List Object) (run : Footprint) (ms : List Moved) → run.reads ≡ map main_slot reads
+    → AreMoves versions owner reads ms
     → map (λ (m : Moved). entry_number number 1 m.index) ms ≡ before_of (map (print_of number) ms) run
 run_before versions owner number reads run [] same are = refl
 run_before versions owner number reads run (m ∷ ms) same are =
     let rest : List Footprint = map (print_of number) ms in
-    let read : is_among run.reads (main_slot m.object) ≡ true = ap (λ (slots : List Slot). is_among slots (main_slot m.object)) same ∙ among_reads reads m.object are.2 in
+    let read : is_among run.reads (main_slot m.object) ≡ true = ap (λ (slots : List Slot). is_among slots (main_slot m.object)) same
+    ∙ among_reads reads m.object are.2 in
     let waits : is_before (print_of number m) rest run ≡ true =
     ap₂ (λ (a b : Bool). (((a || is_among run.writes (main_slot m.object)) && not b) || false) || false) read (not_rewritten number ms m.object are.3) in
     ap (λ (numbers : List ℕ). entry_number number 1 m.index ∷ numbers) (run_before versions owner number reads run ms same are.4)
     ∙ sym (ap (λ (b : Bool). if b then entry_number number 1 m.index ∷ before_of rest run else before_of rest run) waits)
 
-receives_ruled : (versions : Versions) (owner : Worker) (number : ℕ) (reads : List Object) (run : Command) (past ms : List Moved) → Unmoved past ms → AreMoves versions owner reads ms
+receives_ruled : (versions : Versions) (owner : Worker) (number : ℕ) (reads : List Object) (run : Command) (past ms : List Moved) → Unmoved past ms
+    → AreMoves versions owner reads ms
     → run.before ≡ before_of (map (print_of number) (past ++ ms)) (footprint_of run)
     → map (λ (c : Command). c.before) (map (λ (m : Moved). (receive_of versions number owner m).1) ms ++ run ∷ [])
     ≡ befores_behind (map (print_of number) past) (map footprint_of (map (λ (m : Moved). (receive_of versions number owner m).1) ms ++ run ∷ []))
@@ -129,17 +138,20 @@ elsewhere owner worker from is apart = either (from.0 == worker.0) refl where
   either false same = refl
 
 -- the owner has what it receives
-for_owner : (versions : Versions) (owner worker : Worker) (number : ℕ) (reads : List Object) (ms : List Moved) → AreMoves versions owner reads ms → (owner.0 == worker.0) ≡ true
+for_owner : (versions : Versions) (owner worker : Worker) (number : ℕ) (reads : List Object) (ms : List Moved) → AreMoves versions owner reads ms
+    → (owner.0 == worker.0) ≡ true
     → commands_for worker (copies_of versions number owner ms) ≡ map (λ (m : Moved). (receive_of versions number owner m).1) ms
 for_owner versions owner worker number reads [] are is = refl
 for_owner versions owner worker number reads (m ∷ ms) are is =
     let others : List (Worker × Command) = filter (λ (c : Worker × Command). c.0.0 == worker.0) (copies_of versions number owner ms) in
     let behind : Bool → List (Worker × Command) = λ b. if b then receive_of versions number owner m ∷ others else others in
-    ap₂ (λ (a b : Bool). map (λ (c : Worker × Command). c.1) (if a then send_of number owner m ∷ behind b else behind b)) (elsewhere owner worker m.from is are.1) is
+    ap₂ (λ (a b : Bool). map (λ (c : Worker × Command). c.1) (if a then send_of number owner m ∷ behind b else behind b))
+    (elsewhere owner worker m.from is are.1) is
     ∙ ap (λ (rest : List Command). (receive_of versions number owner m).1 ∷ rest) (for_owner versions owner worker number reads ms are.4 is)
 
 sent : (b : Bool) (c : Worker × Command) (others : List (Worker × Command))
-    → map (λ (d : Worker × Command). d.1) (if b then c ∷ others else others) ≡ (if b then c.1 ∷ map (λ (d : Worker × Command). d.1) others else map (λ (d : Worker × Command). d.1) others)
+    → map (λ (d : Worker × Command). d.1) (if b then c ∷ others else others)
+    ≡ (if b then c.1 ∷ map (λ (d : Worker × Command). d.1) others else map (λ (d : Worker × Command). d.1) others)
 sent true c others = refl
 sent false c others = refl
 
@@ -149,7 +161,8 @@ chosen false f x xs = refl
 
 -- another worker has what it sends
 for_other : (versions : Versions) (owner worker : Worker) (number : ℕ) (ms : List Moved) → (owner.0 == worker.0) ≡ false
-    → commands_for worker (copies_of versions number owner ms) ≡ map (λ (m : Moved). (send_of number owner m).1) (filter (λ (m : Moved). m.from.0 == worker.0) ms)
+    → commands_for worker (copies_of versions number owner ms)
+    ≡ map (λ (m : Moved). (send_of number owner m).1) (filter (λ (m : Moved). m.from.0 == worker.0) ms)
 for_other versions owner worker number [] is = refl
 for_other versions owner worker number (m ∷ ms) is =
     let others : List (Worker × Command) = filter (λ (c : Worker × Command). c.0.0 == worker.0) (copies_of versions number owner ms) in
@@ -162,10 +175,13 @@ for_other versions owner worker number (m ∷ ms) is =
 ruled : (versions : Versions) (owner worker : Worker) (task : Task) (number position : ℕ) (ms : List Moved) → AreMoves versions owner task.reads ms
     → IsByRule (commands_for worker (copies_of versions number owner ms ++ (owner, run_of task number position ms) ∷ []))
 ruled versions owner worker task number position ms are =
-    subst IsByRule (sym (for_more worker (copies_of versions number owner ms) (owner, run_of task number position ms))) (either (owner.0 == worker.0) refl) where
-      either : (b : Bool) → (owner.0 == worker.0) ≡ b → IsByRule (commands_for worker (copies_of versions number owner ms) ++ (if b then run_of task number position ms ∷ [] else []))
+    subst IsByRule (sym (for_more worker (copies_of versions number owner ms) (owner, run_of task number position ms)))
+    (either (owner.0 == worker.0) refl) where
+      either : (b : Bool) → (owner.0 == worker.0) ≡ b
+          → IsByRule (commands_for worker (copies_of versions number owner ms) ++ (if b then run_of task number position ms ∷ [] else []))
       either true is =
-          subst (λ (cs : List Command). IsByRule (cs ++ run_of task number position ms ∷ [])) (sym (for_owner versions owner worker number task.reads ms are is))
+          subst (λ (cs : List Command). IsByRule (cs ++ run_of task number position ms ∷ []))
+          (sym (for_owner versions owner worker number task.reads ms are is))
           (receives_ruled versions owner number task.reads (run_of task number position ms) [] ms tt are
           (run_before versions owner number task.reads (footprint_of (run_of task number position ms)) ms refl are))
       either false is =
@@ -174,7 +190,8 @@ ruled versions owner worker task number position ms are =
           (subst IsByRule (sym (for_other versions owner worker number ms is)) (sends_ruled number owner [] mine tt))
 
 pub schedule_ruled : (versions : Versions) (owner : Worker) (task : Task) (number position : ℕ) (commands : List (Worker × Command))
-    → commands ≡ copies_of versions number owner (moves versions owner [] task.reads) ++ (owner, run_of task number position (moves versions owner [] task.reads)) ∷ []
+    → commands ≡ copies_of versions number owner (moves versions owner [] task.reads) ++
+    (owner, run_of task number position (moves versions owner [] task.reads)) ∷ []
     → (worker : Worker) → IsByRule (commands_for worker commands)
 schedule_ruled versions owner task number position commands is worker =
     subst (λ (cs : List (Worker × Command)). IsByRule (commands_for worker cs)) (sym is)

@@ -42,18 +42,22 @@ pub all_stand : (cs : List (Worker × Command)) (versions : Versions) → AllFit
 all_stand [] versions fit given stands = subst (λ (l : List (Worker × Command)). Stands l versions) (sym (append-nil given)) stands
 all_stand (c ∷ cs) versions fit given stands =
     let next : Versions = after_kind c.0 versions c.1.kind in
-    let workers : next.workers ≡ versions.workers = (put_all versions c.0 (version_of c.1.kind) (puts_of c.1.kind) (record { slots = stands.slots; all = stands.all }) fit.0).workers in
+    let workers : next.workers
+    ≡ versions.workers = (put_all versions c.0 (version_of c.1.kind) (puts_of c.1.kind) (record { slots = stands.slots; all = stands.all }) fit.0).workers in
     subst (λ (l : List (Worker × Command)). Stands l (after_commands next cs)) (append_assoc given (c ∷ []) cs)
     (all_stand cs next (subst (λ (n : ℕ). AllFit n cs) (sym workers) fit.2) (given ++ c ∷ []) (stands_more given versions c.0 c.1 stands fit.0 (aside versions c.1.kind fit.1)))
 
-pub copies_fit : (versions : Versions) (number : ℕ) (owner : Worker) (reads : List Object) (moved : List Moved) → AreMoves versions owner reads moved → owner.0 < versions.workers
+pub copies_fit : (versions : Versions) (number : ℕ) (owner : Worker) (reads : List Object) (moved : List Moved) → AreMoves versions owner reads moved
+    → owner.0 < versions.workers
     → AllFit versions.workers (copies_of versions number owner moved)
 copies_fit versions number owner reads [] are below = tt
 copies_fit versions number owner reads (m ∷ ms) are below = (are.0, refl, (below, refl, copies_fit versions number owner reads ms are.4 below))
 
 -- the commands of a task
-pub schedule_stands : (before after : Versions) (owner : Worker) (task : Task) (number position : ℕ) (commands : List (Worker × Command)) → owner.0 < before.workers
-    → commands ≡ copies_of before number owner (moves before owner [] task.reads) ++ (owner, run_of task number position (moves before owner [] task.reads)) ∷ []
+pub schedule_stands : (before after : Versions) (owner : Worker) (task : Task) (number position : ℕ) (commands : List (Worker × Command))
+    → owner.0 < before.workers
+    → commands ≡ copies_of before number owner (moves before owner [] task.reads) ++
+    (owner, run_of task number position (moves before owner [] task.reads)) ∷ []
     → after ≡ after_commands before commands → StandsOn before after commands
 schedule_stands before after owner task number position commands below is same =
     let moved : List Moved = moves before owner [] task.reads in

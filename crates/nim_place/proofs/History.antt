@@ -1,5 +1,6 @@
 -- A map of versions stands for the commands so far: none at first, and one more.
-use Rattle.std.proofs.Common.{◌≡◌, ℕ, zero, suc, ◌<◌, ◌≤◌, Bool, true, false, not, List, [], ◌∷◌, ◌++◌, length, map, slice_get, refl, ap, ap₂, sym, subst, ◌∙◌, arith, Option, Some}
+use Rattle.std.proofs.Common.{◌≡◌, ℕ, zero, suc, ◌<◌, ◌≤◌, Bool, true, false, not, List, [], ◌∷◌}
+use Rattle.std.proofs.Common.{◌++◌, length, map, slice_get, refl, ap, ap₂, sym, subst, ◌∙◌, arith, Option, Some}
 use Rattle.std.specs.Prelude.{◌==◌, ◌&&◌, ◌||◌, nat_lt, if◌then◌else◌}
 use Rattle.std.specs.List.{filter}
 use Rattle.std.specs.Option.{option_map, option_map_or}
@@ -71,11 +72,15 @@ beside objects to slot below aside same = either (nat_lt to objects) refl aside 
 
 left_seen : (versions : Versions) (kind : Kind) (before : Slot → Content) (slot : Slot) → slot.0 < versions.objects → is_aside versions kind ≡ true
     → left_by kind before slot ≡ (if is_among (puts_of kind) slot then content_at slot (version_of kind) else before slot)
-left_seen versions (Create written iota number) before slot below aside = one_left written slot 0 (before slot) (slot.0 == written.0) (written.0 == slot.0) refl refl
-left_seen versions (Load written version value) before slot below aside = one_left written slot version (before slot) (slot.0 == written.0) (written.0 == slot.0) refl refl
-left_seen versions (Receive written version) before slot below aside = one_left written slot version (before slot) (slot.0 == written.0) (written.0 == slot.0) refl refl
+left_seen versions (Create written iota number) before slot below aside = one_left written slot 0 (before slot) (slot.0 == written.0)
+    (written.0 == slot.0) refl refl
+left_seen versions (Load written version value) before slot below aside = one_left written slot version (before slot) (slot.0 == written.0)
+    (written.0 == slot.0) refl refl
+left_seen versions (Receive written version) before slot below aside = one_left written slot version (before slot) (slot.0 == written.0)
+    (written.0 == slot.0) refl refl
 left_seen versions (Run position func params reads writes) before slot below aside = refl
-left_seen versions (Copy from to) before slot below aside = none_left (slot.0 == to.0) (before from) (before slot) (beside versions.objects to.0 slot.0 below aside)
+left_seen versions (Copy from to) before slot below aside = none_left (slot.0 == to.0) (before from) (before slot)
+    (beside versions.objects to.0 slot.0 below aside)
 left_seen versions (Send written peer entry) before slot below aside = refl
 left_seen versions (Fetch written ticket) before slot below aside = refl
 
@@ -107,7 +112,8 @@ held_more commands c slot false true version old before left = ap (λ (cs : List
 held_more commands c slot false false version old before left = ap (λ (cs : List Command). holds cs (length cs) slot) (append-nil commands) ∙ before
 
 -- one more command
-pub stands_more : (given : List (Worker × Command)) (versions : Versions) (worker : Worker) (c : Command) → Stands given versions → worker.0 < versions.workers → is_aside versions c.kind ≡ true
+pub stands_more : (given : List (Worker × Command)) (versions : Versions) (worker : Worker) (c : Command) → Stands given versions
+    → worker.0 < versions.workers → is_aside versions c.kind ≡ true
     → Stands (given ++ (worker, c) ∷ []) (after_kind worker versions c.kind)
 stands_more given versions worker c stands below aside =
     let whole : IsWhole versions = record { slots = stands.slots; all = stands.all } in
@@ -121,7 +127,8 @@ stands_more given versions worker c stands below aside =
       held = λ other slot there.
           let had : is_kept versions other slot ≡ true = ap₂ (λ (n m : ℕ). nat_lt other.0 n && nat_lt slot.0 m) (sym put.workers) (sym put.objects) ∙ there in
           ap (λ (cs : List Command). holds cs (length cs) slot) (for_more other given (worker, c))
-          ∙ held_more (commands_for other given) c slot (worker.0 == other.0) (is_among (puts_of c.kind) slot) (version_of c.kind) (held_at versions other slot) (stands.held other slot had)
+          ∙ held_more (commands_for other given) c slot (worker.0 == other.0) (is_among (puts_of c.kind) slot) (version_of c.kind)
+          (held_at versions other slot) (stands.held other slot had)
           (left_seen versions c.kind (holds (commands_for other given) (length (commands_for other given))) slot (kept_bounds versions other slot had).1 aside)
           ∙ sym (ap (content slot) (put.held other slot had));
       latest = λ object there.
@@ -131,6 +138,8 @@ stands_more given versions worker c stands below aside =
           ∙ sym (fold-append (greater_put (main_slot object)) 0 given ((worker, c) ∷ []));
     }
 
-pub stands_on : (before after : Versions) (worker : Worker) (c : Command) → after ≡ after_kind worker before c.kind → worker.0 < before.workers → is_aside before c.kind ≡ true
+pub stands_on : (before after : Versions) (worker : Worker) (c : Command) → after ≡ after_kind worker before c.kind → worker.0 < before.workers
+    → is_aside before c.kind ≡ true
     → StandsOn before after ((worker, c) ∷ [])
-stands_on before after worker c is below aside given stands = subst (Stands (given ++ (worker, c) ∷ [])) (sym is) (stands_more given before worker c stands below aside)
+stands_on before after worker c is below aside given stands = subst (Stands (given ++ (worker, c) ∷ [])) (sym is)
+    (stands_more given before worker c stands below aside)

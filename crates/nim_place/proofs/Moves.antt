@@ -26,7 +26,8 @@ pub record IsSource (versions : Versions) (owner : Worker) (past : List Object) 
 abbrev pub AreMoves : Versions → Worker → List Object → List Moved → Type 0
 AreMoves versions owner reads [] = Unit {0}
 AreMoves versions owner reads (m ∷ ms) =
-    (m.from.0 < versions.workers) × (m.from.0 ≡ owner.0 → ⊥) × (is_one_of reads m.object ≡ true) × (is_moved ms m.object ≡ false) × AreMoves versions owner reads ms
+    (m.from.0 < versions.workers) × (m.from.0 ≡ owner.0 → ⊥) × (is_one_of reads m.object ≡ true) ×
+    (is_moved ms m.object ≡ false) × AreMoves versions owner reads ms
 
 none_some : {X : Type 0} (x : X) → None ≡ Some x → ⊥
 none_some {X} x is = false≢true (ap (λ (o : Option X). option_map_or (λ y. true) o false) is)
@@ -42,7 +43,8 @@ holder_facts versions object from (suc more) worker is =
       Found : ℕ → Type 0
       Found end = (worker.0 < end) × (is_current versions object worker ≡ true)
 
-      either : (b : Bool) → is_current versions object (record { 0 = from }) ≡ b → (holder_from versions object (from + 1) more ≡ Some worker → Found (from + 1 + more))
+      either : (b : Bool) → is_current versions object (record { 0 = from }) ≡ b
+          → (holder_from versions object (from + 1) more ≡ Some worker → Found (from + 1 + more))
           → (if b then Some (record { 0 = from }) else holder_from versions object (from + 1) more) ≡ Some worker → Found (from + suc more)
       either true test later here =
           let first : Worker = record { 0 = from } in
@@ -54,7 +56,8 @@ holder_facts versions object from (suc more) worker is =
 source_facts : (versions : Versions) (owner : Worker) (past : List Object) (object : Object) (from : Worker) → source_of versions owner past object ≡ Some from
     → IsSource versions owner past object from
 source_facts versions owner past object from is = either (is_one_of past object) (is_current versions object owner) refl refl is where
-  either : (a b : Bool) → is_one_of past object ≡ a → is_current versions object owner ≡ b → (if a || b then None else holder versions object) ≡ Some from → IsSource versions owner past object from
+  either : (a b : Bool) → is_one_of past object ≡ a → is_current versions object owner ≡ b → (if a || b then None else holder versions object) ≡ Some from
+      → IsSource versions owner past object from
   either true b first other found = absurd (none_some from found)
   either false true first other found = absurd (none_some from found)
   either false false first other found =
@@ -87,10 +90,12 @@ both_false true b is also = absurd (false≢true (sym is))
 both_false false b is also = also
 
 -- what was read before doesn't move
-none_twice : (versions : Versions) (owner : Worker) (past reads : List Object) (object : Object) → is_one_of past object ≡ true → is_moved (moves versions owner past reads) object ≡ false
+none_twice : (versions : Versions) (owner : Worker) (past reads : List Object) (object : Object) → is_one_of past object ≡ true
+    → is_moved (moves versions owner past reads) object ≡ false
 none_twice versions owner past [] object is = refl
 none_twice versions owner past (next ∷ reads) object is =
-    either (none_twice versions owner (past ++ next ∷ []) reads object (still_one_of past (next ∷ []) object is)) (source_of versions owner past next) refl where
+    either (none_twice versions owner (past ++ next ∷ []) reads object (still_one_of past (next ∷ []) object is))
+    (source_of versions owner past next) refl where
       other : (from : Worker) → source_of versions owner past next ≡ Some from → (b : Bool) → (next.0 == object.0) ≡ b → b ≡ false
       other from found true same =
           absurd (false≢true (sym (source_facts versions owner past next from found).first ∙ ap (λ (n : ℕ). is_one_of past (record { 0 = n })) (eqb-true next.0 object.0 same) ∙ is))
@@ -99,10 +104,12 @@ none_twice versions owner past (next ∷ reads) object is =
       either : is_moved (moves versions owner (past ++ next ∷ []) reads) object ≡ false → (o : Option Worker) → source_of versions owner past next ≡ o
           → is_moved (option_map_or (λ (from : Worker). record { index = length past; object = next; from = from } ∷ moves versions owner (past ++ next ∷ []) reads) o (moves versions owner (past ++ next ∷ []) reads)) object ≡ false
       either rest None found = rest
-      either rest (Some from) found = both_false (next.0 == object.0) (is_moved (moves versions owner (past ++ next ∷ []) reads) object) (other from found (next.0 == object.0) refl) rest
+      either rest (Some from) found = both_false (next.0 == object.0) (is_moved (moves versions owner (past ++ next ∷ []) reads) object)
+          (other from found (next.0 == object.0) refl) rest
 
 -- what has to move for reads, the first of which are behind
-moves_behind : (versions : Versions) (owner : Worker) (all past reads : List Object) → ((object : Object) → is_one_of reads object ≡ true → is_one_of all object ≡ true) → AreMoves versions owner all (moves versions owner past reads)
+moves_behind : (versions : Versions) (owner : Worker) (all past reads : List Object)
+    → ((object : Object) → is_one_of reads object ≡ true → is_one_of all object ≡ true) → AreMoves versions owner all (moves versions owner past reads)
 moves_behind versions owner all past [] within = tt
 moves_behind versions owner all past (next ∷ reads) within =
     either (moves_behind versions owner all (past ++ next ∷ []) reads (λ object is. within object (or_right (next.0 == object.0) (is_one_of reads object) is)))

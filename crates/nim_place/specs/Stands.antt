@@ -32,7 +32,8 @@ pub record Stands (given : List (Worker × Command)) (versions : Versions) : Typ
   pub slots : length versions.held ≡ versions.objects * versions.workers
   pub all : length versions.latest ≡ versions.objects
   pub held : (worker : Worker) (slot : Slot) → is_kept versions worker slot ≡ true
-      → holds (commands_for worker given) (length (commands_for worker given)) slot ≡ option_map (λ (version : ℕ). (object_of slot, version)) (held_at versions worker slot)
+      → holds (commands_for worker given) (length (commands_for worker given)) slot
+      ≡ option_map (λ (version : ℕ). (object_of slot, version)) (held_at versions worker slot)
   pub latest : (object : Object) → object.0 < versions.objects → latest_of versions object ≡ greatest_put (main_slot object) given
 
 -- a Copy goes to no main slot
