@@ -12,7 +12,7 @@ use Rattle.nim_command.specs.Numbers.{main_slot}
 use Rattle.nim_command.specs.Slots.{object_of}
 use Rattle.nim_place.specs.declared.schedule.Moved.{Moved}
 use Rattle.nim_place.specs.Finds.{FindsLatest}
-use Rattle.nim_place.specs.Schedule.{copies_of, is_one_of, moves, source_of}
+use Rattle.nim_place.specs.Schedule.{copies_of, is_one_of, moved_first, moves, source_of}
 use Rattle.nim_place.specs.Versions.{Versions, after_commands, after_kind, held_at, holder, is_current, is_kept, latest_of}
 use Rattle.nim_place.proofs.Given.{all_stand, copies_fit}
 use Rattle.nim_place.proofs.Moves.{both_false, is_moved, moves_facts, or_left, or_right}
@@ -56,7 +56,7 @@ does_move versions owner past [] object from held lacks first read = absurd (fal
 does_move versions owner past (next ∷ reads) object from held lacks first read =
     either (does_move versions owner (past ++ next ∷ []) reads object from held lacks) (next.0 == object.0) refl read where
       shown : (o : Option Worker) → is_moved (moves versions owner (past ++ next ∷ []) reads) object ≡ true
-          → is_moved (option_map_or (λ (w : Worker). record { index = length past; object = next; from = w } ∷ moves versions owner (past ++ next ∷ []) reads) o (moves versions owner (past ++ next ∷ []) reads)) object ≡ true
+          → is_moved (moved_first (length past) next o (moves versions owner (past ++ next ∷ []) reads)) object ≡ true
       shown None later = later
       shown (Some w) later = or_right (next.0 == object.0) (is_moved (moves versions owner (past ++ next ∷ []) reads) object) later
 
@@ -68,7 +68,7 @@ does_move versions owner past (next ∷ reads) object from held lacks first read
       either : (is_one_of (past ++ next ∷ []) object ≡ false → is_one_of reads object ≡ true → is_moved (moves versions owner (past ++ next ∷ []) reads) object ≡ true)
           → (b : Bool) → (next.0 == object.0) ≡ b → (b || is_one_of reads object) ≡ true → is_moved (moves versions owner past (next ∷ reads)) object ≡ true
       either later true same here =
-          ap (λ (o : Option Worker). is_moved (option_map_or (λ (w : Worker). record { index = length past; object = next; from = w } ∷ moves versions owner (past ++ next ∷ []) reads) o (moves versions owner (past ++ next ∷ []) reads)) object) (source same)
+          ap (λ (o : Option Worker). is_moved (moved_first (length past) next o (moves versions owner (past ++ next ∷ []) reads)) object) (source same)
           ∙ or_left (next.0 == object.0) (is_moved (moves versions owner (past ++ next ∷ []) reads) object) same
       either later false other here =
           shown (source_of versions owner past next)

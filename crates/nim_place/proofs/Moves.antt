@@ -8,7 +8,7 @@ use Rattle.std.proofs.lemmas.List.Folds.{list_any-append}
 use Rattle.nim_base.specs.declared.number.Object.{Object}
 use Rattle.nim_base.specs.declared.number.Worker.{Worker}
 use Rattle.nim_place.specs.declared.schedule.Moved.{Moved}
-use Rattle.nim_place.specs.Schedule.{is_one_of, moves, source_of}
+use Rattle.nim_place.specs.Schedule.{is_one_of, moved_first, moves, source_of}
 use Rattle.nim_place.specs.Versions.{Versions, holder, holder_from, is_current}
 
 -- whether one of these moves an object
@@ -102,7 +102,7 @@ none_twice versions owner past (next ∷ reads) object is =
       other from found false same = refl
 
       either : is_moved (moves versions owner (past ++ next ∷ []) reads) object ≡ false → (o : Option Worker) → source_of versions owner past next ≡ o
-          → is_moved (option_map_or (λ (from : Worker). record { index = length past; object = next; from = from } ∷ moves versions owner (past ++ next ∷ []) reads) o (moves versions owner (past ++ next ∷ []) reads)) object ≡ false
+          → is_moved (moved_first (length past) next o (moves versions owner (past ++ next ∷ []) reads)) object ≡ false
       either rest None found = rest
       either rest (Some from) found = both_false (next.0 == object.0) (is_moved (moves versions owner (past ++ next ∷ []) reads) object)
           (other from found (next.0 == object.0) refl) rest
@@ -115,7 +115,7 @@ moves_behind versions owner all past (next ∷ reads) within =
     either (moves_behind versions owner all (past ++ next ∷ []) reads (λ object is. within object (or_right (next.0 == object.0) (is_one_of reads object) is)))
     (source_of versions owner past next) refl where
       either : AreMoves versions owner all (moves versions owner (past ++ next ∷ []) reads) → (o : Option Worker) → source_of versions owner past next ≡ o
-          → AreMoves versions owner all (option_map_or (λ (from : Worker). record { index = length past; object = next; from = from } ∷ moves versions owner (past ++ next ∷ []) reads) o (moves versions owner (past ++ next ∷ []) reads))
+          → AreMoves versions owner all (moved_first (length past) next o (moves versions owner (past ++ next ∷ []) reads))
       either rest None found = rest
       either rest (Some from) found =
           let facts = source_facts versions owner past next from found in
