@@ -1,14 +1,14 @@
 -- A map of versions stands for the commands so far: none at first, and one more.
-use Rattle.std.proofs.Common.{◌≡◌, ℕ, zero, suc, ◌*◌, ◌<◌, ◌≤◌, Bool, true, false, not, List, [], ◌∷◌, ◌++◌, length, map, slice_get, refl, ap, ap₂, sym, subst, ◌∙◌, arith, Option, None, Some}
+use Rattle.std.proofs.Common.{◌≡◌, ℕ, zero, suc, ◌<◌, ◌≤◌, Bool, true, false, not, List, [], ◌∷◌}
+use Rattle.std.proofs.Common.{◌++◌, length, map, slice_get, refl, ap, ap₂, sym, subst, ◌∙◌, arith, Option, Some}
 use Rattle.std.specs.Prelude.{◌==◌, ◌&&◌, ◌||◌, nat_lt, if◌then◌else◌}
 use Rattle.std.specs.List.{filter}
 use Rattle.std.specs.Option.{option_map, option_map_or}
 use Rattle.std.proofs.Math.Path.{fun_ext}
 use Rattle.std.proofs.lemmas.Bool.{eqb-false, eqb-true, false≢true, ltb-false}
-use Rattle.std.proofs.lemmas.List.{append-nil, get_or-replicate, length-append, length-replicate, map-append}
+use Rattle.std.proofs.lemmas.List.{append-nil, length-append, map-append}
 use Rattle.std.proofs.lemmas.List.Elements.{filter-append}
 use Rattle.std.proofs.lemmas.List.Sums.{fold-append}
-use Rattle.std.proofs.lemmas.Nat.{mul-add-lt}
 use Rattle.nim_base.specs.declared.number.Slot.{Slot}
 use Rattle.nim_base.specs.declared.number.Worker.{Worker}
 use Rattle.nim_command.specs.declared.command.Command.{Command}
@@ -18,7 +18,7 @@ use Rattle.nim_command.specs.Holds.{Content, content_at, holds, left_by}
 use Rattle.nim_command.specs.Numbers.{main_slot}
 use Rattle.nim_command.specs.Slots.{is_among, object_of}
 use Rattle.nim_place.specs.Stands.{Stands, StandsOn, commands_for, greater_put, is_aside}
-use Rattle.nim_place.specs.Versions.{Versions, after_kind, held_at, is_kept, no_versions, place_of, puts_of, version_of}
+use Rattle.nim_place.specs.Versions.{Versions, after_kind, held_at, is_kept, puts_of, version_of}
 use Rattle.nim_place.proofs.Puts.{IsPut, IsWhole, kept_bounds, put_all, whole_after}
 
 -- ---- lists of commands
@@ -72,18 +72,22 @@ beside objects to slot below aside same = either (nat_lt to objects) refl aside 
 
 left_seen : (versions : Versions) (kind : Kind) (before : Slot → Content) (slot : Slot) → slot.0 < versions.objects → is_aside versions kind ≡ true
     → left_by kind before slot ≡ (if is_among (puts_of kind) slot then content_at slot (version_of kind) else before slot)
-left_seen versions (Create written iota number) before slot below aside = one_left written slot 0 (before slot) (slot.0 == written.0) (written.0 == slot.0) refl refl
-left_seen versions (Load written version value) before slot below aside = one_left written slot version (before slot) (slot.0 == written.0) (written.0 == slot.0) refl refl
-left_seen versions (Receive written version) before slot below aside = one_left written slot version (before slot) (slot.0 == written.0) (written.0 == slot.0) refl refl
+left_seen versions (Create written iota number) before slot below aside = one_left written slot 0 (before slot) (slot.0 == written.0)
+    (written.0 == slot.0) refl refl
+left_seen versions (Load written version value) before slot below aside = one_left written slot version (before slot) (slot.0 == written.0)
+    (written.0 == slot.0) refl refl
+left_seen versions (Receive written version) before slot below aside = one_left written slot version (before slot) (slot.0 == written.0)
+    (written.0 == slot.0) refl refl
 left_seen versions (Run position func params reads writes) before slot below aside = refl
-left_seen versions (Copy from to) before slot below aside = none_left (slot.0 == to.0) (before from) (before slot) (beside versions.objects to.0 slot.0 below aside)
+left_seen versions (Copy from to) before slot below aside = none_left (slot.0 == to.0) (before from) (before slot)
+    (beside versions.objects to.0 slot.0 below aside)
 left_seen versions (Send written peer entry) before slot below aside = refl
 left_seen versions (Fetch written ticket) before slot below aside = refl
 
 -- ---- one worker's commands
 
 -- one more command is its worker's last
-for_more : (worker : Worker) (given : List (Worker × Command)) (c : Worker × Command)
+pub for_more : (worker : Worker) (given : List (Worker × Command)) (c : Worker × Command)
     → commands_for worker (given ++ c ∷ []) ≡ commands_for worker given ++ (if c.0.0 == worker.0 then c.1 ∷ [] else [])
 for_more worker given c =
     let mine : Worker × Command → Bool = λ d. d.0.0 == worker.0 in
@@ -108,7 +112,8 @@ held_more commands c slot false true version old before left = ap (λ (cs : List
 held_more commands c slot false false version old before left = ap (λ (cs : List Command). holds cs (length cs) slot) (append-nil commands) ∙ before
 
 -- one more command
-pub stands_more : (given : List (Worker × Command)) (versions : Versions) (worker : Worker) (c : Command) → Stands given versions → worker.0 < versions.workers → is_aside versions c.kind ≡ true
+pub stands_more : (given : List (Worker × Command)) (versions : Versions) (worker : Worker) (c : Command) → Stands given versions
+    → worker.0 < versions.workers → is_aside versions c.kind ≡ true
     → Stands (given ++ (worker, c) ∷ []) (after_kind worker versions c.kind)
 stands_more given versions worker c stands below aside =
     let whole : IsWhole versions = record { slots = stands.slots; all = stands.all } in
@@ -122,7 +127,8 @@ stands_more given versions worker c stands below aside =
       held = λ other slot there.
           let had : is_kept versions other slot ≡ true = ap₂ (λ (n m : ℕ). nat_lt other.0 n && nat_lt slot.0 m) (sym put.workers) (sym put.objects) ∙ there in
           ap (λ (cs : List Command). holds cs (length cs) slot) (for_more other given (worker, c))
-          ∙ held_more (commands_for other given) c slot (worker.0 == other.0) (is_among (puts_of c.kind) slot) (version_of c.kind) (held_at versions other slot) (stands.held other slot had)
+          ∙ held_more (commands_for other given) c slot (worker.0 == other.0) (is_among (puts_of c.kind) slot) (version_of c.kind)
+          (held_at versions other slot) (stands.held other slot had)
           (left_seen versions c.kind (holds (commands_for other given) (length (commands_for other given))) slot (kept_bounds versions other slot had).1 aside)
           ∙ sym (ap (content slot) (put.held other slot had));
       latest = λ object there.
@@ -132,20 +138,8 @@ stands_more given versions worker c stands below aside =
           ∙ sym (fold-append (greater_put (main_slot object)) 0 given ((worker, c) ∷ []));
     }
 
--- none at first
-pub stands_none : (workers objects : ℕ) → Stands [] (no_versions workers objects)
-stands_none workers objects = record {
-  slots = length-replicate (objects * workers) None;
-  all = length-replicate objects 0;
-  held = λ worker slot there.
-      let chosen : Bool → Option ℕ → Option ℕ = λ b o. if b then o else None in
-      let bounds = kept_bounds (no_versions workers objects) worker slot there in
-      let within : place_of (no_versions workers objects) worker slot < objects * workers = mul-add-lt worker.0 objects slot.0 workers bounds.0 bounds.1 in
-      let empty = get_or-replicate (objects * workers) (place_of (no_versions workers objects) worker slot) None None within in
-      sym (ap (option_map (λ (n : ℕ). (object_of slot, n))) (ap₂ chosen there empty));
-  latest = λ object there. get_or-replicate objects object.0 0 0 there;
-}
-
-pub stands_on : (before after : Versions) (worker : Worker) (c : Command) → after ≡ after_kind worker before c.kind → worker.0 < before.workers → is_aside before c.kind ≡ true
+pub stands_on : (before after : Versions) (worker : Worker) (c : Command) → after ≡ after_kind worker before c.kind → worker.0 < before.workers
+    → is_aside before c.kind ≡ true
     → StandsOn before after ((worker, c) ∷ [])
-stands_on before after worker c is below aside given stands = subst (Stands (given ++ (worker, c) ∷ [])) (sym is) (stands_more given before worker c stands below aside)
+stands_on before after worker c is below aside given stands = subst (Stands (given ++ (worker, c) ∷ [])) (sym is)
+    (stands_more given before worker c stands below aside)

@@ -25,7 +25,8 @@ place_within seen versions worker slot kept place size same is test there all =
     omega (arith, below, sizes, there, all)
 
 -- what a slot that the map has holds
-pub held_there : (held : List (Option ℕ)) (seen versions : Versions) (worker : Worker) (slot : Slot) (kept : Bool) (place size : ℕ) (found : Option ℕ) → seen ≡ versions → kept ≡ true
+pub held_there : (held : List (Option ℕ)) (seen versions : Versions) (worker : Worker) (slot : Slot) (kept : Bool) (place size : ℕ) (found : Option ℕ)
+    → seen ≡ versions → kept ≡ true
     → kept ≡ is_kept versions worker slot → place ≡ place_of versions worker slot → size ≡ seen.objects * seen.workers → held ≡ seen.held → length held ≡ size
     → found ≡ get_or held place found → found ≡ held_at versions worker slot
 held_there held seen versions worker slot kept place size found same is test there all in_map long read =
@@ -37,7 +38,8 @@ held_there held seen versions worker slot kept place size found same is test the
 
 -- one worker further, where one doesn't hold the latest version
 pub holder_more : (versions : Versions) (object : Object) (from more : ℕ) (next : Option Worker) → more ≡ versions.workers - from → from < versions.workers
-    → is_current versions object (record { 0 = from }) ≡ false → holder_from versions object from more ≡ next → holder_from versions object (from + 1) (versions.workers - (from + 1)) ≡ next
+    → is_current versions object (record { 0 = from }) ≡ false → holder_from versions object from more ≡ next
+    → holder_from versions object (from + 1) (versions.workers - (from + 1)) ≡ next
 holder_more versions object from zero next is within test before = absurd (omega arith)
 holder_more versions object from (suc more) next is within test before =
     let rest : versions.workers - (from + 1) ≡ more = omega arith in

@@ -1,5 +1,6 @@
 -- What a map holds after a version was put into slots of a worker.
-use Rattle.std.proofs.Common.{◌≡◌, ℕ, ◌+◌, ◌*◌, ◌<◌, Bool, true, false, List, [], ◌∷◌, length, get_or, set, length-set, get_or-set_same, get_or-set_other, refl, ap, ap₂, sym, ◌∙◌, arith}
+use Rattle.std.proofs.Common.{◌≡◌, ℕ, ◌+◌, ◌*◌, ◌<◌, Bool, true, false, List, [], ◌∷◌}
+use Rattle.std.proofs.Common.{length, get_or, set, length-set, get_or-set_same, get_or-set_other, refl, ap, ap₂, sym, ◌∙◌, arith}
 use Rattle.std.specs.Prelude.{◌==◌, ◌&&◌, ◌||◌, nat_lt, max, if◌then◌else◌, Option, None, Some}
 use Rattle.std.specs.List.{fold}
 use Rattle.std.proofs.lemmas.Bool.{eq-eqb, eqb-false, eqb-true, false≢true, lt-ltb, ltb-true}
@@ -29,12 +30,14 @@ pub record IsWhole (versions : Versions) : Type 0 where
   pub all : length versions.latest ≡ versions.objects
 
 -- a slot that the map has, for a worker and an object that it has
-pub kept_for : (versions : Versions) (worker : Worker) (slot : Slot) → worker.0 < versions.workers → slot.0 < versions.objects → is_kept versions worker slot ≡ true
+pub kept_for : (versions : Versions) (worker : Worker) (slot : Slot) → worker.0 < versions.workers → slot.0 < versions.objects
+    → is_kept versions worker slot ≡ true
 kept_for versions worker slot first second =
     ap₂ (λ (a b : Bool). a && b) (lt-ltb worker.0 versions.workers first) (lt-ltb slot.0 versions.objects second)
 
 -- the worker and the object of a slot that the map has
-pub kept_bounds : (versions : Versions) (worker : Worker) (slot : Slot) → is_kept versions worker slot ≡ true → (worker.0 < versions.workers) × (slot.0 < versions.objects)
+pub kept_bounds : (versions : Versions) (worker : Worker) (slot : Slot) → is_kept versions worker slot ≡ true
+    → (worker.0 < versions.workers) × (slot.0 < versions.objects)
 kept_bounds versions worker slot kept =
     let each = both_true (nat_lt worker.0 versions.workers) (nat_lt slot.0 versions.objects) kept in
     (ltb-true worker.0 versions.workers each.0, ltb-true slot.0 versions.objects each.1)
@@ -69,7 +72,8 @@ merged false true true x y = refl
 merged false true false x y = refl
 merged false false d x y = refl
 
-greater_twice : (b c : Bool) (n m : ℕ) → (if c then max (if b || false then max n m else n) m else (if b || false then max n m else n)) ≡ (if b || c then max n m else n)
+greater_twice : (b c : Bool) (n m : ℕ)
+    → (if c then max (if b || false then max n m else n) m else (if b || false then max n m else n)) ≡ (if b || c then max n m else n)
 greater_twice true true n m = omega arith
 greater_twice true false n m = refl
 greater_twice false true n m = refl
@@ -108,7 +112,8 @@ put_kept versions worker version slot whole kept = record {
       let each = both_true (slot.0 == at.0) (worker.0 == other.0) is in
       ap₂ (λ (w s : ℕ). w * versions.objects + s) (eqb-true worker.0 other.0 each.1) (eqb-true slot.0 at.0 each.0)
 
-  apart : (other : Worker) (at : Slot) → at.0 < versions.objects → ((slot.0 == at.0) && (worker.0 == other.0)) ≡ false → place_of versions worker slot ≡ place_of versions other at → ⊥
+  apart : (other : Worker) (at : Slot) → at.0 < versions.objects → ((slot.0 == at.0) && (worker.0 == other.0)) ≡ false
+      → place_of versions worker slot ≡ place_of versions other at → ⊥
   apart other at below is same =
       let each = same_from_place worker.0 slot.0 other.0 at.0 versions.objects bounds.1 below same in
       eqb-false worker.0 other.0 (and_false (slot.0 == at.0) (worker.0 == other.0) is (eq-eqb slot.0 at.0 each.1)) each.0
@@ -119,16 +124,20 @@ put_kept versions worker version slot whole kept = record {
   held_after other at there =
       let chosen : Bool → Option ℕ → Option ℕ = λ b o. if b then o else None in
       let other_bounds = kept_bounds versions other at there in
-      let seen : get_or versions.held (place_of versions other at) None ≡ held_at versions other at = sym (ap (λ (b : Bool). chosen b (get_or versions.held (place_of versions other at) None)) there) in
+      let seen : get_or versions.held (place_of versions other at) None
+      ≡ held_at versions other at = sym (ap (λ (b : Bool). chosen b (get_or versions.held (place_of versions other at) None)) there) in
       ap (λ (b : Bool). chosen b (get_or (set versions.held (place_of versions worker slot) (Some version)) (place_of versions other at) None)) there
-      ∙ read_set versions.held (place_of versions worker slot) (place_of versions other at) (Some version) None ((slot.0 == at.0) && (worker.0 == other.0)) within (equal other at) (apart other at other_bounds.1)
+      ∙ read_set versions.held (place_of versions worker slot) (place_of versions other at) (Some version) None
+      ((slot.0 == at.0) && (worker.0 == other.0)) within (equal other at) (apart other at other_bounds.1)
       ∙ ap₂ (λ (b : Bool) (o : Option ℕ). if b && (worker.0 == other.0) then Some version else o) (sym (or_false (slot.0 == at.0))) seen
 
-  latest_after : (object : Object) → object.0 < versions.objects → get_or (set versions.latest slot.0 (max (get_or versions.latest slot.0 0) version)) object.0 0
+  latest_after : (object : Object) → object.0 < versions.objects
+      → get_or (set versions.latest slot.0 (max (get_or versions.latest slot.0 0) version)) object.0 0
       ≡ (if (slot.0 == object.0) || false then max (get_or versions.latest object.0 0) version else get_or versions.latest object.0 0)
   latest_after object there =
       let same : Bool = slot.0 == object.0 in
-      read_set versions.latest slot.0 object.0 (max (get_or versions.latest slot.0 0) version) 0 same (omega (arith, bounds.1, whole.all)) (eqb-true slot.0 object.0) (eqb-false slot.0 object.0)
+      read_set versions.latest slot.0 object.0 (max (get_or versions.latest slot.0 0) version) 0 same (omega (arith, bounds.1, whole.all))
+      (eqb-true slot.0 object.0) (eqb-false slot.0 object.0)
       ∙ pick_same same (max (get_or versions.latest slot.0 0) version) (max (get_or versions.latest object.0 0) version) (get_or versions.latest object.0 0)
       (λ is. ap (λ (n : ℕ). max (get_or versions.latest n 0) version) (eqb-true slot.0 object.0 is))
 
@@ -176,7 +185,8 @@ put_then before worker version slot slots between after one rest = record {
 }
 
 -- a map stays whole
-pub whole_after : (before : Versions) (worker : Worker) (version : ℕ) (slots : List Slot) (after : Versions) → IsPut before worker version slots after → IsWhole before → IsWhole after
+pub whole_after : (before : Versions) (worker : Worker) (version : ℕ) (slots : List Slot) (after : Versions) → IsPut before worker version slots after
+    → IsWhole before → IsWhole after
 whole_after before worker version slots after put whole = record {
   slots = put.places ∙ whole.slots ∙ ap₂ (λ (n m : ℕ). n * m) (sym put.objects) (sym put.workers);
   all = put.count ∙ whole.all ∙ sym put.objects;

@@ -1,3 +1,4 @@
+pub mod Finds
 pub mod Placement
 pub mod Schedule
 pub mod Stands

@@ -1,9 +1,8 @@
 -- The commands that one task needs: what has to move to its owner, and its run.
-use Rattle.std.specs.Prelude.{ℕ, ◌+◌, ◌==◌, Bool, ◌||◌, if◌then◌else◌, List, [], ◌∷◌, ◌++◌, length, map, Option, None, slice_get}
+use Rattle.std.specs.Prelude.{ℕ, ◌==◌, Bool, ◌||◌, if◌then◌else◌, List, [], ◌∷◌, ◌++◌, length, map, Option, None, Some, slice_get}
 use Rattle.std.specs.List.{flat_map, list_any}
 use Rattle.std.specs.Option.{option_map_or}
 use Rattle.nim_base.specs.declared.number.Object.{Object}
-use Rattle.nim_base.specs.declared.number.Slot.{Slot}
 use Rattle.nim_base.specs.declared.number.Worker.{Worker}
 use Rattle.nim_base.specs.declared.task.Task.{Task}
 use Rattle.nim_command.specs.declared.command.Command.{Command}
@@ -27,12 +26,16 @@ is_one_of objects object = list_any (λ (o : Object). o.0 == object.0) objects
 abbrev pub source_of : Versions → Worker → List Object → Object → Option Worker
 source_of versions owner past object = if is_one_of past object || is_current versions object owner then None else holder versions object
 
+-- an object's move before others, if it comes from anywhere, by the index of its read
+abbrev pub moved_first : ℕ → Object → Option Worker → List Moved → List Moved
+moved_first index object None rest = rest
+moved_first index object (Some from) rest = record { index = index; object = object; from = from } ∷ rest
+
 -- what has to move to the owner for reads behind others, in their order
 abbrev pub moves : Versions → Worker → List Object → List Object → List Moved
 moves versions owner past [] = []
 moves versions owner past (object ∷ reads) =
-    let rest : List Moved = moves versions owner (past ++ object ∷ []) reads in
-    option_map_or (λ (from : Worker). record { index = length past; object = object; from = from } ∷ rest) (source_of versions owner past object) rest
+    moved_first (length past) object (source_of versions owner past object) (moves versions owner (past ++ object ∷ []) reads)
 
 -- it is sent by the worker that holds it
 abbrev pub send_of : ℕ → Worker → Moved → Worker × Command

@@ -8,6 +8,7 @@ use Rattle.nim_base.specs.declared.number.Worker.{Worker}
 use Rattle.nim_command.specs.declared.command.Command.{Command}
 use Rattle.nim_command.specs.declared.command.Kind.{Kind}
 use Rattle.nim_command.specs.declared.command.Kind.TheVariants.{Copy}
+use Rattle.nim_command.specs.Before.{IsByRule}
 use Rattle.nim_command.specs.Holds.{holds}
 use Rattle.nim_command.specs.Numbers.{main_slot}
 use Rattle.nim_command.specs.Slots.{is_among, object_of}
@@ -31,7 +32,8 @@ pub record Stands (given : List (Worker × Command)) (versions : Versions) : Typ
   pub slots : length versions.held ≡ versions.objects * versions.workers
   pub all : length versions.latest ≡ versions.objects
   pub held : (worker : Worker) (slot : Slot) → is_kept versions worker slot ≡ true
-      → holds (commands_for worker given) (length (commands_for worker given)) slot ≡ option_map (λ (version : ℕ). (object_of slot, version)) (held_at versions worker slot)
+      → holds (commands_for worker given) (length (commands_for worker given)) slot
+      ≡ option_map (λ (version : ℕ). (object_of slot, version)) (held_at versions worker slot)
   pub latest : (object : Object) → object.0 < versions.objects → latest_of versions object ≡ greatest_put (main_slot object) given
 
 -- a Copy goes to no main slot
@@ -42,3 +44,7 @@ is_aside versions _ = true
 -- what stood for some commands stands for these too then
 abbrev pub StandsOn : Versions → Versions → List (Worker × Command) → Type 0
 StandsOn before after more = (given : List (Worker × Command)) → Stands given before → Stands (given ++ more) after
+
+-- each worker's commands have the before sets of the rule
+abbrev pub AreByRule : List (Worker × Command) → Type 0
+AreByRule given = (worker : Worker) → IsByRule (commands_for worker given)

@@ -1,5 +1,6 @@
 -- Which version of each object a worker's main slot holds, and the latest version of each.
-use Rattle.std.specs.Prelude.{ℕ, zero, suc, ◌+◌, ◌*◌, ◌==◌, nat_lt, max, Bool, false, ◌&&◌, if◌then◌else◌, List, [], replicate, slice_index_or, slice_set, Option, None, Some}
+use Rattle.std.specs.Prelude.{ℕ, zero, suc, ◌+◌, ◌*◌, ◌==◌, nat_lt, max, Bool, false}
+use Rattle.std.specs.Prelude.{◌&&◌, if◌then◌else◌, List, [], replicate, slice_index_or, slice_set, Option, None, Some}
 use Rattle.std.specs.List.{fold}
 use Rattle.std.specs.Option.{option_map_or}
 use Rattle.nim_base.specs.declared.number.Object.{Object}

@@ -1,7 +1,10 @@
-ghost use Rattle.std.specs.Prelude.{◌≡◌, ◌<◌, ◌≤◌, ◌∷◌, ◌++◌, [], true, length, map, slice_get, IfOk, OnOk, OnErr, IsSomeAnd};
+ghost use Rattle.std.specs.Prelude.{◌≡◌, ◌<◌, ◌≤◌, ◌∷◌, ◌++◌, [], true, length, map, slice_get};
+ghost use Rattle.std.specs.Prelude.{IfOk, OnOk, OnErr, IsSomeAnd};
 ghost use Rattle.std.specs.List.{list_any};
 ghost use Rattle.nim_command.specs.Numbers as numbers;
+ghost use Rattle.nim_place.specs.Finds.{FindsLatest};
 ghost use Rattle.nim_place.specs.Schedule as spec;
+ghost use Rattle.nim_place.specs.Stands.{AreByRule, StandsOn};
 ghost use Rattle.nim_place.specs.Versions.{after_commands};
 
 use crate::{Placement, VersionMap, home};
@@ -30,12 +33,18 @@ pub fn schedule_task(
     place: &Placement,
     live: &[bool],
 ) -> Result<Vec<(Worker, Command)>, NoMemory>
+    requires workers { length live.now ≡ map.old.workers }
     requires few { length live.now ≤ 16 }
     requires live { list_any (λ flag. flag) live.now ≡ true }
     requires writes { IsSomeAnd (slice_get task.now.writes 0) (λ object. object.0 < map.old.objects) }
-    ensures commands { IfOk result (λ commands. commands.items ≡ spec.scheduled map.old task.now number position place.now live.now) }
+    ensures commands { IfOk result (λ commands.
+        commands.items ≡ spec.scheduled map.old task.now number position place.now live.now) }
     ensures ok { IfOk result (λ commands. map.new ≡ after_commands map.old commands.items) }
     ensures err { OnErr result (map.new ≡ map.old) }
+    ensures stands { IfOk result (λ commands. StandsOn map.old map.new commands.items) }
+    ensures finds { IfOk result (λ commands.
+        FindsLatest map.old (spec.owner_of place.now task.now map.old.objects live.now) task.now number) }
+    ensures by_rule { IfOk result (λ commands. AreByRule commands.items) }
 {
     let owner = owner_of(place, task, map.objects(), live);
     let moved = moves(alloc, map, owner, task.reads.as_slice())?;

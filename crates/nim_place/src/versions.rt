@@ -100,7 +100,8 @@ impl VersionMap {
     /// Takes in what a worker's command leaves in main slots. A Copy leaves none, since it goes to a scratch slot.
     pub fn apply_command(&mut self, worker: Worker, command: &Command)
         ensures value { self.new ≡ spec.after_kind worker self.old command.now.kind }
-        ensures stands { worker.0 < self.old.workers → is_aside self.old command.now.kind ≡ true → StandsOn self.old self.new ((worker, command.now) ∷ []) }
+        ensures stands { worker.0 < self.old.workers → is_aside self.old command.now.kind ≡ true
+            → StandsOn self.old self.new ((worker, command.now) ∷ []) }
     {
         self.put_by(worker, &command.kind);
     }
