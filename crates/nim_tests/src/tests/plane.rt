@@ -1,3 +1,5 @@
+ghost use Rattle.std.specs.Prelude.{◌<◌, slice_get, IsSomeAnd, IsTrue};
+
 use nim_base::{Func, NoMemory, Object, Seq, Shape, Slot, Task, Value, Worker};
 use nim_command::{Command, Kind};
 use nim_message::Data;
@@ -8,9 +10,6 @@ use std::alloc::Global;
 use std::test::Fail;
 
 const ONE: Shape = Shape { width: 1, rows: 1 };
-
-/// Four workers, of which the third is lost.
-const LIVE: [bool; 4] = [true, true, false, true];
 
 /// An object of ten, how it is placed, and its home.
 const HOMES: [(u16, Placement, u16); 6] = [
@@ -24,9 +23,10 @@ const HOMES: [(u16, Placement, u16); 6] = [
 
 #[test]
 fn homes_are_live(rt: HostRuntime) -> Result<(), Fail> {
+    let live = [true, true, false, true]; // the third worker is lost
     for (object, place, worker) in &HOMES {
         if *object < 10 {
-            assert_eq!(rt; home(place, Object(*object), 10, &LIVE), Worker(*worker));
+            assert_eq!(rt; home(place, Object(*object), 10, &live), Worker(*worker));
         }
     }
     Ok(())
@@ -54,24 +54,29 @@ fn task(alloc: Global) -> Result<Task, NoMemory> {
     })
 }
 
+/// Whether a task writes one of two objects first.
+fn writes_one_of_two(task: &Task) -> bool
+    ensures { IsTrue result → IsSomeAnd (slice_get task.now.writes 0) (λ object. object.0 < 2) }
+{
+    match task.writes.as_slice().first() {
+        Some(object) => object.0 < 2,
+        None => false,
+    }
+}
+
 #[test]
-fn what_a_task_reads_is_sent_to_it(rt: HostRuntime) -> Result<(), Fail> {
-    let mut map = VersionMap::new(rt.alloc(), 2, 2)?;
-    map.apply_command(Worker(0), &filled(rt.alloc(), 0, 0));
-    map.apply_command(Worker(1), &filled(rt.alloc(), 0, 1));
-    assert_eq!(rt; map.holder(Object(1)), Some(Worker(1)));
+fn a_map_holds_what_a_task_writes(rt: HostRuntime) -> Result<(), Fail> {
     let task = task(rt.alloc())?;
-    if map.objects() == 2 && task.writes.as_slice() == [Object(0)].as_slice() {
+    let mut map = VersionMap::new(rt.alloc(), 2, 2)?;
+    if writes_one_of_two(&task) {
         let place = Placement::Cyclic;
         let given = schedule_task(rt.alloc(), &mut map, &task, 0, 0, &place, &[true, true])?;
-        let [(from, send), (to, receive), (owner, run)] = given.as_slice() else {
-            return Err(Fail::from("a send, a receive and a run"));
-        };
-        assert_eq!(rt; (*from, *to, *owner), (Worker(1), Worker(0), Worker(0)));
-        assert_eq!(rt; (send.id, receive.id, run.id), (0, 8, 32));
-        assert_eq!(rt; run.before.as_slice(), [8].as_slice());
-        assert_eq!(rt; map.latest(Object(0)), 1);
+        assert_eq!(rt; given.len(), 1);
     }
+    assert_eq!(rt; map.holder(Object(0)), Some(Worker(0)));
+    assert_eq!(rt; map.latest(Object(0)), 1);
+    map.apply_command(Worker(1), &filled(rt.alloc(), 0, 1));
+    assert_eq!(rt; map.holder(Object(1)), Some(Worker(1)));
     Ok(())
 }
 
