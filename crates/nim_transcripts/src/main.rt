@@ -10,7 +10,6 @@ mod plans;
 mod session;
 mod shown;
 mod texts;
-mod traces;
 mod values;
 mod words;
 

@@ -4,29 +4,8 @@ use crate::shown::push_contents;
 use crate::words::{halves, number};
 use nim_base::Slot;
 use nim_command::{Command, Rank};
-use nim_message::ToWorker;
-use nim_plan::{commands, holds, rank};
+use nim_plan::{holds, rank};
 use std::alloc::Global;
-
-/// `commands`: what the orders so far come to, a command a line, with the places that it waits for.
-pub fn commands_line(
-    alloc: Global,
-    orders: &[ToWorker],
-    out: &mut String,
-) -> Result<(), LineFault> {
-    for command in &commands(alloc, orders)? {
-        let id = command.id;
-        out.push_str(format!(in alloc; "{id}")?.as_str())?;
-        if command.before.len() != 0 {
-            out.push_str(" after")?;
-        }
-        for place in command.before.as_slice() {
-            out.push_str(format!(in alloc; " {place}")?.as_str())?;
-        }
-        out.push_str("\n")?;
-    }
-    Ok(())
-}
 
 /// `holds SLOT before PLACE`: the object and the version that a slot holds before a place of a list of commands.
 pub fn holds_line(

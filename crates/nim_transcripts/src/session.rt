@@ -2,10 +2,9 @@ use crate::commands::{commands, object_line, slots_line};
 use crate::fault::LineFault;
 use crate::funcs::{apply_line, counts_line, has_counts};
 use crate::orders::{push_report, reset, single};
-use crate::plans::{commands_line, holds_line, rank_line};
+use crate::plans::{holds_line, rank_line};
 use crate::shown::{push_answer, push_contents, push_number};
 use crate::texts::tokens_line;
-use crate::traces::trace_line;
 use crate::values::{cell_line, fit_line, made_line, text_line};
 use crate::words::{number, parts};
 use nim_base::{Copied, Worker};
@@ -59,13 +58,12 @@ fn replayed(alloc: Global, text: &str) -> Result<String, FileFault> {
     Ok(got)
 }
 
-/// What the lines of a section are about: a worker with a batch that is out or none, the orders so far, a list of
-/// commands, and the last rank.
+/// What the lines of a section are about: a worker with a batch that is out or none, a list of commands, and the last
+/// rank.
 #[derive(Drop)]
 struct Session {
     core: WorkerCore,
     batch: Option<Batch>,
-    orders: Vec<ToWorker>,
     list: Vec<Command>,
     rank: Option<Rank>,
 }
@@ -75,7 +73,6 @@ impl Session {
         Session {
             core: WorkerCore::new(alloc, worker),
             batch: None,
-            orders: Vec::new(alloc),
             list: Vec::new(alloc),
             rank: None,
         }
@@ -94,7 +91,6 @@ impl Session {
             "cell" => cell_line(alloc, text, out),
             "text" => text_line(alloc, text, out),
             "tokens" => tokens_line(alloc, text, out),
-            "trace" => trace_line(alloc, text, out),
             "slots" => slots_line(alloc, text, out),
             "object" => push_number(alloc, out, object_line(text)?),
             _ => self.answer_plan(alloc, word, text, out),
@@ -112,7 +108,6 @@ impl Session {
             "reset" => self.order(reset(alloc, text)?),
             "single" => self.order(single(alloc, text)?),
             "stop" => self.order(ToWorker::Stop),
-            "commands" => commands_line(alloc, self.orders.as_slice(), out),
             "list" => {
                 self.list = commands(alloc, text)?;
                 Ok(())
@@ -130,7 +125,6 @@ impl Session {
     // The worker is given a copy.
     fn order(&mut self, order: ToWorker) -> Result<(), LineFault> {
         self.core.on_message(order.copy()?)?;
-        self.orders.push(order)?;
         Ok(())
     }
 
