@@ -3,7 +3,7 @@ use Rattle.std.proofs.Common.{◌≡◌, ℕ, ◌+◌, ◌-◌, ◌<◌, ◌≤�
 use Rattle.std.specs.Prelude.{◌==◌, if◌then◌else◌, nat_le, nat_lt, slice_get}
 use Rattle.std.specs.List.{list_all}
 use Rattle.std.specs.Option.{option_map_or}
-use Rattle.std.proofs.lemmas.Bool.{and_parts, both_ways, cond-false, cond-true, eqb-true, le-leb, le-ltb, leb-false, leb-true, lt-ltb, ltb-true, or_from, or_left, or_right}
+use Rattle.std.proofs.lemmas.Bool.{and_parts, both_ways, cond-true, eqb-true, le-leb, leb-false, ltb-true, or_left}
 use Rattle.std.proofs.lemmas.List.{length-append, length-map}
 use Rattle.nim_base.specs.declared.number.Object.{Object}
 use Rattle.nim_base.specs.declared.task.Task.{Task}
@@ -19,14 +19,15 @@ use Rattle.nim_job.specs.Driver.{Driver, atom_of, output_limit}
 use Rattle.nim_job.specs.Follows.{GoesFurther, GoesOn, Follows, IsThere, StandsAt, state_at}
 use Rattle.nim_job.specs.Machine.{Machine, after_ask, answered, appended, ask_now, ask_of, asked_now, before_ask, items_ask, items_asked, machine_at, quiet_steps, spans_of, start_machine, stmt_ask, stmt_asked}
 use Rattle.nim_job.specs.Objects.{shapes_of, value_at}
-use Rattle.nim_job.specs.Quiet.{is_quiet, is_quiet_stmt, quiet_step}
-use Rattle.nim_job.specs.Serial.{driver_at, ending_of, is_limit, is_nil, serial_of}
+use Rattle.nim_job.specs.Quiet.{is_quiet, quiet_step}
+use Rattle.nim_job.specs.Serial.{driver_at, is_nil, serial_of}
 use Rattle.nim_job.specs.Step.{State, after_tasks, items_step, items_tasks, output_of, step, stmt_tasks, stmt_told, tasks_next}
 use Rattle.nim_job.specs.Tasks.{block_tasks_of}
 use Rattle.nim_job.specs.Whole.{is_whole}
+use Rattle.nim_job.proofs.Ends.{done_ends, full_ends, items_finished, items_limit, limit_ends}
 use Rattle.nim_job.proofs.Sound.{is_sound, sound_stmt}
 use Rattle.nim_job.proofs.Spans.{meant_there, span_meant}
-use Rattle.nim_job.proofs.Steps.{Later, is_item, nil_last, over_last, passes_all, quiet_end, step_open, tasks_open, todo_sound}
+use Rattle.nim_job.proofs.Steps.{Later, is_item, passes_all, quiet_end, step_open, tasks_open, todo_sound}
 use Rattle.nim_job.proofs.Versions.{step_moves}
 use Rattle.nim_job.proofs.Whole.{whole_vars}
 
@@ -231,70 +232,6 @@ quietly job m b next tasks at from room runs steps =
     goes_from job m b next tasks from
     (steps_on job b next tasks at room runs steps.machine steps.counted
     (omega (arith, within, output, ap (λ (k : Machine). length k.driver.output) steps.machine, ap length steps.printed, ap length (append-nil state.driver.output))))
-
--- ---- ends
-
--- where nothing is asked nothing is left to do, but statements that ask nothing
-stmt_finished : (scalars : List ℤ) (stmt : Stmt-F Stmt) (job : Job) (b : Bool) → (if b then Ask.Limit else stmt_ask scalars (spans_of job.vars) stmt) ≡ Ask.Finished → (b ≡ false) × (is_quiet_stmt stmt ≡ true)
-stmt_finished scalars stmt job true is = absurd cc
-stmt_finished scalars (Stmt-F.Do block args) job false is = absurd cc
-stmt_finished scalars (Stmt-F.Get s var part row cell) job false is = absurd cc
-stmt_finished scalars Stmt-F.Checkpoint job false is = absurd cc
-stmt_finished scalars (Stmt-F.Output var) job false is = absurd cc
-stmt_finished scalars stmt job false is = (refl, refl)
-
-again_finished : (b : Bool) → (if b then Ask.Limit else Ask.Finished) ≡ Ask.Finished → b ≡ false
-again_finished true is = absurd cc
-again_finished false is = refl
-
-items_finished : (job : Job) (state : State) (items : List Item) → (is_quiet items ≡ true → job.steps ≤ state.driver.count) → items_ask (machine_at job state) items ≡ Ask.Finished → is_nil items ≡ true
-items_finished job state [] quiet is = refl
-items_finished job state (Run stmt ∷ rest) quiet is =
-    let found = stmt_finished state.driver.scalars (out-Stmt stmt) job (nat_le job.steps state.driver.count) is in
-    let room = leb-false job.steps state.driver.count found.0 in
-    absurd (let past = quiet found.1 in omega (arith, room, past))
-items_finished job state (Again turns body ∷ rest) quiet is =
-    let room = leb-false job.steps state.driver.count (again_finished (nat_le job.steps state.driver.count) is) in
-    absurd (let past = quiet refl in omega (arith, room, past))
-
--- the end of a job that is done
-done_ends : (job : Job) (n : ℕ) → n ≤ job.steps → length (driver_at job n).driver.output ≤ output_limit → is_nil (driver_at job n).driver.todo ≡ true
-    → serial_of job ≡ record { status = 0; bytes = (driver_at job n).driver.output }
-done_ends job n within fits nil =
-    let state = driver_at job n in
-    let open_end : is_limit state ≡ false =
-    or_from (not (is_nil state.driver.todo)) (nat_lt output_limit (length state.driver.output)) (ap not nil) (le-ltb output_limit (length state.driver.output) fits) in
-    ap ending_of (nil_last job n within nil)
-    ∙ cond-false (is_limit state) (record { status = 4; bytes = [] }) (record { status = 0; bytes = state.driver.output }) open_end
-
--- the end at a limit
-limit_ends : (job : Job) (state : State) → driver_at job job.steps ≡ state → is_limit state ≡ true → serial_of job ≡ record { status = 4; bytes = [] }
-limit_ends job state is limit =
-    ap ending_of is ∙ cond-true (is_limit state) (record { status = 4; bytes = [] }) (record { status = 0; bytes = state.driver.output }) limit
-
-full_ends : (job : Job) (n : ℕ) → n ≤ job.steps → output_limit < length (driver_at job n).driver.output → serial_of job ≡ record { status = 4; bytes = [] }
-full_ends job n within over =
-    let state = driver_at job n in
-    limit_ends job state (over_last job n within over)
-    (or_right (not (is_nil state.driver.todo)) (nat_lt output_limit (length state.driver.output)) (lt-ltb output_limit (length state.driver.output) over))
-
-stmt_limit : (scalars : List ℤ) (stmt : Stmt-F Stmt) (job : Job) (b : Bool) → (if b then Ask.Limit else stmt_ask scalars (spans_of job.vars) stmt) ≡ Ask.Limit → b ≡ true
-stmt_limit scalars stmt job true is = refl
-stmt_limit scalars (Stmt-F.Do block args) job false is = absurd cc
-stmt_limit scalars (Stmt-F.Get s var part row cell) job false is = absurd cc
-stmt_limit scalars Stmt-F.Checkpoint job false is = absurd cc
-stmt_limit scalars (Stmt-F.Output var) job false is = absurd cc
-stmt_limit scalars stmt job false is = absurd cc
-
-again_limit : (b : Bool) → (if b then Ask.Limit else Ask.Finished) ≡ Ask.Limit → b ≡ true
-again_limit true is = refl
-again_limit false is = absurd cc
-
-items_limit : (job : Job) (state : State) (items : List Item) → items_ask (machine_at job state) items ≡ Ask.Limit → (is_nil items ≡ false) × (job.steps ≤ state.driver.count)
-items_limit job state [] is = absurd cc
-items_limit job state (Run stmt ∷ rest) is =
-    (refl, leb-true job.steps state.driver.count (stmt_limit state.driver.scalars (out-Stmt stmt) job (nat_le job.steps state.driver.count) is))
-items_limit job state (Again turns body ∷ rest) is = (refl, leb-true job.steps state.driver.count (again_limit (nat_le job.steps state.driver.count) is))
 
 -- ---- what is asked is there
 

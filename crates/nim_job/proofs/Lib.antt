@@ -1,6 +1,7 @@
 pub mod Asks
 pub mod Depths
 pub mod Division
+pub mod Ends
 pub mod FewTasks
 pub mod Follows
 pub mod Fronts

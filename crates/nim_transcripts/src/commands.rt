@@ -17,39 +17,40 @@ pub fn kind(alloc: Global, text: &str) -> Result<Kind, LineFault> {
         ["create", slot, "fill", number] => created(slot, false, number),
         ["create", slot, "iota", number] => created(slot, true, number),
         ["load", slot, "version", version] => Ok(Kind::Load {
-            slot: one(slot)?,
+            slot: self::slot(slot)?,
             version: number::<u64>(version)?,
             value: value(alloc, tail)?,
         }),
         ["send", slot, "to", peer, "entry", entry] => Ok(Kind::Send {
-            slot: one(slot)?,
+            slot: self::slot(slot)?,
             peer: Worker(number::<u16>(peer)?),
             entry: number::<u32>(entry)?,
         }),
         ["receive", slot, "version", version] => Ok(Kind::Receive {
-            slot: one(slot)?,
+            slot: self::slot(slot)?,
             version: number::<u64>(version)?,
         }),
         ["copy", from, "to", to] => Ok(Kind::Copy {
-            from: one(from)?,
-            to: one(to)?,
+            from: slot(from)?,
+            to: slot(to)?,
         }),
         ["run", position, name, params @ ..] => run(alloc, position, name, params, tail),
         ["fetch", slot, "ticket", ticket] => Ok(Kind::Fetch {
-            slot: one(slot)?,
+            slot: self::slot(slot)?,
             ticket: number::<u32>(ticket)?,
         }),
         _ => Err(LineFault::Form("no command is written so")),
     }
 }
 
-fn one(text: &str) -> Result<Slot, LineFault> {
+/// The slot of a number.
+pub fn slot(text: &str) -> Result<Slot, LineFault> {
     Ok(Slot(number::<u16>(text)?))
 }
 
 fn created(slot: &str, iota: bool, first: &str) -> Result<Kind, LineFault> {
     Ok(Kind::Create {
-        slot: one(slot)?,
+        slot: self::slot(slot)?,
         iota,
         number: number::<i64>(first)?,
     })
@@ -112,5 +113,5 @@ pub fn slots_line(alloc: Global, text: &str, out: &mut String) -> Result<(), Lin
 
 /// `object SLOT`: the object that a slot is of.
 pub fn object_line(text: &str) -> Result<i64, LineFault> {
-    Ok(i64::from(object_of(one(text)?).0))
+    Ok(i64::from(object_of(slot(text)?).0))
 }

@@ -28,6 +28,27 @@ pub fn func(name: &str) -> Result<Func, LineFault> {
     })
 }
 
+/// The name of a function.
+pub fn func_name(func: Func) -> &'static str {
+    match func {
+        Func::Set => "set",
+        Func::Copy => "copy",
+        Func::Addc => "addc",
+        Func::Mulc => "mulc",
+        Func::Add => "add",
+        Func::Sub => "sub",
+        Func::Max => "max",
+        Func::Sum => "sum",
+        Func::Total => "total",
+        Func::Count => "count",
+        Func::Stencil => "stencil",
+        Func::Keep => "keep",
+        Func::Group => "group",
+        Func::Merge => "merge",
+        Func::Split => "split",
+    }
+}
+
 /// `counts FUNC`: its parameters, fewest and most reads, and results.
 pub fn counts_line(alloc: Global, text: &str, out: &mut String) -> Result<(), LineFault> {
     let func = func(text.trim())?;

@@ -3,8 +3,10 @@
 #![tactic(auto)]
 
 mod commands;
+mod entries;
 mod fault;
 mod funcs;
+mod halves;
 mod orders;
 mod plans;
 mod session;

@@ -1,14 +1,15 @@
 use crate::commands::{commands, object_line, slots_line};
 use crate::fault::LineFault;
 use crate::funcs::{apply_line, counts_line, has_counts};
-use crate::orders::{push_report, reset, single};
+use crate::halves::{edit_line, expand_line, half, patch_line};
+use crate::orders::{length_line, order, push_report};
 use crate::plans::{holds_line, rank_line};
 use crate::shown::{push_answer, push_contents, push_number};
 use crate::texts::tokens_line;
 use crate::values::{cell_line, fit_line, made_line, text_line};
 use crate::words::{number, parts};
 use nim_base::{Copied, Worker};
-use nim_command::{Command, Rank};
+use nim_command::{Command, Half, Rank};
 use nim_message::ToWorker;
 use nim_plan::covered;
 use nim_txtar::{FileFault, Test, difference, sections};
@@ -58,13 +59,14 @@ fn replayed(alloc: Global, text: &str) -> Result<String, FileFault> {
     Ok(got)
 }
 
-/// What the lines of a section are about: a worker with a batch that is out or none, a list of commands, and the last
-/// rank.
+/// What the lines of a section are about: a worker with a batch that is out or none, a list of commands, a half, and the
+/// last rank.
 #[derive(Drop)]
 struct Session {
     core: WorkerCore,
     batch: Option<Batch>,
     list: Vec<Command>,
+    half: Half,
     rank: Option<Rank>,
 }
 
@@ -74,6 +76,7 @@ impl Session {
             core: WorkerCore::new(alloc, worker),
             batch: None,
             list: Vec::new(alloc),
+            half: Half::empty(alloc),
             rank: None,
         }
     }
@@ -93,21 +96,27 @@ impl Session {
             "tokens" => tokens_line(alloc, text, out),
             "slots" => slots_line(alloc, text, out),
             "object" => push_number(alloc, out, object_line(text)?),
-            _ => self.answer_plan(alloc, word, text, out),
+            _ => self.answer_plan(alloc, line, word, text, out),
         }
     }
 
     fn answer_plan(
         &mut self,
         alloc: Global,
+        line: &str,
         word: &str,
         text: &str,
         out: &mut String,
     ) -> Result<(), LineFault> {
         match word {
-            "reset" => self.order(reset(alloc, text)?),
-            "single" => self.order(single(alloc, text)?),
-            "stop" => self.order(ToWorker::Stop),
+            "half" => {
+                self.half = half(alloc, text)?;
+                Ok(())
+            }
+            "edit" => edit_line(alloc, &mut self.half, text, out),
+            "expand" => expand_line(alloc, &self.half, text, out),
+            "patch" => patch_line(alloc, text, out),
+            "length" => length_line(alloc, text, out),
             "list" => {
                 self.list = commands(alloc, text)?;
                 Ok(())
@@ -118,7 +127,7 @@ impl Session {
                 self.rank = Some(rank_line(alloc, self.rank, text, out)?);
                 Ok(())
             }
-            _ => self.answer_work(alloc, word, text, out),
+            _ => self.answer_work(alloc, line, word, text, out),
         }
     }
 
@@ -131,6 +140,7 @@ impl Session {
     fn answer_work(
         &mut self,
         alloc: Global,
+        line: &str,
         word: &str,
         text: &str,
         out: &mut String,
@@ -145,7 +155,7 @@ impl Session {
             "perform" => self.perform(),
             "finish" => self.finish(alloc, out),
             "reports" => self.reports(alloc, out),
-            _ => Err(LineFault::Form("there is no such call")),
+            _ => self.order(order(alloc, line)?),
         }
     }
 
