@@ -17,7 +17,7 @@ rustc -O -o "$work/plain" bench/plain/rows.rs
 ./nimbus check "$work/rows.nb" --data "$work/rows.data" || test $? -eq 2
 check=(crates/nimbus/out/nimbus check "$work/rows.nb" --data "$work/rows.data")
 for run in 1 2 3; do
-    python3 bench/measure.py "run $run nimbus" 0 "${check[@]}" || test $? -eq 2
+    python3 bench/measure.py "run $run nimbus" 0 bash -c '"$@" || test $? -eq 2' check "${check[@]}"
     python3 bench/measure.py "run $run plain " 0 "$work/plain" "$work/rows.data"
 done
 for what in nimbus plain; do
