@@ -9,7 +9,7 @@ pub struct Worker(pub u16);
 pub struct Object(pub u16);
 
 /// A place for a value at a worker.
-#[derive(Clone, Copy, Debug, PartialEq, Eq, PartialOrd, Ord)]
+#[derive(Clone, Copy, Debug, Default, PartialEq, Eq, PartialOrd, Ord)]
 pub struct Slot(pub u16);
 
 /// Which content of an object: 0 the initial one, `k + 1` what the task at position `k` wrote.

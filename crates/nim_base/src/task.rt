@@ -1,4 +1,4 @@
-ghost use Rattle.std.specs.Prelude.{◌≡◌};
+ghost use Rattle.std.specs.Prelude.{◌≡◌, pos};
 ghost use Rattle.nim_base.specs.Apply.{fewest_reads, has_counts, most_reads, params_of, writes_of};
 
 use crate::{Copied, NoMemory, Object, Seq};
@@ -105,6 +105,16 @@ impl Func {
             && self.fewest_reads() <= reads
             && reads <= self.most_reads()
             && writes == self.writes()
+    }
+}
+
+impl Default for Param {
+    ghost use Rattle.nim_base.specs.declared.task.Param.TheVariants.{Const};
+
+    ghost is_default = { λ param. param ≡ Const (pos 0) };
+
+    fn default() -> Param {
+        Param::Const(0)
     }
 }
 

@@ -5,7 +5,7 @@ ghost use Rattle.nim_command.specs.Free as free_spec;
 ghost use Rattle.nim_command.specs.Ruled as ruled;
 
 use crate::{Command, Entry};
-use nim_base::{NoMemory, Seq, Slot};
+use nim_base::{NoMemory, Short, Slot};
 use std::alloc::Global;
 
 /// What a before set depends on: a number, and the slots that are read and written.
@@ -62,7 +62,7 @@ pub(crate) fn before_set<T: Waits>(
     alloc: Global,
     past: &[T],
     later: &T,
-) -> Result<Seq<u32>, NoMemory>
+) -> Result<Short<u32, 8>, NoMemory>
     ensures { IfOk result (λ before. before ≡ spec.before_of (map T.footprint past.now) (T.footprint later.now)) }
 {
     let mut free = Vec::from_slice(alloc, later.reads())?;
@@ -77,7 +77,7 @@ pub(crate) fn before_set<T: Waits>(
         push_if(&mut numbers, waited, earlier.number())?;
     }
     numbers.reverse();
-    Ok(Seq::from_vec(numbers))
+    Short::from_slice(alloc, numbers.as_slice())
 }
 
 /// Whether one waits for an earlier one while these slots are free.
@@ -133,10 +133,17 @@ pub(crate) fn entries_by_rule(alloc: Global, entries: Vec<Entry>) -> Result<Vec<
     let mut done = Vec::new(alloc);
     for entry in entries {
         let before = before_set(alloc, done.as_slice(), &entry)?;
-        let Entry { id, kind, .. } = entry;
-        done.push(Entry { id, kind, before })?;
+        done.push(entry_with(entry, before))?;
     }
     Ok(done)
+}
+
+/// The entry with this before set in place of its own.
+fn entry_with(entry: Entry, before: Short<u32, 8>) -> Entry
+    ensures { result ≡ record entry { before = before } }
+{
+    let Entry { id, kind, .. } = entry;
+    Entry { id, kind, before }
 }
 
 /// Commands, each with the before set of the rule in place of its own.
@@ -149,8 +156,15 @@ pub(crate) fn commands_by_rule(
     let mut done = Vec::new(alloc);
     for command in commands {
         let before = before_set(alloc, done.as_slice(), &command)?;
-        let Command { id, kind, .. } = command;
-        done.push(Command { id, kind, before })?;
+        done.push(command_with(command, before))?;
     }
     Ok(done)
+}
+
+/// The command with this before set in place of its own.
+fn command_with(command: Command, before: Short<u32, 8>) -> Command
+    ensures { result ≡ record command { before = before } }
+{
+    let Command { id, kind, .. } = command;
+    Command { id, kind, before }
 }

@@ -1,4 +1,4 @@
-use nim_base::{Func, Position, Seq, Slot, Value, Version, Worker};
+use nim_base::{Func, Position, Short, Slot, Value, Version, Worker};
 
 /// What a command does with the slots of its worker. What each kind leaves in them is `left_by` of
 /// `specs/Holds.antt`.
@@ -37,9 +37,9 @@ pub enum Kind {
     Run {
         position: Position,
         func: Func,
-        params: Seq<i64>,
-        reads: Seq<Slot>,
-        writes: Seq<Slot>,
+        params: Short<i64, 3>,
+        reads: Short<Slot, 8>,
+        writes: Short<Slot, 2>,
     },
     /// Reports what a slot has.
     Fetch {
@@ -48,10 +48,11 @@ pub enum Kind {
     },
 }
 
-/// A command, by its number, and the numbers of the earlier commands that it waits for.
+/// A command, by its number, and the numbers of the earlier commands that it waits for. Its lists lie in it: where
+/// they are no longer than those of a function's task, it takes no memory.
 #[derive(Debug, Drop)]
 pub struct Command {
     pub id: u32,
     pub kind: Kind,
-    pub before: Seq<u32>,
+    pub before: Short<u32, 8>,
 }

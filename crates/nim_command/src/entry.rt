@@ -1,7 +1,7 @@
 ghost use Rattle.std.specs.Prelude.{◌≡◌};
 ghost use Rattle.nim_command.specs.Slots as spec;
 
-use nim_base::{Copied, Func, NoMemory, Param, Seq, Slot, Worker};
+use nim_base::{Copied, Func, NoMemory, Param, Short, Slot, Worker};
 use std::slice;
 
 /// What an entry of a half does with the slots of its worker, once its block is instantiated. The command that it
@@ -28,9 +28,9 @@ pub enum EntryKind {
     /// Runs a task of the block.
     Run {
         func: Func,
-        params: Seq<Param>,
-        reads: Seq<Slot>,
-        writes: Seq<Slot>,
+        params: Short<Param, 3>,
+        reads: Short<Slot, 8>,
+        writes: Short<Slot, 2>,
     },
 }
 
@@ -40,7 +40,7 @@ pub enum EntryKind {
 pub struct Entry {
     pub id: u32,
     pub kind: EntryKind,
-    pub before: Seq<u32>,
+    pub before: Short<u32, 8>,
 }
 
 impl EntryKind {

@@ -4,7 +4,7 @@ ghost use Rattle.nim_command.specs.Expansion as spec;
 use crate::before::commands_by_rule;
 use crate::numbers::{counted_from, main_slot, patch_number, task_of};
 use crate::{Command, Entry, EntryKind, Kind, PatchPart};
-use nim_base::{Copied, NoMemory, Param, Position, Seq, Version};
+use nim_base::{Copied, NoMemory, Param, Position, Short, Version};
 use std::alloc::Global;
 
 /// The commands of entries in an instance.
@@ -83,7 +83,7 @@ fn command_of(alloc: Global, named: Version, part: &PatchPart) -> Command
     Command {
         id: patch_number(part.number),
         kind: part_kind(named, part),
-        before: Seq::new(alloc),
+        before: Short::new(alloc),
     }
 }
 
@@ -137,7 +137,7 @@ fn kind_for(
         } => Kind::Run {
             position: counted_from(base, u64::from(task_of(number))),
             func: *func,
-            params: Seq::from_vec(params_with(alloc, args, params.as_slice())?),
+            params: params_with(alloc, args, params.as_slice())?,
             reads: reads.copy()?,
             writes: writes.copy()?,
         },
@@ -154,13 +154,13 @@ fn version_at(base: Position, named: Version, offset: u16) -> Version
     }
 }
 
-fn params_with(alloc: Global, args: &[i64], params: &[Param]) -> Result<Vec<i64>, NoMemory>
-    ensures { IfOk result (λ numbers. numbers.items ≡ map (spec.param_with args.now) params.now) }
+fn params_with(alloc: Global, args: &[i64], params: &[Param]) -> Result<Short<i64, 3>, NoMemory>
+    ensures { IfOk result (λ numbers. numbers ≡ map (spec.param_with args.now) params.now) }
 {
-    let numbers = params
-        .iter()
-        .map(|param| param_with(args, *param))
-        .collect(alloc)?;
+    let mut numbers = Short::new(alloc);
+    for param in params {
+        numbers.push(param_with(args, *param))?;
+    }
     Ok(numbers)
 }
 

@@ -5,7 +5,7 @@ ghost use Rattle.nim_command.specs.Edits as spec;
 
 use crate::numbers::{entry_number, main_slot, offset_after, scratch_slot};
 use crate::{Edit, Entry, EntryKind, Spec};
-use nim_base::{Copied, NoMemory, Object, Seq, Slot, Worker};
+use nim_base::{NoMemory, Object, Short, Slot, Worker};
 use std::alloc::Global;
 
 /// A read of an object that isn't read before in its task: its place among the reads, the offset of the version, and
@@ -167,30 +167,38 @@ fn run_over(alloc: Global, scratch: bool, task: u16, moved: &Spec) -> Result<Ent
 {
     let kind = EntryKind::Run {
         func: moved.func,
-        params: moved.params.copy()?,
-        reads: Seq::from_vec(read_slots(alloc, scratch, moved.reads.as_slice())?),
-        writes: Seq::from_vec(written_slots(alloc, scratch, moved.writes.as_slice())?),
+        params: Short::from_slice(alloc, moved.params.as_slice())?,
+        reads: read_slots(alloc, scratch, moved.reads.as_slice())?,
+        writes: written_slots(alloc, scratch, moved.writes.as_slice())?,
     };
     Ok(entry_of(alloc, entry_number(task, 4, 0), kind))
 }
 
-fn read_slots(alloc: Global, scratch: bool, reads: &[(Object, u16)]) -> Result<Vec<Slot>, NoMemory>
-    ensures { IfOk result (λ slots. slots.items ≡ spec.read_slots scratch reads.now) }
+fn read_slots(
+    alloc: Global,
+    scratch: bool,
+    reads: &[(Object, u16)],
+) -> Result<Short<Slot, 8>, NoMemory>
+    ensures { IfOk result (λ slots. slots ≡ spec.read_slots scratch reads.now) }
 {
-    let slots = reads
-        .iter()
-        .map(|read| slot_for(scratch, read.0))
-        .collect(alloc)?;
+    let mut slots = Short::new(alloc);
+    for read in reads {
+        slots.push(slot_for(scratch, read.0))?;
+    }
     Ok(slots)
 }
 
-fn written_slots(alloc: Global, scratch: bool, objects: &[Object]) -> Result<Vec<Slot>, NoMemory>
-    ensures { IfOk result (λ slots. slots.items ≡ spec.written_slots scratch objects.now) }
+fn written_slots(
+    alloc: Global,
+    scratch: bool,
+    objects: &[Object],
+) -> Result<Short<Slot, 2>, NoMemory>
+    ensures { IfOk result (λ slots. slots ≡ spec.written_slots scratch objects.now) }
 {
-    let slots = objects
-        .iter()
-        .map(|object| slot_for(scratch, *object))
-        .collect(alloc)?;
+    let mut slots = Short::new(alloc);
+    for object in objects {
+        slots.push(slot_for(scratch, *object))?;
+    }
     Ok(slots)
 }
 
@@ -246,6 +254,6 @@ fn entry_of(alloc: Global, id: u32, kind: EntryKind) -> Entry
     Entry {
         id,
         kind,
-        before: Seq::new(alloc),
+        before: Short::new(alloc),
     }
 }

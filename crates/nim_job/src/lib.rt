@@ -34,5 +34,5 @@ pub use objects::shapes;
 pub use span::Span;
 pub use state::DriverState;
 pub use stmt::{Arith, Atom, Cmp, Cond, Stmt};
-pub use tasks::{block_tasks, put_in};
+pub use tasks::{block_tasks, param_of};
 pub use wholeness::{has_distinct, is_checked, is_whole};

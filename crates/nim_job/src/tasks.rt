@@ -22,15 +22,18 @@ pub fn block_tasks(alloc: Global, job: &Job, block: u8, args: &[i64]) -> Result<
     Ok(tasks)
 }
 
-/// The parameters with the arguments put in. Their meaning is `param_of` of `specs/Tasks.antt`.
-pub fn put_in(alloc: Global, args: &[i64], params: &[Param]) -> Result<Seq<i64>, NoMemory>
-    ensures { IfOk result (λ numbers. numbers ≡ map (param_of args.now) params.now) }
+/// The number that a parameter stands for; 0 for an argument that isn't there. Its meaning is `param_of` of
+/// `specs/Tasks.antt`.
+pub fn param_of(args: &[i64], param: Param) -> i64
+    ensures { result ≡ param_of args.now param }
 {
-    let mut numbers = Seq::new(alloc);
-    for param in params {
-        numbers.push(number(args, *param))?;
+    match param {
+        Param::Const(number) => number,
+        Param::Arg(arg) => match args.get(usize::from(arg)) {
+            Some(number) => *number,
+            None => 0,
+        },
     }
-    Ok(numbers)
 }
 
 /// Tasks with the arguments put in, in order.
@@ -62,15 +65,13 @@ fn task(alloc: Global, args: &[i64], form: TaskForm) -> Result<Task, NoMemory>
     })
 }
 
-/// The number that a parameter stands for; 0 for an argument that isn't there.
-fn number(args: &[i64], param: Param) -> i64
-    ensures { result ≡ param_of args.now param }
+/// The parameters with the arguments put in.
+fn put_in(alloc: Global, args: &[i64], params: &[Param]) -> Result<Seq<i64>, NoMemory>
+    ensures { IfOk result (λ numbers. numbers ≡ map (param_of args.now) params.now) }
 {
-    match param {
-        Param::Const(number) => number,
-        Param::Arg(arg) => match args.get(usize::from(arg)) {
-            Some(number) => *number,
-            None => 0,
-        },
+    let mut numbers = Seq::new(alloc);
+    for param in params {
+        numbers.push(param_of(args, *param))?;
     }
+    Ok(numbers)
 }

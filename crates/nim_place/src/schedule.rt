@@ -2,13 +2,14 @@ ghost use Rattle.std.specs.Prelude.{◌≡◌, ◌<◌, ◌≤◌, ◌∷◌, �
 ghost use Rattle.std.specs.Prelude.{IfOk, OnOk, OnErr, IsSomeAnd};
 ghost use Rattle.std.specs.List.{list_any};
 ghost use Rattle.nim_command.specs.Numbers as numbers;
+ghost use Rattle.nim_place.specs.declared.schedule.Moved.{Moved as moved_type};
 ghost use Rattle.nim_place.specs.Finds.{FindsLatest};
 ghost use Rattle.nim_place.specs.Schedule as spec;
 ghost use Rattle.nim_place.specs.Stands.{AreByRule, StandsOn};
 ghost use Rattle.nim_place.specs.Versions.{after_commands};
 
 use crate::{Placement, VersionMap, home};
-use nim_base::{Copied, NoMemory, Object, Position, Seq, Slot, Task, Worker};
+use nim_base::{NoMemory, Object, Position, Short, Slot, Task, Worker};
 use nim_command::{Command, Kind};
 use std::alloc::Global;
 
@@ -134,7 +135,7 @@ fn send_of(alloc: Global, number: u16, owner: Worker, moved: &Moved) -> (Worker,
         entry: entry_number(number, 1, moved.index),
     };
     let id = entry_number(number, 0, moved.index);
-    let before = Seq::new(alloc);
+    let before = Short::new(alloc);
     (moved.from, Command { id, kind, before })
 }
 
@@ -152,7 +153,7 @@ fn receive_of(
         version: map.latest(moved.object),
     };
     let id = entry_number(number, 1, moved.index);
-    let before = Seq::new(alloc);
+    let before = Short::new(alloc);
     (owner, Command { id, kind, before })
 }
 
@@ -169,26 +170,36 @@ fn run_of(
     let kind = Kind::Run {
         position,
         func: task.func,
-        params: task.params.copy()?,
-        reads: Seq::from_vec(main_slots(alloc, task.reads.as_slice())?),
-        writes: Seq::from_vec(main_slots(alloc, task.writes.as_slice())?),
+        params: Short::from_slice(alloc, task.params.as_slice())?,
+        reads: main_slots(alloc, task.reads.as_slice())?,
+        writes: main_slots(alloc, task.writes.as_slice())?,
     };
-    let before = moved
-        .iter()
-        .map(|one| entry_number(number, 1, one.index))
-        .collect(alloc)?;
     Ok(Command {
         id: entry_number(number, 4, 0),
         kind,
-        before: Seq::from_vec(before),
+        before: received(alloc, number, moved)?,
     })
 }
 
-fn main_slots(alloc: Global, objects: &[Object]) -> Result<Vec<Slot>, NoMemory>
-    ensures { IfOk result (λ slots. slots.items ≡ map numbers.main_slot objects.now) }
+fn main_slots<const N: usize>(alloc: Global, objects: &[Object]) -> Result<Short<Slot, N>, NoMemory>
+    ensures { IfOk result (λ slots. slots ≡ map numbers.main_slot objects.now) }
 {
-    let slots = objects.iter().map(|object| Slot(object.0)).collect(alloc)?;
+    let mut slots = Short::new(alloc);
+    for object in objects {
+        slots.push(Slot(object.0))?;
+    }
     Ok(slots)
+}
+
+/// The numbers of the Receives.
+fn received(alloc: Global, number: u16, moved: &[Moved]) -> Result<Short<u32, 8>, NoMemory>
+    ensures { IfOk result (λ before. before ≡ map (λ (m : moved_type). numbers.entry_number number 1 m.index) moved.now) }
+{
+    let mut before = Short::new(alloc);
+    for one in moved {
+        before.push(entry_number(number, 1, one.index))?;
+    }
+    Ok(before)
 }
 
 /// The number of a task's entry, by its phase and the index of its read.

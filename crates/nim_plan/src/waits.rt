@@ -5,13 +5,17 @@ ghost use Rattle.nim_plan.specs.Free as spec;
 
 use crate::member::Member;
 use crate::slots::{does_write, is_among};
-use nim_base::{NoMemory, Seq, Slot};
+use nim_base::{NoMemory, Short, Slot};
 use nim_command::{Command, Kind};
 use std::alloc::Global;
 
 /// The places of the earlier commands that the one at a place waits for, in order. Walks down from the place with the
 /// slots that the command touches and no command passed so far writes.
-pub(crate) fn waits(alloc: Global, members: &[Member], place: usize) -> Result<Seq<u32>, NoMemory>
+pub(crate) fn waits(
+    alloc: Global,
+    members: &[Member],
+    place: usize,
+) -> Result<Short<u32, 8>, NoMemory>
     requires place { place < length members.now }
     requires few { length members.now < 2 ^ 32 }
     ensures { IfOk result (λ waits. waits ≡ waits_of members.now place) }
@@ -28,7 +32,7 @@ pub(crate) fn waits(alloc: Global, members: &[Member], place: usize) -> Result<S
         push_if(&mut waits, waited, at)?;
     }
     waits.reverse();
-    Ok(Seq::from_vec(waits))
+    Short::from_slice(alloc, waits.as_slice())
 }
 
 fn touched(alloc: Global, kind: &Kind) -> Result<Vec<Slot>, NoMemory>

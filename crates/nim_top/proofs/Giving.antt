@@ -149,6 +149,16 @@ tasks_lead job orders given position instance id args (form ∷ forms) values wh
     (tasks_lead job orders (given ++ order ∷ []) (position + 1) instance (counted_on id 64) args forms values whole
     (next_rest job position (task_of args form) (map (task_of args) forms) next) (run_leads job orders given position instance id (task_of args form) values whole there on)))
 
+-- the orders of the tasks from one on begin with its own
+pub tasks_first : (position instance id : ℕ) (args : List ℤ) (forms : List TaskForm) (k : ℕ) (form : TaskForm) → k < length forms → form ≡ get_or forms k form
+    → task_orders_of position instance id args (drop k forms)
+    ≡ single_of instance id (run_of position (task_of args form)) ∷ task_orders_of (position + 1) instance (counted_on id 64) args (drop (k + 1) forms)
+tasks_first position instance id args forms k form below is =
+    let next : suc k ≡ k + 1 = omega arith in
+    ap (task_orders_of position instance id args) (drop-cons forms k form below)
+    ∙ ap₂ (λ (f : TaskForm) (n : ℕ). single_of instance id (run_of position (task_of args f)) ∷ task_orders_of (position + 1) instance (counted_on id 64) args (drop n forms))
+    (sym is) next
+
 -- ---- values
 
 some_apart : {X : Type 0} (x : X) → Some x ≡ None → ⊥

@@ -34,10 +34,7 @@ forms_more vars (b ∷ blocks) block below =
     ∙ ap (λ (o : Option Block). map made (take block (b ∷ blocks)) ++ forms_of vars (option_map_or (λ (b : Block). b.stages) o []) ∷ [])
     (sym (slice_get-get_or (b ∷ blocks) block b below))
 
--- there are as many lists of tasks as blocks, each those of its block
-pub forms_there : (job : Job) (forms : List (List TaskForm)) → forms ≡ forms_in job → length forms ≡ length job.blocks
-forms_there job forms are = ap length are ∙ length-map job.blocks (λ (b : Block). forms_of job.vars b.stages)
-
+-- what stands for a block are its tasks
 pub forms_at : (job : Job) (forms : List (List TaskForm)) (block : ℕ) → forms ≡ forms_in job → block < length job.blocks → get_or forms block [] ≡ block_forms_of job block
 forms_at job forms block are below = ap (λ (fs : List (List TaskForm)). get_or fs block []) are ∙ made_once job.vars job.blocks block below
 

@@ -1,5 +1,5 @@
 -- Where a controller stands in its job, and what a turn of it does.
-use Rattle.std.specs.Prelude.{◌≡◌, ℕ, ℤ, ◌+◌, ◌<◌, ◌≤◌, true, false, None, List, [], ◌∷◌, length, map, slice_get, slice_index_or}
+use Rattle.std.specs.Prelude.{◌≡◌, ℕ, ℤ, ◌+◌, ◌^◌, ◌<◌, ◌≤◌, true, false, None, List, [], ◌∷◌, length, map, slice_get, slice_index_or}
 use Rattle.std.specs.Option.{option_map_or}
 use Rattle.nim_base.specs.declared.task.Task.{Task}
 use Rattle.nim_base.specs.declared.task.TaskForm.{TaskForm}
@@ -19,9 +19,13 @@ use Rattle.nim_job.specs.Versions.{values_after}
 use Rattle.nim_top.specs.declared.awaited.Awaited.{Awaited}
 use Rattle.nim_top.specs.declared.awaited.Awaited.TheVariants.{Nothing, Cell, Parts}
 use Rattle.nim_top.specs.declared.control.Control.{Control}
+use Rattle.nim_top.specs.declared.given.BlockRun.{BlockRun}
+use Rattle.nim_top.specs.declared.given.Given.{Given}
+use Rattle.nim_top.specs.declared.given.Given.TheVariants.{Tasks, Listed}
 use Rattle.nim_top.specs.declared.control.Turn.{Turn}
 use Rattle.nim_top.specs.declared.control.Turn.TheVariants.{Orders, Finished, Limit}
 use Rattle.nim_top.specs.Leads.{Leads, LeadsOn}
+use Rattle.nim_top.specs.Orders.{task_orders_of}
 
 -- ---- where it stands
 
@@ -92,6 +96,20 @@ pub record IsSettled (job : Job) (old new : Control) : Type 0 where
   pub count : new.machine.driver.count ≡ old.machine.driver.count
   pub position : new.position ≡ old.position
 
+-- the orders of an instance of a block with these tasks
+abbrev pub run_orders : BlockRun → List TaskForm → List ToWorker
+run_orders run forms = task_orders_of run.position run.instance 32 run.args forms
+
+-- the orders that are given, by the tasks of each block
+abbrev pub orders_in : List (List TaskForm) → Given → List ToWorker
+orders_in forms (Tasks run) = run_orders run (slice_index_or forms run.block [])
+orders_in forms (Listed orders) = orders.items
+
+-- the positions of the tasks are numbers of 64 bits
+abbrev pub HasRoom : List (List TaskForm) → Given → Type 0
+HasRoom forms (Tasks run) = run.position + length (slice_index_or forms run.block []) < 2 ^ 64
+HasRoom forms (Listed orders) = Unit {0}
+
 -- More statements are counted. Behind orders that led to where the controller stood, these lead to where it stands, and
 -- have just the values reported that it awaits.
 pub record GoesOn (job : Job) (old new : Control) (given : List ToWorker) : Type 0 where
@@ -103,6 +121,6 @@ pub record GoesOn (job : Job) (old new : Control) (given : List ToWorker) : Type
       → LeadsOn job orders given (objects_of job.vars) new.position (wanted job new.position new.awaited)
 
 abbrev pub IsTurn : Job → Control → Control → Turn → Type 0
-IsTurn job old new (Orders given) = GoesOn job old new given.items
+IsTurn job old new (Orders given) = HasRoom new.forms.items given × GoesOn job old new (orders_in new.forms.items given)
 IsTurn job old new Finished = serial_of job ≡ record { status = 0; bytes = new.machine.driver.output }
 IsTurn job old new Limit = serial_of job ≡ record { status = 4; bytes = [] }

@@ -2,13 +2,15 @@ ghost use Rattle.std.specs.Prelude.{◌≡◌, ◌+◌, ◌^◌, ◌<◌, ◌++�
 ghost use Rattle.nim_job.specs.Objects.{first_object, parts_of};
 ghost use Rattle.nim_job.specs.Whole.{is_whole};
 ghost use Rattle.nim_top.specs.declared.awaited.Awaited.{Awaited as awaited_values};
-ghost use Rattle.nim_top.specs.Controls.{Controls, HasAll, IsSettled, IsTurn};
+ghost use Rattle.nim_top.specs.declared.given.Given.TheVariants.{Tasks as tasks_type};
+ghost use Rattle.nim_top.specs.Controls.{Controls, HasAll, HasRoom, IsSettled, IsTurn};
 ghost use Rattle.nim_top.specs.Leads.{value_in};
-ghost use Rattle.nim_top.specs.Orders.{fetch_orders_of, task_orders_of};
+ghost use Rattle.nim_top.specs.Orders.{fetch_orders_of};
 
 use crate::awaited::Awaited;
 use crate::blocks::all_forms;
-use crate::order_lists::{fetch_orders, task_orders};
+use crate::given::{BlockRun, Given};
+use crate::order_lists::fetch_orders;
 use crate::values::{cell_in, printed};
 use nim_base::{Instance, NoMemory, Object, Position, Seq, TaskForm, Value};
 use nim_job::{Ask, DriverMachine, Job, first_object};
@@ -19,7 +21,7 @@ use std::alloc::Global;
 #[derive(Drop)]
 pub enum Turn {
     /// These orders are given, and the values that they ask for are handed in before the next turn.
-    Orders(Vec<ToWorker>),
+    Orders(Given),
     /// Nothing: the job is done.
     Finished,
     /// Nothing: the job passes its limits.
@@ -75,24 +77,34 @@ impl Control {
         self.settle(job)?;
         match self.machine.next()? {
             Ask::Run { block, args } => {
-                let orders = self.run_block(block, args.as_slice())?;
+                let run = self.run_block(block, args);
                 self.machine.answer(0);
-                Ok(Turn::Orders(orders))
+                Ok(Turn::Orders(Given::Tasks(run)))
             }
             Ask::Get { object, row, cell } => {
                 let orders = self.fetch_cell(object, row, cell)?;
-                Ok(Turn::Orders(orders))
+                Ok(Turn::Orders(Given::Listed(orders)))
             }
             Ask::Checkpoint => {
                 self.machine.answer(0);
-                Ok(Turn::Orders(Vec::new(self.alloc)))
+                Ok(Turn::Orders(Given::Listed(Vec::new(self.alloc))))
             }
             Ask::Output { var } => {
                 let orders = self.fetch_parts(job, var)?;
-                Ok(Turn::Orders(orders))
+                Ok(Turn::Orders(Given::Listed(orders)))
             }
             Ask::Finished => Ok(Turn::Finished),
             Ask::Limit => Ok(Turn::Limit),
+        }
+    }
+
+    /// The tasks of a block in order, their arguments not yet put in; none where there is no such block.
+    pub fn forms(&self, block: u8) -> &[TaskForm]
+        ensures { result.now ≡ slice_index_or self.now.forms.items block [] }
+    {
+        match self.forms.get(usize::from(block)) {
+            Some(forms) => forms.as_slice(),
+            None => &[],
         }
     }
 
@@ -143,20 +155,23 @@ impl Control {
         }
     }
 
-    // The orders of a block's tasks, which are given next.
-    fn run_block(&mut self, block: u8, args: &[i64]) -> Result<Vec<ToWorker>, NoMemory>
-        requires block { block < length self.old.forms.items }
+    // A block whose tasks are given next.
+    fn run_block(&mut self, block: u8, args: Seq<i64>) -> BlockRun
         requires room { self.old.position + length (slice_index_or self.old.forms.items block []) < 2 ^ 64 }
-        ensures orders { IfOk result (λ orders. orders.items
-            ≡ task_orders_of self.old.position self.old.instance 32 args.now (slice_index_or self.old.forms.items block [])) }
-        ensures position { OnOk result (self.new.position ≡ self.old.position + length (slice_index_or self.old.forms.items block [])) }
-        ensures rest { OnOk result (self.new ≡ record self.old { position = self.new.position; instance = self.new.instance }) }
+        ensures run { result ≡ record { block = block; args = args; position = self.old.position; instance = self.old.instance } }
+        ensures room { HasRoom self.new.forms.items (tasks_type result) }
+        ensures position { self.new.position ≡ self.old.position + length (slice_index_or self.old.forms.items block []) }
+        ensures rest { self.new ≡ record self.old { position = self.new.position; instance = self.new.instance } }
     {
-        let forms = self.forms[usize::from(block)].as_slice();
-        let orders = task_orders(self.alloc, self.position, self.instance, 32, forms, args)?;
-        self.position += forms.len() as u64;
+        let run = BlockRun {
+            block,
+            args,
+            position: self.position,
+            instance: self.instance,
+        };
+        self.position += self.forms(block).len() as u64;
         self.instance = self.instance.saturating_add(1);
-        Ok(orders)
+        run
     }
 
     // The order that asks for what an object has, of which a cell is awaited from now on.

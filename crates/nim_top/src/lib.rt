@@ -5,6 +5,7 @@ mod awaited;
 mod blocks;
 mod check;
 mod control;
+mod given;
 mod load;
 mod order_lists;
 mod orders;

@@ -1,7 +1,8 @@
 ghost use Rattle.std.specs.Prelude.{◌≡◌, ◌+◌, ◌^◌, ◌<◌, ◌≤◌, ◌++◌, length, map, IfOk, IsTrue, OnOk};
 ghost use Rattle.std.specs.List.{range_with_len};
+ghost use Rattle.nim_job.specs.Tasks.{task_of};
 ghost use Rattle.nim_job.specs.Whole.{is_filled, is_var, is_whole};
-ghost use Rattle.nim_top.specs.Orders.{fetch_orders_of, first_order, start_orders, task_orders_of};
+ghost use Rattle.nim_top.specs.Orders.{fetch_orders_of, first_order, run_of, single_of, start_orders};
 
 use crate::orders::{NO_INSTANCE, fetch, first, reset, run, single};
 use nim_base::{Instance, NoMemory, Object, Position, TaskForm};
@@ -24,25 +25,18 @@ pub fn first_orders(alloc: Global, job: &Job) -> Result<Vec<ToWorker>, NoMemory>
     Ok(orders)
 }
 
-/// The tasks of a block as one order each, numbered from `id` on in steps of 64, the arguments put in.
-pub fn task_orders(
+/// A task as an order, the arguments put in.
+pub fn task_order(
     alloc: Global,
-    mut position: Position,
+    position: Position,
     instance: Instance,
-    mut id: u32,
-    forms: &[TaskForm],
+    id: u32,
+    form: &TaskForm,
     args: &[i64],
-) -> Result<Vec<ToWorker>, NoMemory>
-    requires { position + length forms.now < 2 ^ 64 }
-    ensures { IfOk result (λ orders. orders.items ≡ task_orders_of position instance id args.now forms.now) }
+) -> Result<ToWorker, NoMemory>
+    ensures { IfOk result (λ order. order ≡ single_of instance id (run_of position (task_of args.now form.now))) }
 {
-    let mut orders = Vec::with_capacity(alloc, forms.len())?;
-    for form in forms {
-        orders.push(single(alloc, instance, id, run(alloc, position, form, args)?)?)?;
-        position += 1;
-        id = id.saturating_add(64);
-    }
-    Ok(orders)
+    single(alloc, instance, id, run(alloc, position, form, args)?)
 }
 
 /// Asks for the parts of a variable, whose part 0 is this object.

@@ -1,12 +1,15 @@
 ghost use Rattle.std.specs.Prelude.{◌≡◌, ◌*◌, ◌<◌, ◌≤◌, pos, map, IfOk, IsTrue};
 ghost use Rattle.nim_job.specs.Objects.{first_cell};
+ghost use Rattle.nim_job.specs.Tasks as tasks;
 ghost use Rattle.nim_job.specs.Tasks.{task_of};
 ghost use Rattle.nim_job.specs.Whole.{is_filled, is_var};
 ghost use Rattle.nim_top.specs.Orders as spec;
 
-use nim_base::{Copied, Instance, NoMemory, Object, Position, Seq, Shape, Slot, TaskForm, Worker};
+use nim_base::{
+    Copied, Instance, NoMemory, Object, Param, Position, Seq, Shape, Short, Slot, TaskForm, Worker,
+};
 use nim_command::{Command, Kind};
-use nim_job::{Init, Var, put_in};
+use nim_job::{Init, Var, param_of};
 use nim_message::ToWorker;
 use std::alloc::Global;
 
@@ -33,7 +36,7 @@ pub fn single(alloc: Global, instance: Instance, id: u32, kind: Kind) -> Result<
     commands.push(Command {
         id,
         kind,
-        before: Seq::new(alloc),
+        before: Short::new(alloc),
     })?;
     Ok(ToWorker::Single {
         epoch: 0,
@@ -81,7 +84,7 @@ pub fn run(
     Ok(Kind::Run {
         position,
         func: form.func,
-        params: put_in(alloc, args, form.params.as_slice())?,
+        params: numbers(alloc, args, form.params.as_slice())?,
         reads: main_slots(alloc, form.reads.as_slice())?,
         writes: main_slots(alloc, form.writes.as_slice())?,
     })
@@ -114,12 +117,23 @@ fn main_slot(object: Object) -> Slot
 }
 
 // The main slots of objects, in order.
-fn main_slots(alloc: Global, objects: &[Object]) -> Result<Seq<Slot>, NoMemory>
+fn main_slots<const N: usize>(alloc: Global, objects: &[Object]) -> Result<Short<Slot, N>, NoMemory>
     ensures { IfOk result (λ slots. slots ≡ map spec.main_slot objects.now) }
 {
-    let mut slots = Vec::with_capacity(alloc, objects.len())?;
+    let mut slots = Short::new(alloc);
     for object in objects {
         slots.push(main_slot(*object))?;
     }
-    Ok(Seq::from_vec(slots))
+    Ok(slots)
+}
+
+// The numbers that parameters stand for.
+fn numbers(alloc: Global, args: &[i64], params: &[Param]) -> Result<Short<i64, 3>, NoMemory>
+    ensures { IfOk result (λ numbers. numbers ≡ map (tasks.param_of args.now) params.now) }
+{
+    let mut numbers = Short::new(alloc);
+    for param in params {
+        numbers.push(param_of(args, *param))?;
+    }
+    Ok(numbers)
 }

@@ -1,17 +1,19 @@
-ghost use Rattle.std.specs.Prelude.{◌≡◌, ◌++◌, ℕ, [], IfOk, IfSome, IfNone, IsTrue, None, List, OnOk};
+ghost use Rattle.std.specs.Prelude.{◌≡◌, ◌+◌, ◌^◌, ◌<◌, ◌++◌, ℕ, [], IfOk, IfSome, IfNone, IsTrue, None, List, OnOk, length};
 ghost use Rattle.nim_job.specs.declared.job.Job.{Job as job_type};
 ghost use Rattle.nim_job.specs.Serial.{serial_of};
 ghost use Rattle.nim_job.specs.Whole.{is_whole};
 ghost use Rattle.nim_message.specs.declared.order.ToWorker.{ToWorker as order_type};
 ghost use Rattle.nim_worker.specs.Stands.{Stands, reports_in};
 ghost use Rattle.nim_top.specs.Carries.{IsBusy, IsIdle, IsPerformed, Rests};
+ghost use Rattle.nim_top.specs.Controls.{HasRoom, orders_in, run_orders};
 ghost use Rattle.nim_top.specs.Leads.{done_behind, values_in};
 ghost use Rattle.nim_top.specs.Orders.{start_orders};
 
 use crate::control::{Control, Turn};
-use crate::order_lists::first_orders;
+use crate::given::{BlockRun, Given};
+use crate::order_lists::{first_orders, task_order};
 use crate::trace::Trace;
-use nim_base::{NoMemory, Worker};
+use nim_base::{NoMemory, TaskForm, Worker};
 use nim_job::{DriverMachine, Job};
 use nim_message::ToWorker;
 use nim_worker::{Out, WorkerCore};
@@ -52,7 +54,7 @@ fn drive(
     loop {
         work(&mut core, &mut control, trace)?;
         match control.turn(job)? {
-            Turn::Orders(orders) => give(&mut core, orders, trace)?,
+            Turn::Orders(given) => give_turn(alloc, &mut core, &control, given, trace)?,
             Turn::Finished => return Ok(Some(control.into_machine())),
             Turn::Limit => return Ok(None),
         }
@@ -67,6 +69,49 @@ fn start(alloc: Global, job: &Job, trace: &mut Option<Trace>) -> Result<WorkerCo
     let mut core = WorkerCore::new(alloc, Worker(0));
     give(&mut core, first_orders(alloc, job)?, trace)?;
     Ok(core)
+}
+
+// Gives a worker what a controller gives in a turn.
+fn give_turn(
+    alloc: Global,
+    core: &mut WorkerCore,
+    control: &Control,
+    given: Given,
+    trace: &mut Option<Trace>,
+) -> Result<(), NoMemory>
+    requires { HasRoom control.now.forms.items given }
+    ensures { (before : List order_type) (done : ℕ) → Stands core.old None before done
+        → OnOk result (Stands core.new None (before ++ orders_in control.now.forms.items given) (done_behind done (orders_in control.now.forms.items given))) }
+{
+    match given {
+        Given::Tasks(run) => give_tasks(alloc, core, control.forms(run.block), &run, trace),
+        Given::Listed(orders) => give(core, orders, trace),
+    }
+}
+
+// Gives a worker the tasks of a block, each as an order of its own.
+fn give_tasks(
+    alloc: Global,
+    core: &mut WorkerCore,
+    forms: &[TaskForm],
+    run: &BlockRun,
+    trace: &mut Option<Trace>,
+) -> Result<(), NoMemory>
+    requires { run.now.position + length forms.now < 2 ^ 64 }
+    ensures { (before : List order_type) (done : ℕ) → Stands core.old None before done
+        → OnOk result (Stands core.new None (before ++ run_orders run.now forms.now) (done_behind done (run_orders run.now forms.now))) }
+{
+    let args = run.args.as_slice();
+    let mut position = run.position;
+    let mut id = 32;
+    for form in forms {
+        let order = task_order(alloc, position, run.instance, id, form, args)?;
+        note_order(trace, &order)?;
+        core.on_message(order)?;
+        position += 1;
+        id = id.saturating_add(64);
+    }
+    Ok(())
 }
 
 // Gives orders to a worker.

@@ -7,5 +7,5 @@ use Rattle.nim_command.proofs.before.commands_by_rule.Goals as goal
 pub loop-command-preserved : goal.loop-command-preserved
 loop-command-preserved c =
     let before = c.in_ok-before.ensures ∙ ap (λ (all : List Command). before_of (map footprint_of all) (footprint_of c.in-Some.command)) c.as_slice.ensures.value in
-    command_ruled c.loop-command.done.items c.push.new.self.items c.loop-command.yielded c.in-Some.command (record c.in-Some.command { before = c.in_ok-before.before })
-    c.loop-command.invariant (ap (λ (b : List ℕ). record c.in-Some.command { before = b }) before) c.in_ok-push.ensures.items
+    command_ruled c.loop-command.done.items c.push.new.self.items c.loop-command.yielded c.in-Some.command c.command_with.result
+    c.loop-command.invariant (c.command_with.ensures ∙ ap (λ (b : List ℕ). record c.in-Some.command { before = b }) before) c.in_ok-push.ensures.items

@@ -8,5 +8,5 @@ use Rattle.nim_command.proofs.before.entries_by_rule.Goals as goal
 pub loop-entry-preserved : goal.loop-entry-preserved
 loop-entry-preserved c =
     let before = c.in_ok-before.ensures ∙ ap (λ (all : List Entry). before_of (map entry_footprint all) (entry_footprint c.in-Some.entry)) c.as_slice.ensures.value in
-    entry_ruled c.loop-entry.done.items c.push.new.self.items c.loop-entry.yielded c.in-Some.entry (record c.in-Some.entry { before = c.in_ok-before.before })
-    c.loop-entry.invariant (ap (λ (b : List ℕ). record c.in-Some.entry { before = b }) before) c.in_ok-push.ensures.items
+    entry_ruled c.loop-entry.done.items c.push.new.self.items c.loop-entry.yielded c.in-Some.entry c.entry_with.result
+    c.loop-entry.invariant (c.entry_with.ensures ∙ ap (λ (b : List ℕ). record c.in-Some.entry { before = b }) before) c.in_ok-push.ensures.items

@@ -1,27 +1,19 @@
-use Rattle.std.proofs.Common.{◌≡◌, ◌+◌, ◌∙◌, ℤ, pos, Some, List, [], length, refl, ap, sym, subst, arith}
+use Rattle.std.proofs.Common.{◌≡◌, ◌+◌, ◌∙◌, pos, Some, List, [], length, refl, ap, ap₂, sym, subst, arith}
 use Rattle.std.specs.Prelude.{slice_index_or}
+use Rattle.nim_base.specs.declared.task.TaskForm.{TaskForm}
 use Rattle.nim_job.specs.declared.ask.Ask.{Ask}
 use Rattle.nim_job.specs.Machine.{Machine, answered, ask_of}
 use Rattle.nim_top.specs.declared.control.Control.{Control}
-use Rattle.nim_top.specs.Orders.{task_orders_of}
+use Rattle.nim_top.specs.declared.given.BlockRun.{BlockRun}
+use Rattle.nim_top.specs.Controls.{run_orders}
 use Rattle.nim_top.proofs.Asking.{ends_finished, ends_limit, get_allowed, output_allowed, position_there, run_allowed, run_next}
 use Rattle.nim_top.proofs.Giving.{objects_few}
-use Rattle.nim_top.proofs.Made.{forms_at, forms_there, length_forms, next_few}
+use Rattle.nim_top.proofs.Made.{forms_at, length_forms, next_few}
 use Rattle.nim_top.proofs.Turns.{cell_turn, parts_turn, quiet_turn, run_turn}
 use Rattle.nim_top.proofs.control.Control.turn.Goals as goal
 
-pub run_block-requires-clause-block : goal.run_block-requires-clause-block
-run_block-requires-clause-block c =
-    let mid = c.settle.new.self in
-    let settled = c.in_ok-settle.ensures in
-    omega (
-      arith,
-      forms_there c.args.job.now mid.forms.items settled.forms,
-      (run_allowed c.args.job.now mid.machine mid.position c.in-Run.block c.in-Run.args c.requires.whole settled.opened (sym c.in_ok-block.ensures.ask ∙ c.in-Run.is)).0,
-    )
-
-pub run_block-requires-clause-room : goal.run_block-requires-clause-room
-run_block-requires-clause-room c =
+pub run_block-run-requires : goal.run_block-run-requires
+run_block-run-requires c =
     let job = c.args.job.now in
     let mid = c.settle.new.self in
     let settled = c.in_ok-settle.ensures in
@@ -40,35 +32,39 @@ fetch_parts-requires-clause-var c =
     output_allowed c.args.job.now c.settle.new.self.machine c.settle.new.self.position c.in-Output.var c.requires.whole c.in_ok-settle.ensures.opened
     (sym c.in_ok-block.ensures.ask ∙ c.in-Output.is)
 
-pub returns-in_ok-orders-in-Run : goal.returns-in_ok-orders-in-Run
-returns-in_ok-orders-in-Run c =
+pub returns-in-Run : goal.returns-in-Run
+returns-in-Run c =
     let mid = c.settle.new.self in
-    let rest = c.in_ok-orders-in-Run.ensures.rest in
-    run_turn c.args.job.now c.args.self.now mid _ _ c.in-Run.block c.in-Run.args c.requires.whole c.in_ok-settle.ensures
-    (record {
-      asks = sym c.in_ok-block.ensures.ask ∙ c.in-Run.is;
-      machine = c.answer.ensures ∙ ap (λ (k : Control). answered k.machine (pos 0)) rest ∙ ap (λ (m : Machine). answered m (pos 0)) c.in_ok-block.ensures.ok;
-      position = c.in_ok-orders-in-Run.ensures.position;
-      awaited = ap (λ (k : Control). k.awaited) rest;
-      values = ap (λ (k : Control). k.values.items) rest;
-      forms = ap (λ (k : Control). k.forms.items) rest;
-      is = c.in_ok-orders-in-Run.ensures.orders
-          ∙ ap (λ (args : List ℤ). task_orders_of mid.position mid.instance 32 args (slice_index_or mid.forms.items c.in-Run.block [])) c.as_slice.ensures;
-    })
+    let rest = c.run_block-run.ensures.rest in
+    let forms = ap (λ (k : Control). k.forms.items) rest in (
+      c.run_block-run.ensures.room,
+      run_turn c.args.job.now c.args.self.now mid _ _ c.in-Run.block c.in-Run.args c.requires.whole c.in_ok-settle.ensures
+          (record {
+            asks = sym c.in_ok-block.ensures.ask ∙ c.in-Run.is;
+            machine = c.answer.ensures ∙ ap (λ (k : Control). answered k.machine (pos 0)) rest ∙ ap (λ (m : Machine). answered m (pos 0)) c.in_ok-block.ensures.ok;
+            position = c.run_block-run.ensures.position;
+            awaited = ap (λ (k : Control). k.awaited) rest;
+            values = ap (λ (k : Control). k.values.items) rest;
+            forms = forms;
+            is = ap₂ (λ (run : BlockRun) (all : List (List TaskForm)). run_orders run (slice_index_or all run.block [])) c.run_block-run.ensures.run forms;
+          }),
+    )
 
 pub returns-in_ok-orders-in-Output : goal.returns-in_ok-orders-in-Output
 returns-in_ok-orders-in-Output c =
-    let rest = c.in_ok-orders-in-Output.ensures.rest in
-    parts_turn c.args.job.now c.args.self.now c.settle.new.self _ _ c.in-Output.var c.requires.whole c.in_ok-settle.ensures
-    (record {
-      asks = sym c.in_ok-block.ensures.ask ∙ c.in-Output.is;
-      machine = ap (λ (k : Control). k.machine) rest ∙ c.in_ok-block.ensures.ok;
-      position = ap (λ (k : Control). k.position) rest;
-      awaited = ap (λ (k : Control). k.awaited) rest;
-      values = ap (λ (k : Control). k.values.items) rest;
-      forms = ap (λ (k : Control). k.forms.items) rest;
-      is = c.in_ok-orders-in-Output.ensures.orders;
-    })
+    let rest = c.in_ok-orders-in-Output.ensures.rest in (
+      tt,
+      parts_turn c.args.job.now c.args.self.now c.settle.new.self _ _ c.in-Output.var c.requires.whole c.in_ok-settle.ensures
+          (record {
+            asks = sym c.in_ok-block.ensures.ask ∙ c.in-Output.is;
+            machine = ap (λ (k : Control). k.machine) rest ∙ c.in_ok-block.ensures.ok;
+            position = ap (λ (k : Control). k.position) rest;
+            awaited = ap (λ (k : Control). k.awaited) rest;
+            values = ap (λ (k : Control). k.values.items) rest;
+            forms = ap (λ (k : Control). k.forms.items) rest;
+            is = c.in_ok-orders-in-Output.ensures.orders;
+          }),
+    )
 
 pub returns-in-Finished : goal.returns-in-Finished
 returns-in-Finished c =
@@ -91,24 +87,28 @@ fetch_cell-requires c =
 
 pub returns-in_ok-orders-in-Get : goal.returns-in_ok-orders-in-Get
 returns-in_ok-orders-in-Get c =
-    let rest = c.in_ok-orders-in-Get.ensures.rest in
-    cell_turn c.args.job.now c.args.self.now c.settle.new.self _ _ c.in-Get.object c.in-Get.row c.in-Get.cell c.requires.whole c.in_ok-settle.ensures
-    (record {
-      asks = sym c.in_ok-block.ensures.ask ∙ c.in-Get.is;
-      machine = ap (λ (k : Control). k.machine) rest ∙ c.in_ok-block.ensures.ok;
-      position = ap (λ (k : Control). k.position) rest;
-      awaited = ap (λ (k : Control). k.awaited) rest;
-      values = ap (λ (k : Control). k.values.items) rest;
-      forms = ap (λ (k : Control). k.forms.items) rest;
-      is = c.in_ok-orders-in-Get.ensures.orders;
-    })
+    let rest = c.in_ok-orders-in-Get.ensures.rest in (
+      tt,
+      cell_turn c.args.job.now c.args.self.now c.settle.new.self _ _ c.in-Get.object c.in-Get.row c.in-Get.cell c.requires.whole c.in_ok-settle.ensures
+          (record {
+            asks = sym c.in_ok-block.ensures.ask ∙ c.in-Get.is;
+            machine = ap (λ (k : Control). k.machine) rest ∙ c.in_ok-block.ensures.ok;
+            position = ap (λ (k : Control). k.position) rest;
+            awaited = ap (λ (k : Control). k.awaited) rest;
+            values = ap (λ (k : Control). k.values.items) rest;
+            forms = ap (λ (k : Control). k.forms.items) rest;
+            is = c.in_ok-orders-in-Get.ensures.orders;
+          }),
+    )
 
 pub returns-in-Checkpoint : goal.returns-in-Checkpoint
-returns-in-Checkpoint c =
-    quiet_turn c.args.job.now c.args.self.now c.settle.new.self (record c.settle.new.self { machine = c.answer-in-Checkpoint.new.self }) _ c.requires.whole c.in_ok-settle.ensures
-    (record {
-      asks = sym c.in_ok-block.ensures.ask ∙ c.in-Checkpoint.is;
-      machine = c.answer-in-Checkpoint.ensures ∙ ap (λ (m : Machine). answered m (pos 0)) c.in_ok-block.ensures.ok;
-      rest = refl;
-    })
-    c.new.ensures.items
+returns-in-Checkpoint c = (
+  tt,
+  quiet_turn c.args.job.now c.args.self.now c.settle.new.self (record c.settle.new.self { machine = c.answer-in-Checkpoint.new.self }) _ c.requires.whole c.in_ok-settle.ensures
+      (record {
+        asks = sym c.in_ok-block.ensures.ask ∙ c.in-Checkpoint.is;
+        machine = c.answer-in-Checkpoint.ensures ∙ ap (λ (m : Machine). answered m (pos 0)) c.in_ok-block.ensures.ok;
+        rest = refl;
+      })
+      c.new.ensures.items,
+)
