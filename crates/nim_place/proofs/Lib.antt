@@ -1,8 +1,12 @@
 pub mod ByTask
 pub mod Finds
 pub mod Given
+pub mod GoesOn
+pub mod Held
 pub mod History
+pub mod Legal
 pub mod Live
 pub mod Moves
 pub mod Places
 pub mod Puts
+pub mod Singles

@@ -1,5 +1,7 @@
+pub mod Extends
 pub mod Finds
 pub mod Placement
 pub mod Schedule
 pub mod Stands
+pub mod TaskOrders
 pub mod Versions
