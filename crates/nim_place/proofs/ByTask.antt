@@ -131,7 +131,7 @@ receives_ruled versions owner number reads run past (m ∷ ms) unmoved are last 
 
 -- ---- which of the commands are whose
 
-elsewhere : (owner worker from : Worker) → (owner.0 == worker.0) ≡ true → (from.0 ≡ owner.0 → ⊥) → (from.0 == worker.0) ≡ false
+pub elsewhere : (owner worker from : Worker) → (owner.0 == worker.0) ≡ true → (from.0 ≡ owner.0 → ⊥) → (from.0 == worker.0) ≡ false
 elsewhere owner worker from is apart = either (from.0 == worker.0) refl where
   either : (b : Bool) → (from.0 == worker.0) ≡ b → b ≡ false
   either true same = absurd (apart (eqb-true from.0 worker.0 same ∙ sym (eqb-true owner.0 worker.0 is)))

@@ -33,16 +33,15 @@ for_append worker xs ys =
 current_kept : (versions : Versions) (object : Object) (worker : Worker) → is_current versions object worker ≡ true
     → is_kept versions worker (main_slot object) ≡ true
 current_kept versions object worker current = either (is_kept versions worker (main_slot object)) refl where
+  nothing : is_kept versions worker (main_slot object) ≡ false → held_at versions worker (main_slot object) ≡ None
+  nothing is = ap (λ (b : Bool). if b then slice_index_or versions.held (place_of versions worker (main_slot object)) None else None) is
+
   either : (b : Bool) → is_kept versions worker (main_slot object) ≡ b → b ≡ true
   either true is = refl
   either false is =
       let held : held_at versions worker (main_slot object) ≡ Some (latest_of versions object) =
       current_held (latest_of versions object) (held_at versions worker (main_slot object)) current in
       absurd (none-some (latest_of versions object) (sym (nothing is) ∙ held))
-
-  nothing : is_kept versions worker (main_slot object) ≡ false → held_at versions worker (main_slot object) ≡ None
-  nothing is =
-      ap (λ (b : Bool). if b then slice_index_or versions.held (place_of versions worker (main_slot object)) None else None) is
 
 -- so it has this version when the commands so far have run
 pub slot_held : (versions : Versions) (given : List (Worker × Command)) (object : Object) (worker : Worker) → Stands given versions

@@ -28,7 +28,7 @@ get_front [] ys n within = absurd (omega arith)
 get_front (x ∷ xs) ys zero within = refl
 get_front (x ∷ xs) ys (suc n) within = get_front xs ys n (omega arith)
 
-get_last : {X : Type 0} (xs : List X) (x : X) → slice_get (xs ++ x ∷ []) (length xs) ≡ Some x
+pub get_last : {X : Type 0} (xs : List X) (x : X) → slice_get (xs ++ x ∷ []) (length xs) ≡ Some x
 get_last [] x = refl
 get_last (y ∷ xs) x = get_last xs x
 

@@ -14,6 +14,10 @@ use Rattle.nim_plan.specs.Legal.{IsLegal}
 use Rattle.nim_plan.specs.Paired.{ArePaired, Given, Key, keys_received, keys_sent}
 use Rattle.nim_place.specs.Stands.{commands_for}
 
+-- the worker with a number
+abbrev pub worker_of : ℕ → Worker
+worker_of number = record { 0 = number }
+
 -- whether a worker is live, by the flags of all workers
 abbrev pub is_live : List Bool → Worker → Bool
 is_live live worker = slice_index_or live worker.0 false
@@ -37,7 +41,7 @@ single_with epoch instance (command ∷ commands) = Single epoch instance (comma
 
 -- the commands of each worker in one Single
 abbrev pub singles_of : ℕ → ℕ → List (Worker × Command) → ℕ → List ToWorker
-singles_of epoch instance commands = λ number. single_with epoch instance (commands_for (record { 0 = number }) commands)
+singles_of epoch instance commands = λ number. single_with epoch instance (commands_for (worker_of number) commands)
 
 -- Each live worker's list that may be given for a job may be given with these orders behind it.
 abbrev pub LongerIsLegal : Job → List Bool → (ℕ → List ToWorker) → (ℕ → List ToWorker) → Type 0
@@ -55,7 +59,7 @@ LongerIsCovered lists more = (worker : Worker) → All IsOrderByRule (lists work
 
 -- the live workers, in order
 abbrev pub live_workers : List Bool → List Worker
-live_workers live = filter (is_live live) (map (λ (number : ℕ). record { 0 = number }) (range_with_len 0 (length live)))
+live_workers live = filter (is_live live) (map worker_of (range_with_len 0 (length live)))
 
 -- all live workers, each with its list
 abbrev pub live_lists : List Bool → (ℕ → List ToWorker) → List Given
