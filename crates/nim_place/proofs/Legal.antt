@@ -1,6 +1,6 @@
 -- A task's commands are legal behind those that the map stands for.
-use Rattle.std.proofs.Common.{◌≡◌, ℕ, ◌+◌, ◌-◌, ◌<◌, ◌≤◌, zero, suc, Bool, true, false, List, [], ◌∷◌, ◌++◌, length, map, refl, ap, ap₂, sym, subst, ◌∙◌, arith, Option, None, Some}
-use Rattle.std.specs.Prelude.{◌==◌, ◌%◌, ◌&&◌, ◌||◌, if◌then◌else◌, slice_get, IsSomeAnd}
+use Rattle.std.proofs.Common.{◌≡◌, ℕ, ◌+◌, ◌-◌, ◌<◌, ◌≤◌, zero, suc, Bool, true, false, List, [], ◌∷◌, ◌++◌, length, map, refl, ap, ap₂, sym, subst, ◌∙◌, arith, Option, Some}
+use Rattle.std.specs.Prelude.{◌==◌, ◌%◌, ◌||◌, if◌then◌else◌, slice_get, IsSomeAnd}
 use Rattle.std.specs.List.{filter, list_all}
 use Rattle.std.specs.Option.{option_map_or}
 use Rattle.std.proofs.lemmas.Bool.{and_from, and_parts, cond_both, eq-eqb, eqb-true, false≢true, lt-ltb, ltb-true, or_left, or_right}
@@ -20,12 +20,11 @@ use Rattle.nim_job.specs.declared.job.Job.{Job}
 use Rattle.nim_job.specs.Objects.{objects_of}
 use Rattle.nim_job.specs.Serial.{tasks_of}
 use Rattle.nim_job.specs.Versions.{is_written, read_version, version_before}
-use Rattle.nim_job.specs.Whole.{is_object, is_task, is_whole}
+use Rattle.nim_job.specs.Whole.{is_object, is_task}
 use Rattle.nim_job.proofs.FewTasks.{tasks_fit}
 use Rattle.nim_job.proofs.Whole.{vars_sizes, whole_vars}
 use Rattle.nim_plan.specs.Legal.{AreLegal, IsLegalKind, IsRunOf, is_version}
 use Rattle.nim_place.specs.declared.schedule.Moved.{Moved}
-use Rattle.nim_place.specs.Extends.{is_live}
 use Rattle.nim_place.specs.Schedule.{copies_of, is_one_of, moves, receive_of, run_of, send_of}
 use Rattle.nim_place.specs.Stands.{Stands, commands_for}
 use Rattle.nim_place.specs.TaskOrders.{IsAt, IsTaskAt, StaysLegal}

@@ -4,9 +4,13 @@ pub mod Given
 pub mod GoesOn
 pub mod Held
 pub mod History
+pub mod Keys
 pub mod Legal
 pub mod Live
+pub mod LiveOnce
 pub mod Moves
+pub mod Pairs
 pub mod Places
 pub mod Puts
 pub mod Singles
+pub mod TaskPairs

@@ -9,6 +9,7 @@ use Rattle.nim_place.proofs.Given.{schedule_stands}
 use Rattle.nim_place.proofs.GoesOn.{schedule_goes_on, schedule_runs}
 use Rattle.nim_place.proofs.Legal.{schedule_legal}
 use Rattle.nim_place.proofs.Singles.{singles_ask, singles_covered}
+use Rattle.nim_place.proofs.TaskPairs.{schedule_paired}
 use Rattle.nim_place.proofs.schedule.schedule_task.Goals as goal
 
 pub returns-clause-stands : goal.returns-clause-stands
@@ -54,3 +55,8 @@ pub returns-clause-covered : goal.returns-clause-covered
 returns-clause-covered c =
     singles_covered c.push.new.self.items
     (schedule_ruled c.args.map.now c.owner_of-owner.result c.args.task.now c.args.number c.args.position c.push.new.self.items (search rules))
+
+pub returns-clause-paired : goal.returns-clause-paired
+returns-clause-paired c =
+    schedule_paired c.args.map.now c.args.live.now c.owner_of-owner.result c.args.task.now c.args.number c.args.position c.push.new.self.items
+    (omega (arith, c.ranges.number)) (search rules)
