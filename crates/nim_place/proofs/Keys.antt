@@ -176,10 +176,10 @@ received_behind group number place [] = refl
 received_behind group number place (c ∷ cs) = ap (λ (rest : List Key). received group c.id c.kind ++ rest) (received_behind group number (place + 1) cs)
 
 -- the keys sent in groups
-abbrev sent_in : Worker → List Group → List Key
+abbrev pub sent_in : Worker → List Group → List Key
 sent_in to groups = of_members (λ (group : Group) (place : ℕ) (m : Member). sent to group (holds (commands_of groups) place) m.command.kind) groups
 
-abbrev received_in : List Group → List Key
+abbrev pub received_in : List Group → List Key
 received_in groups = of_members (λ (group : Group) (place : ℕ) (m : Member). received group m.command.id m.command.kind) groups
 
 commands_more : (groups : List Group) (group : Group) → commands_of (groups ++ group ∷ []) ≡ commands_of groups ++ group.commands

@@ -1,3 +1,4 @@
+pub mod Begins
 pub mod ByTask
 pub mod Finds
 pub mod Given

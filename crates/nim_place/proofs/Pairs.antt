@@ -33,7 +33,7 @@ each_two : {X : Type 0} (P Q R : X → Type 0) → ((x : X) → P x → Q x → 
 each_two P Q R f [] first second = tt
 each_two P Q R f (x ∷ xs) first second = (f x first.0 second.0, each_two P Q R f xs first.1 second.1)
 
-each_map : {X Y : Type 0} (P : X → Type 0) (f : Y → X) (ys : List Y) → AllByRecursion (λ (y : Y). P (f y)) ys → AllByRecursion P (map f ys)
+pub each_map : {X Y : Type 0} (P : X → Type 0) (f : Y → X) (ys : List Y) → AllByRecursion (λ (y : Y). P (f y)) ys → AllByRecursion P (map f ys)
 each_map P f [] all = tt
 each_map P f (y ∷ ys) all = (all.0, each_map P f ys all.1)
 
@@ -142,20 +142,20 @@ pub record AreNew (test : Key → Bool) (live : List Bool) (lists more : ℕ →
   pub received_once : (to : Worker) → is_live live to ≡ true → Once (receives to) (flat_map (λ (worker : Worker). sends worker to) (live_workers live))
 
 -- a live worker with its list
-abbrev given_of : (ℕ → List ToWorker) → Worker → Given
+abbrev pub given_of : (ℕ → List ToWorker) → Worker → Given
 given_of lists worker = record { worker = worker; orders = lists worker.0 }
 
-all_live : (live : List Bool) → AllByRecursion (λ (worker : Worker). is_live live worker ≡ true) (live_workers live)
+pub all_live : (live : List Bool) → AllByRecursion (λ (worker : Worker). is_live live worker ≡ true) (live_workers live)
 all_live live = recursion_from_All (λ (worker : Worker). is_live live worker ≡ true) (live_workers live) (filter_passes (is_live live) (map worker_of (range_with_len 0 (length live))))
 
 -- what is sent to a worker
-abbrev all_sent : List Bool → (ℕ → List ToWorker) → Worker → List Key
+abbrev pub all_sent : List Bool → (ℕ → List ToWorker) → Worker → List Key
 all_sent live lists to = flat_map (λ (worker : Worker). keys_sent to (lists worker.0)) (live_workers live)
 
 -- the pairs of one worker
-record IsPairedBy (live : List Bool) (lists : ℕ → List ToWorker) (to : Worker) : Type 0 where
-  sent : Once (all_sent live lists to) (keys_received (lists to.0))
-  received : Once (keys_received (lists to.0)) (all_sent live lists to)
+pub record IsPairedBy (live : List Bool) (lists : ℕ → List ToWorker) (to : Worker) : Type 0 where
+  pub sent : Once (all_sent live lists to) (keys_received (lists to.0))
+  pub received : Once (keys_received (lists to.0)) (all_sent live lists to)
 
 to_once : (keys those : List Key) → EachOnce keys those → Once keys those
 to_once keys those each = recursion_from_All (λ (key : Key). count_by (is_key key) those ≡ 1) keys each
@@ -172,7 +172,7 @@ paired_by live lists to is =
       received = subst (Once (keys_received (lists to.0))) all (to_once (keys_received (lists to.0)) sent is.received);
     }
 
-by_paired : (live : List Bool) (lists : ℕ → List ToWorker) (to : Worker) → IsPairedBy live lists to → IsPairedAt (live_lists live lists) (given_of lists to)
+pub by_paired : (live : List Bool) (lists : ℕ → List ToWorker) (to : Worker) → IsPairedBy live lists to → IsPairedAt (live_lists live lists) (given_of lists to)
 by_paired live lists to is =
     let sent : List Key = flat_map (λ (g : Given). keys_sent to g.orders) (live_lists live lists) in
     let all = sym (flat_of_map (λ (g : Given). keys_sent to g.orders) (given_of lists) (live_workers live)) in

@@ -1,7 +1,7 @@
 -- Lists of orders that get longer by Singles.
 use Rattle.std.proofs.Common.{◌≡◌, ℕ, Bool, true, false, List, [], ◌∷◌, ◌++◌, map, refl, ap, ap₂, sym, subst, ◌∙◌}
 use Rattle.std.specs.Prelude.{◌==◌, if◌then◌else◌, All}
-use Rattle.std.specs.List.{filter}
+use Rattle.std.specs.List.{AllByRecursion, filter}
 use Rattle.std.proofs.lemmas.Bool.{and_from, eq-eqb, eqb-true, false≢true}
 use Rattle.std.proofs.lemmas.List.{append-nil}
 use Rattle.std.proofs.lemmas.List.Concat.{flat_map-append}
@@ -23,14 +23,13 @@ use Rattle.nim_plan.specs.Legal.{AreLegal, IsLegal}
 use Rattle.nim_plan.proofs.Listed.{order_counts}
 use Rattle.nim_plan.proofs.Steps.{by_steps}
 use Rattle.nim_place.specs.declared.schedule.Moved.{Moved}
-use Rattle.nim_place.specs.Extends.{is_live, longer, single_with, singles_of}
-use Rattle.nim_place.specs.Schedule.{copies_of, moves, run_of, send_of}
+use Rattle.nim_place.specs.Extends.{AskFor, is_live, longer, single_with, singles_of}
+use Rattle.nim_place.specs.Schedule.{copies_of, moves, run_of}
 use Rattle.nim_place.specs.Stands.{AreByRule, commands_for}
 use Rattle.nim_place.specs.TaskOrders.{AsksForMore, StaysCovered}
 use Rattle.nim_place.specs.Versions.{Versions, is_current}
-use Rattle.nim_place.proofs.ByTask.{for_other}
 use Rattle.nim_place.proofs.Held.{AreHeld, for_append, holder_lives, moves_held}
-use Rattle.nim_place.proofs.History.{for_more}
+use Rattle.nim_place.proofs.Pairs.{each_append}
 
 -- behind a Single of the session's epoch there is one more group
 pub single_counts : (epoch instance : ℕ) (orders : List ToWorker) (commands : List Command) → (session_of orders).begun ≡ true
@@ -66,67 +65,62 @@ single_on epoch instance orders (c ∷ cs) begun same =
 
 -- ---- who has commands
 
--- a worker that isn't live sends nothing
-none_sent : (versions : Versions) (live : List Bool) (worker : Worker) (ms : List Moved)
-    → ((object : Object) (from : Worker) → is_current versions object from ≡ true → is_live live from ≡ true) → AreHeld versions ms → is_live live worker ≡ false
-    → filter (λ (m : Moved). m.from.0 == worker.0) ms ≡ []
-none_sent versions live worker [] lives are dead = refl
-none_sent versions live worker (m ∷ ms) lives are dead =
-    ap (λ (b : Bool). if b then m ∷ filter (λ (n : Moved). n.from.0 == worker.0) ms else filter (λ (n : Moved). n.from.0 == worker.0) ms)
-    (apart (m.from.0 == worker.0) refl)
-    ∙ none_sent versions live worker ms lives are.1 dead where
-      apart : (b : Bool) → (m.from.0 == worker.0) ≡ b → b ≡ false
+-- a worker that isn't live has none of the commands of live ones
+dead_has_none : (live : List Bool) (worker : Worker) (commands : List (Worker × Command))
+    → AllByRecursion (λ (c : Worker × Command). is_live live c.0 ≡ true) commands → is_live live worker ≡ false → commands_for worker commands ≡ []
+dead_has_none live worker [] all dead = refl
+dead_has_none live worker (c ∷ cs) all dead =
+    let others : List (Worker × Command) = filter (λ (d : Worker × Command). d.0.0 == worker.0) cs in
+    ap (λ (b : Bool). map (λ (d : Worker × Command). d.1) (if b then c ∷ others else others)) (apart (c.0.0 == worker.0) refl)
+    ∙ dead_has_none live worker cs all.1 dead where
+      apart : (b : Bool) → (c.0.0 == worker.0) ≡ b → b ≡ false
       apart true same =
-          absurd (false≢true (sym dead ∙ ap (λ (n : ℕ). is_live live (record { 0 = n })) (sym (eqb-true m.from.0 worker.0 same)) ∙ lives m.object m.from are.0))
+          absurd (false≢true (sym dead ∙ ap (λ (n : ℕ). is_live live (record { 0 = n })) (sym (eqb-true c.0.0 worker.0 same)) ∙ all.0))
       apart false other = refl
 
--- it has none of a task's commands
-none_for : (versions : Versions) (live : List Bool) (owner worker : Worker) (task : Task) (number position : ℕ) (ms : List Moved)
-    → ((object : Object) (from : Worker) → is_current versions object from ≡ true → is_live live from ≡ true) → AreHeld versions ms → is_live live owner ≡ true
-    → is_live live worker ≡ false
-    → commands_for worker (copies_of versions number owner ms ++ (owner, run_of task number position ms) ∷ []) ≡ []
-none_for versions live owner worker task number position ms lives are owns dead =
-    for_more worker (copies_of versions number owner ms) (owner, run_of task number position ms)
-    ∙ ap₂ (λ (cs : List Command) (b : Bool). cs ++ (if b then run_of task number position ms ∷ [] else []))
-    (for_other versions owner worker number ms other
-    ∙ ap (map (λ (m : Moved). (send_of number owner m).1)) (none_sent versions live worker ms lives are dead))
-    other where
-      either : (b : Bool) → (owner.0 == worker.0) ≡ b → b ≡ false
-      either true same = absurd (false≢true (sym dead ∙ ap (λ (n : ℕ). is_live live (record { 0 = n })) (sym (eqb-true owner.0 worker.0 same)) ∙ owns))
-      either false apart = refl
-
-      other : (owner.0 == worker.0) ≡ false
-      other = either (owner.0 == worker.0) refl
+-- a task's commands are of live workers
+copies_live : (versions : Versions) (live : List Bool) (number : ℕ) (owner : Worker) (ms : List Moved) → is_live live owner ≡ true
+    → ((object : Object) (from : Worker) → is_current versions object from ≡ true → is_live live from ≡ true) → AreHeld versions ms
+    → AllByRecursion (λ (c : Worker × Command). is_live live c.0 ≡ true) (copies_of versions number owner ms)
+copies_live versions live number owner [] owns lives are = tt
+copies_live versions live number owner (m ∷ ms) owns lives are =
+    (lives m.object m.from are.0, (owns, copies_live versions live number owner ms owns lives are.1))
 
 -- ---- longer lists
 
 -- they ask for the commands too
-pub singles_ask : (versions : Versions) (live : List Bool) (owner : Worker) (task : Task) (number position : ℕ) (commands : List (Worker × Command))
-    → is_live live owner ≡ true
-    → commands ≡ copies_of versions number owner (moves versions owner [] task.reads) ++
-    (owner, run_of task number position (moves versions owner [] task.reads)) ∷ []
-    → AsksForMore versions live commands
-singles_ask versions live owner task number position commands owns is epoch instance lists given so_far = record {
+pub singles_ask : (live : List Bool) (epoch instance : ℕ) (lists : ℕ → List ToWorker) (given commands : List (Worker × Command)) → AskFor live epoch lists given
+    → AllByRecursion (λ (c : Worker × Command). is_live live c.0 ≡ true) commands
+    → AskFor live epoch (longer lists (singles_of epoch instance commands)) (given ++ commands)
+singles_ask live epoch instance lists given commands ask all = record {
   begun = λ worker there. (on worker there).begun;
   epoch = λ worker there. (on worker there).epoch;
   asked = λ worker there.
-      (on worker there).asked ∙ ap (λ (past : List Command). past ++ commands_for worker commands) (so_far.ask.asked worker there)
+      (on worker there).asked ∙ ap (λ (past : List Command). past ++ commands_for worker commands) (ask.asked worker there)
       ∙ sym (for_append worker given commands);
   none = λ worker dead.
-      for_append worker given commands ∙ ap₂ (λ (xs ys : List Command). xs ++ ys) (so_far.ask.none worker dead) (nothing worker dead);
+      for_append worker given commands
+      ∙ ap₂ (λ (xs ys : List Command). xs ++ ys) (ask.none worker dead) (dead_has_none live worker commands all dead);
 } where
   on : (worker : Worker) → is_live live worker ≡ true
       → IsOn (lists worker.0 ++ single_with epoch instance (commands_for worker commands)) epoch
       (commands_of (session_of (lists worker.0)).groups ++ commands_for worker commands)
-  on worker there =
-      single_on epoch instance (lists worker.0) (commands_for worker commands) (so_far.ask.begun worker there) (so_far.ask.epoch worker there)
+  on worker there = single_on epoch instance (lists worker.0) (commands_for worker commands) (ask.begun worker there) (ask.epoch worker there)
 
-  nothing : (worker : Worker) → is_live live worker ≡ false → commands_for worker commands ≡ []
-  nothing worker dead =
-      ap (commands_for worker) is
-      ∙ none_for versions live owner worker task number position (moves versions owner [] task.reads)
-      (λ object from current. holder_lives versions live epoch lists given object from so_far.stands so_far.ask current)
-      (moves_held versions owner task.reads) owns dead
+pub schedule_asks : (versions : Versions) (live : List Bool) (owner : Worker) (task : Task) (number position : ℕ) (commands : List (Worker × Command))
+    → is_live live owner ≡ true
+    → commands ≡ copies_of versions number owner (moves versions owner [] task.reads) ++
+    (owner, run_of task number position (moves versions owner [] task.reads)) ∷ []
+    → AsksForMore versions live commands
+schedule_asks versions live owner task number position commands owns is epoch instance lists given so_far =
+    let moved : List Moved = moves versions owner [] task.reads in
+    let run : List (Worker × Command) = (owner, run_of task number position moved) ∷ [] in
+    singles_ask live epoch instance lists given commands so_far.ask
+    (subst (AllByRecursion (λ (c : Worker × Command). is_live live c.0 ≡ true)) (sym is)
+    (each_append (λ (c : Worker × Command). is_live live c.0 ≡ true) (copies_of versions number owner moved) run
+    (copies_live versions live number owner moved owns
+    (λ object from current. holder_lives versions live epoch lists given object from so_far.stands so_far.ask current) (moves_held versions owner task.reads))
+    (owns, tt)))
 
 -- they have the before sets of the rule
 single_ruled : (epoch instance : ℕ) (orders : List ToWorker) (commands : List Command) → All IsOrderByRule orders → IsByRule commands

@@ -34,6 +34,10 @@ pub record AskFor (live : List Bool) (current : ℕ) (lists : ℕ → List ToWor
 abbrev pub longer : (ℕ → List ToWorker) → (ℕ → List ToWorker) → ℕ → List ToWorker
 longer lists more = λ number. lists number ++ more number
 
+-- each of these commands is a live worker's
+abbrev pub AreOfLive : List Bool → List (Worker × Command) → Type 0
+AreOfLive live commands = All (λ (c : Worker × Command). is_live live c.0 ≡ true) commands
+
 -- one Single with these commands, and no order where there are none
 abbrev pub single_with : ℕ → ℕ → List Command → List ToWorker
 single_with epoch instance [] = []

@@ -1,5 +1,6 @@
 pub mod Extends
 pub mod Finds
+pub mod Orders
 pub mod Placement
 pub mod Schedule
 pub mod Stands

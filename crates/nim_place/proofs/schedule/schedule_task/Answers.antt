@@ -8,7 +8,7 @@ use Rattle.nim_place.proofs.Finds.{schedule_finds}
 use Rattle.nim_place.proofs.Given.{schedule_stands}
 use Rattle.nim_place.proofs.GoesOn.{schedule_goes_on, schedule_runs}
 use Rattle.nim_place.proofs.Legal.{schedule_legal}
-use Rattle.nim_place.proofs.Singles.{singles_ask, singles_covered}
+use Rattle.nim_place.proofs.Singles.{schedule_asks, singles_covered}
 use Rattle.nim_place.proofs.TaskPairs.{schedule_paired}
 use Rattle.nim_place.proofs.schedule.schedule_task.Goals as goal
 
@@ -30,7 +30,7 @@ returns-clause-finds c =
 
 pub returns-clause-asked : goal.returns-clause-asked
 returns-clause-asked c =
-    singles_ask c.args.map.now c.args.live.now c.owner_of-owner.result c.args.task.now c.args.number c.args.position c.push.new.self.items
+    schedule_asks c.args.map.now c.args.live.now c.owner_of-owner.result c.args.task.now c.args.number c.args.position c.push.new.self.items
     c.owner_of-owner.ensures.live (search rules)
 
 pub returns-clause-legal : goal.returns-clause-legal
