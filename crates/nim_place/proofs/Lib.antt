@@ -15,3 +15,4 @@ pub mod Places
 pub mod Puts
 pub mod Singles
 pub mod TaskPairs
+pub mod WorkedRows

@@ -3,6 +3,7 @@ pub mod Finds
 pub mod Orders
 pub mod Placement
 pub mod Schedule
+pub mod Sound
 pub mod Stands
 pub mod TaskOrders
 pub mod Versions
