@@ -79,13 +79,13 @@ among_mains [] object = refl
 among_mains (o ∷ objects) object = ap (λ (b : Bool). (o.0 == object.0) || b) (among_mains objects object)
 
 -- a worker that holds the latest version
-shown_current : (versions : Versions) (object : Object) (worker : Worker) (n : ℕ) → latest_of versions object ≡ n → held_at versions worker (main_slot object) ≡ Some n
+pub shown_current : (versions : Versions) (object : Object) (worker : Worker) (n : ℕ) → latest_of versions object ≡ n → held_at versions worker (main_slot object) ≡ Some n
     → is_current versions object worker ≡ true
 shown_current versions object worker n latest held =
     ap₂ (λ (l : ℕ) (h : Option ℕ). option_map_or (λ (version : ℕ). version == l) h false) latest held ∙ eq-eqb n n refl
 
 -- so there is a holder
-holder_there : (versions : Versions) (object : Object) (worker : Worker) (from more : ℕ) → from ≤ worker.0 → worker.0 < from + more
+pub holder_there : (versions : Versions) (object : Object) (worker : Worker) (from more : ℕ) → from ≤ worker.0 → worker.0 < from + more
     → is_current versions object worker ≡ true → is_some (holder_from versions object from more) ≡ true
 holder_there versions object worker from zero first last current = absurd (omega arith)
 holder_there versions object worker from (suc more) first last current =

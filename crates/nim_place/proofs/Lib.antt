@@ -14,5 +14,6 @@ pub mod Pairs
 pub mod Places
 pub mod Puts
 pub mod Singles
+pub mod Starts
 pub mod TaskPairs
 pub mod WorkedRows

@@ -5,5 +5,6 @@ pub mod Placement
 pub mod Schedule
 pub mod Sound
 pub mod Stands
+pub mod Starts
 pub mod TaskOrders
 pub mod Versions

@@ -6,7 +6,7 @@ mod placement;
 mod schedule;
 mod versions;
 
-pub use laws::orders_extend;
+pub use laws::{map_starts, orders_extend};
 pub use placement::{Placement, home};
 pub use schedule::schedule_task;
 pub use versions::VersionMap;
