@@ -67,8 +67,10 @@ copies_as_good base versions number owner (m ∷ ms) below good =
           ∙ same_latest (m.object.0 == object.0) (latest_of versions object) (latest_of base m.object) (latest_of base object) (good.latest object there)
           (latest_same base m.object object);
       held = λ worker object first second was.
-          put.held worker (main_slot object) (kept_for versions worker (main_slot object) (omega (arith, good.workers, first)) (omega (arith, good.objects, second)))
-          ∙ same_held (m.object.0 == object.0) (owner.0 == worker.0) (latest_of base m.object) (latest_of base object) (held_at versions worker (main_slot object))
+          put.held worker (main_slot object) (kept_for versions worker (main_slot object) (omega (arith, good.workers, first))
+          (omega (arith, good.objects, second)))
+          ∙ same_held (m.object.0 == object.0) (owner.0 == worker.0) (latest_of base m.object) (latest_of base object)
+          (held_at versions worker (main_slot object))
           (good.held worker object first second was) (latest_same base m.object object);
     })
 
@@ -79,7 +81,8 @@ among_mains [] object = refl
 among_mains (o ∷ objects) object = ap (λ (b : Bool). (o.0 == object.0) || b) (among_mains objects object)
 
 -- a worker that holds the latest version
-pub shown_current : (versions : Versions) (object : Object) (worker : Worker) (n : ℕ) → latest_of versions object ≡ n → held_at versions worker (main_slot object) ≡ Some n
+pub shown_current : (versions : Versions) (object : Object) (worker : Worker) (n : ℕ) → latest_of versions object ≡ n
+    → held_at versions worker (main_slot object) ≡ Some n
     → is_current versions object worker ≡ true
 shown_current versions object worker n latest held =
     ap₂ (λ (l : ℕ) (h : Option ℕ). option_map_or (λ (version : ℕ). version == l) h false) latest held ∙ eq-eqb n n refl
@@ -92,7 +95,8 @@ holder_there versions object worker from (suc more) first last current =
     either (λ ahead. holder_there versions object worker (from + 1) more (omega (arith, ahead)) (omega (arith, last)) current)
     (is_current versions object (record { 0 = from })) refl
     (cases_order from worker.0) where
-      either : (from < worker.0 → is_some (holder_from versions object (from + 1) more) ≡ true) → (b : Bool) → is_current versions object (record { 0 = from }) ≡ b
+      either : (from < worker.0 → is_some (holder_from versions object (from + 1) more) ≡ true) → (b : Bool) → is_current versions object (record { 0 = from })
+          ≡ b
           → (from ≡ worker.0) ⊎ ((from < worker.0) ⊎ (worker.0 < from))
           → is_some (if b then Some (record { 0 = from }) else holder_from versions object (from + 1) more) ≡ true
       either later true is place = refl
@@ -106,7 +110,8 @@ raised : (b : Bool) (l n position : ℕ) → position + 1 < 2 ^ 64 → l ≡ n �
 raised true l n position few is early = omega (arith, few, is, early)
 raised false l n position few is early = is
 
-run_at : (base versions after : Versions) (owner : Worker) (task : Task) (position : ℕ) → owner.0 < base.workers → position + 1 < 2 ^ 64 → IsAsGood base versions
+run_at : (base versions after : Versions) (owner : Worker) (task : Task) (position : ℕ) → owner.0 < base.workers → position + 1 < 2 ^ 64
+    → IsAsGood base versions
     → IsPut versions owner (version_after position) (map main_slot task.writes) after → IsRunAt base after owner task position
 run_at base versions after owner task position below few good put = record {
   workers = put.workers ∙ good.workers;
@@ -145,7 +150,8 @@ run_at base versions after owner task position below few good put = record {
   some_holder object worker there current =
       holder_there after object worker 0 after.workers (omega arith) (omega (arith, put.workers, good.workers, there)) current
 
-  held_then : (object : Object) → object.0 < base.objects → latest_of base object ≤ position → (b : Bool) → is_one_of task.writes object ≡ b → (o : Option Worker)
+  held_then : (object : Object) → object.0 < base.objects → latest_of base object ≤ position → (b : Bool) → is_one_of task.writes object ≡ b →
+      (o : Option Worker)
       → holder base object ≡ o → is_some o ≡ true → is_some (holder after object) ≡ true
   held_then object there early true wrote o found some = some_holder object owner below (written_then object there early wrote)
   held_then object there early false kept None found some = absurd (false≢true some)

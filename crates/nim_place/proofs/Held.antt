@@ -54,7 +54,8 @@ slot_held versions given object worker stands current =
     (current_held (latest_of versions object) (held_at versions worker (main_slot object)) current)
 
 -- and the worker is live
-pub holder_lives : (versions : Versions) (live : List Bool) (epoch : ℕ) (lists : ℕ → List ToWorker) (given : List (Worker × Command)) (object : Object) (worker : Worker)
+pub holder_lives : (versions : Versions) (live : List Bool) (epoch : ℕ) (lists : ℕ → List ToWorker) (given : List (Worker × Command)) (object : Object)
+    (worker : Worker)
     → Stands given versions → AskFor live epoch lists given → is_current versions object worker ≡ true → is_live live worker ≡ true
 holder_lives versions live epoch lists given object worker stands ask current = either (is_live live worker) refl where
   either : (b : Bool) → is_live live worker ≡ b → b ≡ true

@@ -68,7 +68,8 @@ members_below number (group ∷ groups) =
     All-append (λ (m : Member). m.group < number + length (group ∷ groups)) (members_at number group.commands) (members_from (number + 1) groups)
     (All-map (λ (m : Member). m.group < number + length (group ∷ groups)) (member_in number) group.commands
     (λ k d within. omega arith))
-    (All-weaker (λ (m : Member). m.group < number + 1 + length groups) (λ (m : Member). m.group < number + length (group ∷ groups)) (λ m below. omega (arith, below))
+    (All-weaker (λ (m : Member). m.group < number + 1 + length groups) (λ (m : Member). m.group < number + length (group ∷ groups))
+    (λ m below. omega (arith, below))
     (members_from (number + 1) groups) (members_below (number + 1) groups))
 
 member_below : (groups : List Group) (place : ℕ) (m : Member) → slice_get (members_of groups) place ≡ Some m → m.group < length groups
@@ -95,9 +96,11 @@ given_front : {X : Type 0} (f g : Group → ℕ → Member → List X) (groups :
     → ((one : Group) (m : Member) → f one place m ≡ g one place m)
     → given_at f (groups ++ group ∷ []) (members_of (groups ++ group ∷ [])) place ≡ given_at g groups (members_of groups) place
 given_front {X} f g groups group place within same =
-    ap (λ (ms : List Member). option_map_or (λ (m : Member). option_map_or (λ (one : Group). f one place m) (slice_get (groups ++ group ∷ []) m.group) []) (slice_get ms place) [])
+    ap (λ (ms : List Member). option_map_or (λ (m : Member). option_map_or (λ (one : Group). f one place m) (slice_get (groups ++ group ∷ []) m.group) [])
+    (slice_get ms place) [])
     (group_added groups group)
-    ∙ ap (λ (o : Option Member). option_map_or (λ (m : Member). option_map_or (λ (one : Group). f one place m) (slice_get (groups ++ group ∷ []) m.group) []) o [])
+    ∙ ap (λ (o : Option Member). option_map_or (λ (m : Member). option_map_or (λ (one : Group). f one place m)
+    (slice_get (groups ++ group ∷ []) m.group) []) o [])
     (get_front (members_of groups) (members_at (length groups) group.commands) place within)
     ∙ either (slice_get (members_of groups) place) refl where
       either : (o : Option Member) → slice_get (members_of groups) place ≡ o
@@ -105,7 +108,8 @@ given_front {X} f g groups group place within same =
           ≡ option_map_or (λ (m : Member). option_map_or (λ (one : Group). g one place m) (slice_get groups m.group) []) o []
       either None there = refl
       either (Some m) there =
-          ap (λ (o : Option Group). option_map_or (λ (one : Group). f one place m) o []) (get_front groups (group ∷ []) m.group (member_below groups place m there))
+          ap (λ (o : Option Group). option_map_or (λ (one : Group). f one place m) o [])
+          (get_front groups (group ∷ []) m.group (member_below groups place m there))
           ∙ ap (λ (h : Group → List X). option_map_or h (slice_get groups m.group) []) (fun_ext (λ one. same one m))
 
 -- at the places behind it is the last group's

@@ -74,7 +74,8 @@ read_within n [] object all read = absurd (false≢true read)
 read_within n (r ∷ reads) object all read =
     let parts = and_parts (is_object n r) (list_all (is_object n) reads) all in
     either (read_within n reads object parts.1) (ltb-true r.0 n parts.0) (r.0 == object.0) refl read where
-      either : (is_one_of reads object ≡ true → object.0 < n) → r.0 < n → (b : Bool) → (r.0 == object.0) ≡ b → (b || is_one_of reads object) ≡ true → object.0 < n
+      either : (is_one_of reads object ≡ true → object.0 < n) → r.0 < n → (b : Bool) → (r.0 == object.0) ≡ b → (b || is_one_of reads object)
+          ≡ true → object.0 < n
       either later below true same is = let equal = eqb-true r.0 object.0 same in omega (arith, equal, below)
       either later below false other is = later is
 
@@ -96,7 +97,8 @@ record IsFor (job : Job) (versions : Versions) (task : Task) (position : ℕ) : 
   version : (object : Object) → is_one_of task.reads object ≡ true → is_version job (object_of (main_slot object)) (latest_of versions object) ≡ true
   writes : map object_of (map main_slot task.writes) ≡ task.writes
 
-is_for : (job : Job) (versions : Versions) (task : Task) (position : ℕ) → IsAt job position versions → IsTaskAt job position task → IsFor job versions task position
+is_for : (job : Job) (versions : Versions) (task : Task) (position : ℕ) → IsAt job position versions → IsTaskAt job position task
+    → IsFor job versions task position
 is_for job versions task position at next =
     let n = objects_of job.vars in
     let few : n ≤ 512 = (vars_sizes job.vars (whole_vars job next.whole)).0 in
@@ -120,8 +122,11 @@ is_for job versions task position at next =
 
 legal_append : (job : Job) (past xs ys : List Command) → AreLegal job past xs → AreLegal job (past ++ xs) ys → AreLegal job past (xs ++ ys)
 legal_append job past [] ys first second = subst (λ (all : List Command). AreLegal job all ys) (append-nil past) second
-legal_append job past (x ∷ xs) ys first second =
-    (first.0, legal_append job (past ++ x ∷ []) xs ys first.1 (subst (λ (all : List Command). AreLegal job all ys) (sym (append_assoc past (x ∷ []) xs)) second))
+legal_append job past (x ∷ xs) ys first second = (
+  first.0,
+  legal_append job (past ++ x ∷ []) xs ys first.1 (subst (λ (all : List Command). AreLegal job all ys)
+      (sym (append_assoc past (x ∷ []) xs)) second),
+)
 
 -- what is held may be sent
 sends_legal : (job : Job) (versions : Versions) (number : ℕ) (owner : Worker) (past : List Command) (ms : List Moved) → HeldIn versions past ms
@@ -181,7 +186,8 @@ owner_legal job versions owner task number position given ms is are below stands
           ∙ ap (λ (rest : List Command). commands_for owner given ++ rest)
           (for_owner versions owner owner number task.reads ms are (eq-eqb owner.0 owner.0 refl))
 
-      found : (object : Object) → is_one_of task.reads object ≡ true → holds past (length past) (main_slot object) ≡ Some (object, read_version job position object)
+      found : (object : Object) → is_one_of task.reads object ≡ true → holds past (length past) (main_slot object) ≡ Some
+          (object, read_version job position object)
       found object read =
           ap (λ (cs : List Command). holds cs (length cs) (main_slot object)) (sym same)
           ∙ schedule_finds versions owner task number below given stands object read (fits.reads object read) (at.holders object (fits.reads object read))

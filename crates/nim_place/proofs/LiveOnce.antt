@@ -52,7 +52,8 @@ one_within live number a (suc n) first last lives =
       rest : List Worker
       rest = filter (is_live live) (map worker_of (range_with_len (a + 1) n))
 
-      counted : count_by (is_number number) (if is_live live worker then worker ∷ rest else rest) ≡ cond (is_live live worker && (number == a)) 1 0 + count_by (is_number number) rest
+      counted : count_by (is_number number) (if is_live live worker then worker ∷ rest else rest) ≡ cond (is_live live worker && (number == a)) 1 0 + count_by
+          (is_number number) rest
       counted = choice_counted (is_number number) worker rest (is_live live worker)
 
       either : (a < number → count_by (is_number number) rest ≡ 1) → (a ≡ number) ⊎ ((a < number) ⊎ (number < a))
@@ -94,7 +95,8 @@ mapped_counted : (p : Key → Bool) (key : Moved → Key) (m : Moved) (ms : List
 mapped_counted p key m ms true c is = count_first p (key m) (map key ms) c is
 mapped_counted p key m ms false c is = omega arith
 
-one_routed : (p : Key → Bool) (key : Moved → Key) (m : Moved) (from : Worker → Bool) (rest : Worker → List Moved) (workers : List Worker) (c : Bool) → p (key m) ≡ c
+one_routed : (p : Key → Bool) (key : Moved → Key) (m : Moved) (from : Worker → Bool) (rest : Worker → List Moved) (workers : List Worker) (c : Bool)
+    → p (key m) ≡ c
     → count_by p (flat_map (λ (w : Worker). map key (if from w then m ∷ rest w else rest w)) workers)
     ≡ (if c then count_by from workers else 0) + count_by p (flat_map (λ (w : Worker). map key (rest w)) workers)
 one_routed p key m from rest [] true is = refl

@@ -133,7 +133,8 @@ once_longer test b c (k ∷ keys) those more all apart sums says others once =
 
 -- What is new to lists of orders, by who sends it to whom and who receives it: each key passes the test, and what is
 -- sent to a live worker it receives once, and what it receives is sent once.
-pub record AreNew (test : Key → Bool) (live : List Bool) (lists more : ℕ → List ToWorker) (sends : Worker → Worker → List Key) (receives : Worker → List Key) : Type 0 where
+pub record AreNew (test : Key → Bool) (live : List Bool) (lists more : ℕ → List ToWorker) (sends : Worker → Worker → List Key)
+    (receives : Worker → List Key) : Type 0 where
   pub sent : (worker to : Worker) → is_live live worker ≡ true → keys_sent to (longer lists more worker.0) ≡ keys_sent to (lists worker.0) ++ sends worker to
   pub received : (worker : Worker) → is_live live worker ≡ true → keys_received (longer lists more worker.0) ≡ keys_received (lists worker.0) ++ receives worker
   pub sent_new : (worker to : Worker) → AllSay test true (sends worker to)
@@ -146,7 +147,8 @@ abbrev pub given_of : (ℕ → List ToWorker) → Worker → Given
 given_of lists worker = record { worker = worker; orders = lists worker.0 }
 
 pub all_live : (live : List Bool) → AllByRecursion (λ (worker : Worker). is_live live worker ≡ true) (live_workers live)
-all_live live = recursion_from_All (λ (worker : Worker). is_live live worker ≡ true) (live_workers live) (filter_passes (is_live live) (map worker_of (range_with_len 0 (length live))))
+all_live live = recursion_from_All (λ (worker : Worker). is_live live worker ≡ true) (live_workers live)
+    (filter_passes (is_live live) (map worker_of (range_with_len 0 (length live))))
 
 -- what is sent to a worker
 abbrev pub all_sent : List Bool → (ℕ → List ToWorker) → Worker → List Key
@@ -194,16 +196,19 @@ one_longer test live lists more sends receives new none to there pair =
     let all_are : all_sent live (longer lists more) to ≡ both =
     flat_agree (λ (worker : Worker). keys_sent to (longer lists more worker.0)) (λ (worker : Worker). keys_sent to (lists worker.0) ++ sends worker to) workers
     (each_weaker (λ (worker : Worker). is_live live worker ≡ true)
-    (λ (worker : Worker). keys_sent to (longer lists more worker.0) ≡ keys_sent to (lists worker.0) ++ sends worker to) (λ worker lives. new.sent worker to lives) workers (all_live live)) in
+    (λ (worker : Worker). keys_sent to (longer lists more worker.0) ≡ keys_sent to (lists worker.0) ++ sends worker to)
+    (λ worker lives. new.sent worker to lives) workers (all_live live)) in
     let sums : (p : Key → Bool) → count_by p both ≡ count_by p olds + count_by p news =
     λ p. count_both p (λ (worker : Worker). keys_sent to (lists worker.0)) (λ (worker : Worker). sends worker to) workers in
     let turned : (p : Key → Bool) → count_by p both ≡ count_by p news + count_by p olds = λ p. let s = sums p in omega (arith, s) in
     let taken : (p : Key → Bool) → count_by p (had ++ receives to) ≡ count_by p had + count_by p (receives to) = λ p. count_append p had (receives to) in
-    let taken_turned : (p : Key → Bool) → count_by p (had ++ receives to) ≡ count_by p (receives to) + count_by p had = λ p. let s = taken p in omega (arith, s) in
+    let taken_turned : (p : Key → Bool) → count_by p (had ++ receives to) ≡ count_by p (receives to) + count_by p had = λ p. let s = taken p in omega
+    (arith, s) in
     let olds_say : AllSay test false olds =
     each_flat (λ (key : Key). test key ≡ false) (λ (worker : Worker). keys_sent to (lists worker.0)) workers
     (each_weaker (λ (worker : Worker). is_live live worker ≡ true) (λ (worker : Worker). AllSay test false (keys_sent to (lists worker.0)))
-    (λ worker lives. recursion_from_All (λ (key : Key). test key ≡ false) (keys_sent to (lists worker.0)) (none.sent worker to lives)) workers (all_live live)) in
+    (λ worker lives. recursion_from_All (λ (key : Key). test key ≡ false) (keys_sent to (lists worker.0)) (none.sent worker to lives)) workers
+    (all_live live)) in
     let news_say : AllSay test true news =
     each_flat (λ (key : Key). test key ≡ true) (λ (worker : Worker). sends worker to) workers
     (each_weaker (λ (worker : Worker). is_live live worker ≡ true) (λ (worker : Worker). AllSay test true (sends worker to))
@@ -214,7 +219,8 @@ one_longer test live lists more sends receives new none to there pair =
       sent =
           subst (λ (keys : List Key). Once keys (keys_received (longer lists more to.0))) (sym all_are)
           (subst (Once both) (sym (new.received to there))
-          (each_both (λ (key : Key). count_by (is_key key) (had ++ receives to) ≡ 1) (λ (worker : Worker). keys_sent to (lists worker.0)) (λ (worker : Worker). sends worker to) workers
+          (each_both (λ (key : Key). count_by (is_key key) (had ++ receives to) ≡ 1) (λ (worker : Worker). keys_sent to (lists worker.0))
+          (λ (worker : Worker). sends worker to) workers
           (once_longer test false true olds had (receives to) (had ++ receives to) false≢true taken olds_say gets_say pair.sent)
           (once_longer test true false news (receives to) had (had ++ receives to) true≢false taken_turned news_say had_say (new.sent_once to there))));
       received =

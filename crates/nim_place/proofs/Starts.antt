@@ -48,7 +48,8 @@ old_held true own v n h is same = absurd cc
 old_held false own v n h is same = same
 
 -- one object more
-one_more : (version : Object → ℕ) (workers objects count : ℕ) (versions next : Versions) (worker : Worker) (put : ℕ) → AreThere version workers objects count versions
+one_more : (version : Object → ℕ) (workers objects count : ℕ) (versions next : Versions) (worker : Worker) (put : ℕ)
+    → AreThere version workers objects count versions
     → worker.0 < workers → put ≡ version (record { 0 = count }) → IsPut versions worker put (main_slot (record { 0 = count }) ∷ []) next
     → AreThere version workers objects (count + 1) next
 one_more version workers objects count versions next worker put are below is puts = record {
@@ -62,7 +63,8 @@ one_more version workers objects count versions next worker put are below is put
       (are.behind object (omega (arith, past)) there);
 } where
   kept : (other : Worker) (object : Object) → other.0 < workers → object.0 < objects
-      → held_at next other (main_slot object) ≡ (if ((count == object.0) || false) && (worker.0 == other.0) then Some put else held_at versions other (main_slot object))
+      → held_at next other (main_slot object) ≡ (if ((count == object.0) || false) && (worker.0 == other.0) then Some put else held_at versions other
+      (main_slot object))
   kept other object first second =
       puts.held other (main_slot object)
       (kept_for versions other (main_slot object) (omega (arith, are.workers_same, first)) (omega (arith, are.objects_same, second)))
@@ -96,7 +98,8 @@ one_more version workers objects count versions next worker put are below is put
             ∙ old_latest (count == object.0) (latest_of versions object) put (version object) apart was.latest;
       }
 
-all_there : (version : Object → ℕ) (workers objects count : ℕ) (versions : Versions) (cs : List (Worker × Command)) → AreThere version workers objects count versions
+all_there : (version : Object → ℕ) (workers objects count : ℕ) (versions : Versions) (cs : List (Worker × Command))
+    → AreThere version workers objects count versions
     → PutEach version workers count cs → AreThere version workers objects (count + length cs) (after_commands versions cs)
 all_there version workers objects count versions [] are each =
     let same : count ≡ count + 0 = omega arith in subst (λ (n : ℕ). AreThere version workers objects n versions) same are
@@ -124,7 +127,8 @@ pub map_starts : MapStarts
 map_starts job position workers commands long each =
     let objects : ℕ = objects_of job.vars in
     let after : Versions = after_commands (no_versions workers objects) commands in
-    let are = all_there (read_version job position) workers objects 0 (no_versions workers objects) commands (none_there (read_version job position) workers objects) each in
+    let are = all_there (read_version job position) workers objects 0 (no_versions workers objects) commands
+    (none_there (read_version job position) workers objects) each in
     let within : (number : ℕ) → number < objects → number < 0 + length commands = λ number there. omega (arith, there, long) in
     record {
       objects = are.objects_same;

@@ -49,8 +49,12 @@ moves_ascend versions owner past (next ∷ reads) low top first last =
       either : Ascend (low + 1) top (moves versions owner (past ++ next ∷ []) reads) → (o : Option Worker)
           → Ascend low top (moved_first (length past) next o (moves versions owner (past ++ next ∷ []) reads))
       either rest None = from_lower low (low + 1) top (moves versions owner (past ++ next ∷ []) reads) (omega arith) rest
-      either rest (Some from) =
-          (omega (arith, first), omega (arith, last), from_lower (length past + 1) (low + 1) top (moves versions owner (past ++ next ∷ []) reads) (omega (arith, first)) rest)
+      either rest (Some from) = (
+        omega (arith, first),
+        omega (arith, last),
+        from_lower (length past + 1) (low + 1) top (moves versions owner (past ++ next ∷ []) reads)
+            (omega (arith, first)) rest,
+      )
 
 to_higher : (low top more : ℕ) (ms : List Moved) → top ≤ more → Ascend low top ms → Ascend low more ms
 to_higher low top more [] above rise = tt
@@ -69,7 +73,13 @@ key_for epoch instance versions number m = record {
 }
 
 itself : (key : Key) → is_key key key ≡ true
-itself key = rw (eq-eqb key.epoch key.epoch refl, eq-eqb key.instance key.instance refl, eq-eqb key.entry key.entry refl, eq-eqb key.object.0 key.object.0 refl, eq-eqb key.version key.version refl) refl
+itself key = rw (
+  eq-eqb key.epoch key.epoch refl,
+  eq-eqb key.instance key.instance refl,
+  eq-eqb key.entry key.entry refl,
+  eq-eqb key.object.0 key.object.0 refl,
+  eq-eqb key.version key.version refl,
+) refl
 
 key_is_new : (epoch instance : ℕ) (versions : Versions) (number : ℕ) (m : Moved) → number < 65536 → m.index < 8
     → is_key_of epoch instance number (key_for epoch instance versions number m) ≡ true
@@ -91,9 +101,11 @@ keys_apart epoch instance versions number m n small less few =
     let first = key_for epoch instance versions number m in
     let second = key_for epoch instance versions number n in (
       false_from_ne_true (is_key first second)
-          (λ is. let same : entry_number number 1 m.index ≡ entry_number number 1 n.index = ap (λ (k : Key). k.entry) (same_keys first second is) in omega (arith, same, small, less, few)),
+          (λ is. let same : entry_number number 1 m.index ≡ entry_number number 1 n.index = ap (λ (k : Key). k.entry) (same_keys first second is) in omega
+          (arith, same, small, less, few)),
       false_from_ne_true (is_key second first)
-          (λ is. let same : entry_number number 1 n.index ≡ entry_number number 1 m.index = ap (λ (k : Key). k.entry) (same_keys second first is) in omega (arith, same, small, less, few)),
+          (λ is. let same : entry_number number 1 n.index ≡ entry_number number 1 m.index = ap (λ (k : Key). k.entry) (same_keys second first is) in omega
+          (arith, same, small, less, few)),
     )
 
 none_later : (epoch instance : ℕ) (versions : Versions) (number low : ℕ) (m : Moved) (ms : List Moved) → number < 65536 → m.index < low → Ascend low 8 ms
@@ -101,11 +113,13 @@ none_later : (epoch instance : ℕ) (versions : Versions) (number low : ℕ) (m 
 none_later epoch instance versions number low m [] small less rise = refl
 none_later epoch instance versions number low m (n ∷ ms) small less rise =
     let key = key_for epoch instance versions number in
-    let first = count_first (is_key (key m)) (key n) (map key ms) false (keys_apart epoch instance versions number m n small (omega (arith, less, rise.0)) rise.1).0 in
+    let first = count_first (is_key (key m)) (key n) (map key ms) false (keys_apart epoch instance versions number m n small
+    (omega (arith, less, rise.0)) rise.1).0 in
     let rest = none_later epoch instance versions number (n.index + 1) m ms small (omega (arith, less, rise.0)) rise.2 in
     omega (arith, first, rest)
 
-once_behind : (epoch instance : ℕ) (versions : Versions) (number low : ℕ) (m : Moved) (all : List Key) (ms : List Moved) → number < 65536 → m.index < low → Ascend low 8 ms
+once_behind : (epoch instance : ℕ) (versions : Versions) (number low : ℕ) (m : Moved) (all : List Key) (ms : List Moved) → number < 65536 → m.index < low
+    → Ascend low 8 ms
     → AllByRecursion (λ (n : Moved). count_by (is_key (key_for epoch instance versions number n)) all ≡ 1) ms
     → AllByRecursion (λ (n : Moved). count_by (is_key (key_for epoch instance versions number n)) (key_for epoch instance versions number m ∷ all) ≡ 1) ms
 once_behind epoch instance versions number low m all [] small less rise once = tt
@@ -122,8 +136,11 @@ once_each epoch instance versions number low [] small rise = tt
 once_each epoch instance versions number low (m ∷ ms) small rise =
     let key = key_for epoch instance versions number in
     let first = count_first (is_key (key m)) (key m) (map key ms) true (itself (key m)) in
-    let none = none_later epoch instance versions number (m.index + 1) m ms small (omega arith) rise.2 in
-    (omega (arith, first, none), once_behind epoch instance versions number (m.index + 1) m (map key ms) ms small (omega arith) rise.2 (once_each epoch instance versions number (m.index + 1) ms small rise.2))
+    let none = none_later epoch instance versions number (m.index + 1) m ms small (omega arith) rise.2 in (
+      omega (arith, first, none),
+      once_behind epoch instance versions number (m.index + 1) m (map key ms) ms small (omega arith) rise.2
+          (once_each epoch instance versions number (m.index + 1) ms small rise.2),
+    )
 
 -- ---- who sends and who receives them
 
@@ -133,7 +150,8 @@ sends_of key owner ms worker to = if owner.0 == to.0 then map key (filter (λ (m
 abbrev receives_of : (Moved → Key) → Worker → List Moved → Worker → List Key
 receives_of key owner ms worker = if owner.0 == worker.0 then map key ms else []
 
-owner_sends : (to : Worker) (group : Group) (versions : Versions) (task : Task) (owner : Worker) (number position : ℕ) (past : List Command) (ms all : List Moved)
+owner_sends : (to : Worker) (group : Group) (versions : Versions) (task : Task) (owner : Worker) (number position : ℕ) (past : List Command)
+    (ms all : List Moved)
     → new_sent to group past (map (λ (m : Moved). (receive_of versions number owner m).1) ms ++ run_of task number position all ∷ []) ≡ []
 owner_sends to group versions task owner number position past [] all = refl
 owner_sends to group versions task owner number position past (m ∷ ms) all =
@@ -166,12 +184,14 @@ other_sends to epoch instance cs versions number owner past [] held = sym (nothi
 other_sends to epoch instance cs versions number owner past (m ∷ ms) held =
     let key = key_for epoch instance versions number in
     ap₂ (λ (k : Key) (rest : List Key). (if owner.0 == to.0 then k ∷ [] else []) ++ rest)
-    (ap (λ (c : Content). key_of (single_group epoch instance cs) (entry_number number 1 m.index) (object_of (main_slot m.object)) (option_map_or (λ (d : Object × ℕ). d.1) c 0)) held.0)
+    (ap (λ (c : Content). key_of (single_group epoch instance cs) (entry_number number 1 m.index) (object_of (main_slot m.object))
+    (option_map_or (λ (d : Object × ℕ). d.1) c 0)) held.0)
     (other_sends to epoch instance cs versions number owner (past ++ (send_of number owner m).1 ∷ []) ms (held_still versions number owner past m ms held.1))
     ∙ joined (owner.0 == to.0) (key m) (map key ms)
 
 -- the owner sends nothing
-none_from : (versions : Versions) (owner worker : Worker) (reads : List Object) (ms : List Moved) → AreMoves versions owner reads ms → (owner.0 == worker.0) ≡ true
+none_from : (versions : Versions) (owner worker : Worker) (reads : List Object) (ms : List Moved) → AreMoves versions owner reads ms
+    → (owner.0 == worker.0) ≡ true
     → filter (λ (m : Moved). m.from.0 == worker.0) ms ≡ []
 none_from versions owner worker reads [] are same = refl
 none_from versions owner worker reads (m ∷ ms) are same =
@@ -179,9 +199,11 @@ none_from versions owner worker reads (m ∷ ms) are same =
     (elsewhere owner worker m.from same are.1)
     ∙ none_from versions owner worker reads ms are.4 same
 
-worker_sends : (to : Worker) (epoch instance : ℕ) (cs : List Command) (versions : Versions) (owner worker : Worker) (task : Task) (number position : ℕ) (past : List Command) (ms : List Moved)
+worker_sends : (to : Worker) (epoch instance : ℕ) (cs : List Command) (versions : Versions) (owner worker : Worker) (task : Task) (number position : ℕ)
+    (past : List Command) (ms : List Moved)
     → AreMoves versions owner task.reads ms → HeldIn versions past (filter (λ (m : Moved). m.from.0 == worker.0) ms)
-    → new_sent to (single_group epoch instance cs) past (commands_for worker (copies_of versions number owner ms ++ (owner, run_of task number position ms) ∷ []))
+    → new_sent to (single_group epoch instance cs) past (commands_for worker
+    (copies_of versions number owner ms ++ (owner, run_of task number position ms) ∷ []))
     ≡ sends_of (key_for epoch instance versions number) owner ms worker to
 worker_sends to epoch instance cs versions owner worker task number position past ms are held =
     ap (new_sent to (single_group epoch instance cs) past) (for_more worker (copies_of versions number owner ms) (owner, run_of task number position ms))
@@ -197,7 +219,8 @@ worker_sends to epoch instance cs versions owner worker task number position pas
           ∙ sym (nothing_picked (owner.0 == to.0) (map (key_for epoch instance versions number) (filter (λ (m : Moved). m.from.0 == worker.0) ms))
           (ap (map (key_for epoch instance versions number)) (none_from versions owner worker task.reads ms are same)))
       either false other =
-          ap (new_sent to (single_group epoch instance cs) past) (append-nil (commands_for worker (copies_of versions number owner ms)) ∙ for_other versions owner worker number ms other)
+          ap (new_sent to (single_group epoch instance cs) past) (append-nil (commands_for worker (copies_of versions number owner ms))
+          ∙ for_other versions owner worker number ms other)
           ∙ other_sends to epoch instance cs versions number owner past (filter (λ (m : Moved). m.from.0 == worker.0) ms) held
 
 worker_receives : (epoch instance : ℕ) (cs : List Command) (versions : Versions) (owner worker : Worker) (task : Task) (number position : ℕ) (ms : List Moved)
@@ -216,7 +239,8 @@ worker_receives epoch instance cs versions owner worker task number position ms 
           (for_owner versions owner worker number task.reads ms are same)
           ∙ owner_receives epoch instance cs versions task owner number position ms ms
       either false other =
-          ap (new_received (single_group epoch instance cs)) (append-nil (commands_for worker (copies_of versions number owner ms)) ∙ for_other versions owner worker number ms other)
+          ap (new_received (single_group epoch instance cs)) (append-nil (commands_for worker (copies_of versions number owner ms))
+          ∙ for_other versions owner worker number ms other)
           ∙ other_receives (single_group epoch instance cs) number owner (filter (λ (m : Moved). m.from.0 == worker.0) ms)
 
 -- ---- in pairs
@@ -253,7 +277,8 @@ pairs_sent : (key : Moved → Key) (owner to : Worker) (workers : List Worker) (
     → Once (flat_map (λ (worker : Worker). sends_of key owner ms worker to) workers) (receives_of key owner ms to)
 pairs_sent key owner to workers ms once = either (owner.0 == to.0) where
   either : (b : Bool)
-      → Once (flat_map (λ (worker : Worker). if b then map key (filter (λ (m : Moved). m.from.0 == worker.0) ms) else []) workers) (if b then map key ms else [])
+      → Once (flat_map (λ (worker : Worker). if b then map key (filter (λ (m : Moved). m.from.0 == worker.0) ms) else []) workers)
+      (if b then map key ms else [])
   either true =
       let P : Key → Type 0 = λ k. count_by (is_key k) (map key ms) ≡ 1 in
       let mine : Worker → List Key = λ worker. map key (filter (λ (m : Moved). m.from.0 == worker.0) ms) in
@@ -269,7 +294,8 @@ pairs_received : (key : Moved → Key) (owner to : Worker) (workers : List Worke
     → Once (receives_of key owner ms to) (flat_map (λ (worker : Worker). sends_of key owner ms worker to) workers)
 pairs_received key owner to workers ms once sources = either (owner.0 == to.0) where
   either : (b : Bool)
-      → Once (if b then map key ms else []) (flat_map (λ (worker : Worker). if b then map key (filter (λ (m : Moved). m.from.0 == worker.0) ms) else []) workers)
+      → Once (if b then map key ms else []) (flat_map (λ (worker : Worker). if b then map key
+      (filter (λ (m : Moved). m.from.0 == worker.0) ms) else []) workers)
   either true =
       let all : List Key = flat_map (λ (worker : Worker). map key (filter (λ (m : Moved). m.from.0 == worker.0) ms)) workers in
       every_key (λ (k : Key). count_by (is_key k) all ≡ 1) key ms
@@ -277,7 +303,8 @@ pairs_received key owner to workers ms once sources = either (owner.0 == to.0) w
       (λ m one. all_routed (is_key (key m)) key workers ms sources ∙ one) ms once)
   either false = tt
 
-pub schedule_paired : (versions : Versions) (live : List Bool) (owner : Worker) (task : Task) (number position : ℕ) (commands : List (Worker × Command)) → number < 65536
+pub schedule_paired : (versions : Versions) (live : List Bool) (owner : Worker) (task : Task) (number position : ℕ) (commands : List (Worker × Command))
+    → number < 65536
     → commands ≡ copies_of versions number owner (moves versions owner [] task.reads) ++
     (owner, run_of task number position (moves versions owner [] task.reads)) ∷ []
     → StaysPaired versions live task number commands
@@ -286,7 +313,8 @@ schedule_paired versions live owner task number position commands small is epoch
       sent = λ worker to there.
           keys_sent_more to epoch instance (lists worker.0) (commands_for worker commands) (so_far.ask.begun worker there) (so_far.ask.epoch worker there)
           ∙ ap (λ (rest : List Key). keys_sent to (lists worker.0) ++ rest)
-          (ap₂ (λ (past : List Command) (all : List (Worker × Command)). new_sent to (single_group epoch instance (commands_for worker commands)) past (commands_for worker all))
+          (ap₂ (λ (past : List Command) (all : List (Worker × Command)). new_sent to (single_group epoch instance (commands_for worker commands)) past
+          (commands_for worker all))
           (so_far.ask.asked worker there) is
           ∙ worker_sends to epoch instance (commands_for worker commands) versions owner worker task number position (commands_for worker given) ms are
           (held_here versions given worker ms so_far.stands held));
@@ -303,7 +331,8 @@ schedule_paired versions live owner task number position commands small is epoch
           (every_key (λ (k : Key). is_key_of epoch instance number k ≡ true) key ms new);
       sent_once = λ to there. pairs_sent key owner to (live_workers live) ms once;
       received_once = λ to there. pairs_received key owner to (live_workers live) ms once
-          (sources_live versions live ms (λ object from current. holder_lives versions live epoch lists given object from so_far.stands so_far.ask current) held);
+          (sources_live versions live ms
+          (λ object from current. holder_lives versions live epoch lists given object from so_far.stands so_far.ask current) held);
     }) where
       ms : List Moved
       ms = moves versions owner [] task.reads

@@ -20,7 +20,7 @@ use Rattle.nim_place.specs.declared.placement.Placement.{Placement}
 use Rattle.nim_place.specs.Extends.{longer, singles_of, worker_of}
 use Rattle.nim_place.specs.Orders.{resets_of}
 use Rattle.nim_place.specs.Schedule.{scheduled}
-use Rattle.nim_place.specs.Sound.{Plane, by_rank, commands_from, walked}
+use Rattle.nim_place.specs.Sound.{Plane, by_rank, commands_from, first_plane, walked}
 use Rattle.nim_place.specs.Versions.{Versions, after_commands}
 
 abbrev slot : ℕ → Slot
@@ -81,17 +81,19 @@ entry_run id at before = record { id = id; kind = EntryKind.Run Addc (Const (pos
 abbrev halves : List (List Entry)
 halves = (entry_run 32 0 [] ∷ record { id = 88; kind = EntryKind.Receive (slot 513) 0; before = [] } ∷ entry_run 96 513 (88 ∷ [])
     ∷ record { id = 104; kind = EntryKind.Send (slot 513) (worker_of 1) 112; before = 96 ∷ [] } ∷ [])
-    ∷ (record { id = 80; kind = EntryKind.Send (slot 1) (worker_of 0) 88; before = [] } ∷ record { id = 112; kind = EntryKind.Receive (slot 1) 2; before = 80 ∷ [] } ∷ []) ∷ []
+    ∷ (record { id = 80; kind = EntryKind.Send (slot 1) (worker_of 0) 88; before = [] } ∷ record {
+      id = 112;
+      kind = EntryKind.Receive
+          (slot 1) 2;
+      before = 80 ∷ [];
+    } ∷ []) ∷ []
 
 -- the tasks at positions 6 and 7 wrote a[0] and a[1]
 abbrev read : Object → ℕ
 read o = if o.0 == 0 then 7 else 8
 
 abbrev first : Plane
-first = record {
-  slots = λ (w : Worker) (s : Slot). if w.0 == s.0 then Some (object s.0, read (object s.0)) else None;
-  frames = [];
-}
+first = first_plane (λ (w : Worker) (s : Slot). if w.0 == s.0 then Some (object s.0, read (object s.0)) else None)
 
 abbrev ranked : List (Worker × Command)
 ranked = by_rank 8 (commands_from read 8 [] 0 halves)

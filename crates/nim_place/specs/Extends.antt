@@ -24,10 +24,12 @@ is_live live worker = slice_index_or live worker.0 false
 
 -- All orders so far to each worker, by its number, ask for these commands: the sessions of live workers are of this
 -- epoch, each asks for its worker's commands, and no other worker has any.
-pub record AskFor (live : List Bool) (current : ℕ) (lists : ℕ → List ToWorker) (given : List (Worker × Command)) : Type 0 where
+pub record AskFor (live : List Bool) (current : ℕ) (lists : ℕ → List ToWorker)
+    (given : List (Worker × Command)) : Type 0 where
   pub begun : (worker : Worker) → is_live live worker ≡ true → (session_of (lists worker.0)).begun ≡ true
   pub epoch : (worker : Worker) → is_live live worker ≡ true → (session_of (lists worker.0)).epoch ≡ current
-  pub asked : (worker : Worker) → is_live live worker ≡ true → commands_of (session_of (lists worker.0)).groups ≡ commands_for worker given
+  pub asked : (worker : Worker) → is_live live worker ≡ true
+      → commands_of (session_of (lists worker.0)).groups ≡ commands_for worker given
   pub none : (worker : Worker) → is_live live worker ≡ false → commands_for worker given ≡ []
 
 -- lists of orders that are longer by these
@@ -50,7 +52,8 @@ singles_of epoch instance commands = λ number. single_with epoch instance (comm
 -- Each live worker's list that may be given for a job may be given with these orders behind it.
 abbrev pub LongerIsLegal : Job → List Bool → (ℕ → List ToWorker) → (ℕ → List ToWorker) → Type 0
 LongerIsLegal job live lists more =
-    (worker : Worker) → is_live live worker ≡ true → IsLegal job (lists worker.0) → IsLegal job (longer lists more worker.0)
+    (worker : Worker) → is_live live worker ≡ true → IsLegal job (lists worker.0)
+    → IsLegal job (longer lists more worker.0)
 
 -- Orders have the before sets of the rule, so that the commands that they come to are covered.
 pub record AreCovered (orders : List ToWorker) : Type 0 where
@@ -59,7 +62,8 @@ pub record AreCovered (orders : List ToWorker) : Type 0 where
 
 -- Each worker's list that has the before sets of the rule has them with these orders behind it.
 abbrev pub LongerIsCovered : (ℕ → List ToWorker) → (ℕ → List ToWorker) → Type 0
-LongerIsCovered lists more = (worker : Worker) → All IsOrderByRule (lists worker.0) → AreCovered (longer lists more worker.0)
+LongerIsCovered lists more =
+    (worker : Worker) → All IsOrderByRule (lists worker.0) → AreCovered (longer lists more worker.0)
 
 -- the live workers, in order
 abbrev pub live_workers : List Bool → List Worker
@@ -67,17 +71,21 @@ live_workers live = filter (is_live live) (map worker_of (range_with_len 0 (leng
 
 -- all live workers, each with its list
 abbrev pub live_lists : List Bool → (ℕ → List ToWorker) → List Given
-live_lists live lists = map (λ (worker : Worker). record { worker = worker; orders = lists worker.0 }) (live_workers live)
+live_lists live lists =
+    map (λ (worker : Worker). record { worker = worker; orders = lists worker.0 }) (live_workers live)
 
 -- no key of what live workers send and receive passes a test
 pub record HaveNone (test : Key → Bool) (live : List Bool) (lists : ℕ → List ToWorker) : Type 0 where
-  pub sent : (worker to : Worker) → is_live live worker ≡ true → All (λ (key : Key). test key ≡ false) (keys_sent to (lists worker.0))
-  pub received : (worker : Worker) → is_live live worker ≡ true → All (λ (key : Key). test key ≡ false) (keys_received (lists worker.0))
+  pub sent : (worker to : Worker) → is_live live worker ≡ true
+      → All (λ (key : Key). test key ≡ false) (keys_sent to (lists worker.0))
+  pub received : (worker : Worker) → is_live live worker ≡ true
+      → All (λ (key : Key). test key ≡ false) (keys_received (lists worker.0))
 
 -- Lists of orders are longer, and each key that is new passes a test.
 pub record LongerIsPaired (test : Key → Bool) (live : List Bool) (lists more : ℕ → List ToWorker) : Type 0 where
   -- lists that are paired stay so where no key passes the test yet
-  pub paired : ArePaired (live_lists live lists) → HaveNone test live lists → ArePaired (live_lists live (longer lists more))
+  pub paired : ArePaired (live_lists live lists) → HaveNone test live lists
+      → ArePaired (live_lists live (longer lists more))
   -- keys that can't be new aren't there where they weren't before
   pub others : (other : Key → Bool) → ((key : Key) → test key ≡ true → other key ≡ false) → HaveNone other live lists
       → HaveNone other live (longer lists more)

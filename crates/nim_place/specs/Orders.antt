@@ -20,11 +20,13 @@ resets_of live epoch workers shapes =
     λ number. if slice_index_or live number false then Reset epoch (worker_of number) workers shapes ∷ [] else []
 
 -- Resets begin an epoch, whatever the orders before them.
-pub record IsBegun (live : List Bool) (current workers : ℕ) (shapes : List Shape) (lists : ℕ → List ToWorker) : Type 0 where
+pub record IsBegun (live : List Bool) (current workers : ℕ) (shapes : List Shape)
+    (lists : ℕ → List ToWorker) : Type 0 where
   -- nothing is asked for
   pub asked : AskFor live current (longer lists (resets_of live current workers shapes)) []
   -- they are legal for each job that has these shapes
-  pub legal : (job : Job) → shapes ≡ shapes_of job.vars → LongerIsLegal job live lists (resets_of live current workers shapes)
+  pub legal : (job : Job) → shapes ≡ shapes_of job.vars
+      → LongerIsLegal job live lists (resets_of live current workers shapes)
   pub covered : LongerIsCovered lists (resets_of live current workers shapes)
   -- no key is there, so the lists are paired
   pub none : (test : Key → Bool) → HaveNone test live (longer lists (resets_of live current workers shapes))
@@ -37,12 +39,14 @@ has_no_key (Receive slot version) = false
 has_no_key _ = true
 
 -- Singles of live workers' commands extend orders so far that ask for others.
-pub record AreExtended (live : List Bool) (current instance : ℕ) (lists : ℕ → List ToWorker) (given commands : List (Worker × Command)) : Type 0 where
+pub record AreExtended (live : List Bool) (current instance : ℕ) (lists : ℕ → List ToWorker)
+    (given commands : List (Worker × Command)) : Type 0 where
   -- they ask for these commands too
   pub asked : AskFor live current (longer lists (singles_of current instance commands)) (given ++ commands)
   -- they are legal where the commands are, behind the others
   pub legal : (job : Job)
-      → ((worker : Worker) → is_live live worker ≡ true → AreLegal job (commands_for worker given) (commands_for worker commands))
+      → ((worker : Worker) → is_live live worker ≡ true
+      → AreLegal job (commands_for worker given) (commands_for worker commands))
       → LongerIsLegal job live lists (singles_of current instance commands)
   -- they are covered where the commands have the before sets of the rule
   pub covered : AreByRule commands → LongerIsCovered lists (singles_of current instance commands)
@@ -52,10 +56,12 @@ pub record AreExtended (live : List Bool) (current instance : ℕ) (lists : ℕ 
 
 -- So Resets begin an epoch.
 abbrev pub ResetsBegin : Type 0
-ResetsBegin = (live : List Bool) (epoch workers : ℕ) (shapes : List Shape) (lists : ℕ → List ToWorker) → IsBegun live epoch workers shapes lists
+ResetsBegin =
+    (live : List Bool) (epoch workers : ℕ) (shapes : List Shape) (lists : ℕ → List ToWorker)
+    → IsBegun live epoch workers shapes lists
 
 -- So Singles extend lists of orders.
 abbrev pub SinglesExtend : Type 0
 SinglesExtend =
-    (live : List Bool) (epoch instance : ℕ) (lists : ℕ → List ToWorker) (given commands : List (Worker × Command)) → AskFor live epoch lists given
-    → AreOfLive live commands → AreExtended live epoch instance lists given commands
+    (live : List Bool) (epoch instance : ℕ) (lists : ℕ → List ToWorker) (given commands : List (Worker × Command))
+    → AskFor live epoch lists given → AreOfLive live commands → AreExtended live epoch instance lists given commands

@@ -34,7 +34,8 @@ version_named before _ = []
 -- the commands of a worker's half
 abbrev pub commands_at : (Object → ℕ) → ℕ → List ℤ → Worker → List Entry → List (Worker × Command)
 commands_at before base args worker half =
-    map (λ (c : Command). (worker, c)) (expanded base args (flat_map (λ (e : Entry). version_named before e.kind) half) 0 half)
+    let versions : List ℕ = flat_map (λ (e : Entry). version_named before e.kind) half in
+    map (λ (c : Command). (worker, c)) (expanded base args versions 0 half)
 
 -- the commands of all halves, the first of them that of the worker with this number
 abbrev pub commands_from : (Object → ℕ) → ℕ → List ℤ → ℕ → List (List Entry) → List (Worker × Command)
@@ -66,6 +67,10 @@ pub record Plane : Type 0 where
   pub slots : Worker → Slot → Content
   pub frames : List Frame
 
+-- these slots, and nothing sent
+abbrev pub first_plane : (Worker → Slot → Content) → Plane
+first_plane slots = record { slots = slots; frames = [] }
+
 -- what was sent to a worker's entry, if anything was
 abbrev pub sent_to : List Frame → Worker → ℕ → Content
 sent_to [] worker entry = None
@@ -79,7 +84,8 @@ with_slots worker held plane = record plane { slots = λ other. if other.0 == wo
 -- What a command leaves: a Receive takes what its Send sent.
 abbrev pub step_of : Worker → ℕ → Kind → Plane → Plane
 step_of worker number (Send slot peer entry) plane =
-    record plane { frames = plane.frames ++ record { to = peer; entry = entry; content = plane.slots worker slot } ∷ [] }
+    let frame : Frame = record { to = peer; entry = entry; content = plane.slots worker slot } in
+    record plane { frames = plane.frames ++ frame ∷ [] }
 step_of worker number (Receive slot version) plane =
     with_slots worker (put_at slot (sent_to plane.frames worker number) (plane.slots worker)) plane
 step_of worker number kind plane = with_slots worker (left_by kind (plane.slots worker)) plane
@@ -92,13 +98,15 @@ walked plane commands = fold (λ (now : Plane) (c : Worker × Command). step_of 
 -- this task reads, and what is received is a version of the slot's object, and was sent.
 abbrev pub IsFound : Job → Plane → Worker → ℕ → Kind → Type 0
 IsFound job plane worker number (Receive slot version) =
-    IsLegalKind job (plane.slots worker) (Receive slot version) × (sent_to plane.frames worker number ≡ content_at slot version)
+    IsLegalKind job (plane.slots worker) (Receive slot version)
+    × (sent_to plane.frames worker number ≡ content_at slot version)
 IsFound job plane worker number kind = IsLegalKind job (plane.slots worker) kind
 
 -- each command finds it behind those before it
 abbrev pub AreFound : Job → Plane → List (Worker × Command) → Type 0
 AreFound job plane [] = Unit {0}
-AreFound job plane (c ∷ cs) = IsFound job plane c.0 c.1.id c.1.kind × AreFound job (step_of c.0 c.1.id c.1.kind plane) cs
+AreFound job plane (c ∷ cs) =
+    IsFound job plane c.0 c.1.id c.1.kind × AreFound job (step_of c.0 c.1.id c.1.kind plane) cs
 
 -- ---- the commands together
 
@@ -139,29 +147,36 @@ owned_from position (owner ∷ owners) = (owner, position) ∷ owned_from (posit
 
 -- whether an effect names a worker's slot
 abbrev pub is_affected : List (Worker × Slot × ℕ) → Worker → Slot → Bool
-is_affected effect worker slot = list_any (λ (item : Worker × Slot × ℕ). (item.0.0 == worker.0) && (item.1.0 == slot.0)) effect
+is_affected effect worker slot =
+    list_any (λ (item : Worker × Slot × ℕ). (item.0.0 == worker.0) && (item.1.0 == slot.0)) effect
 
 -- What an instance is begun with: the job's tasks from the base on are the block's, with these arguments, and each
 -- precondition's main slot holds the version that the task at the base reads.
-pub record MayBegin (template : WorkerTemplate) (job : Job) (base : ℕ) (args : List ℤ) (slots : Worker → Slot → Content) : Type 0 where
+pub record MayBegin (template : WorkerTemplate) (job : Job) (base : ℕ) (args : List ℤ)
+    (slots : Worker → Slot → Content) : Type 0 where
   pub whole : is_whole job ≡ true
   pub tasks : take (length template.forms) (drop base (tasks_of job)) ≡ map (task_of args) template.forms
-  pub held : All (λ (one : Worker × Object). slots one.0 (main_slot one.1) ≡ Some (one.1, read_version job base one.1)) template.preconditions
+  pub held :
+      All (λ (one : Worker × Object). slots one.0 (main_slot one.1) ≡ Some (one.1, read_version job base one.1))
+      template.preconditions
 
 -- What an instance does: commands find what they need, Sends and Receives are matched, each task runs once, at its
 -- owner, and main slots hold what the effect says, or what they held.
-pub record DoesTasks (template : WorkerTemplate) (job : Job) (base : ℕ) (slots : Worker → Slot → Content) (commands : List (Worker × Command)) : Type 0 where
-  pub found : AreFound job (record { slots = slots; frames = [] }) commands
+pub record DoesTasks (template : WorkerTemplate) (job : Job) (base : ℕ) (slots : Worker → Slot → Content)
+    (commands : List (Worker × Command)) : Type 0 where
+  pub found : AreFound job (first_plane slots) commands
   pub matched : AreMatched commands
   pub runs : flat_map (λ (c : Worker × Command). run_by c.0 c.1.kind) commands ≡ owned_from base template.owners
-  pub effect : All (λ (item : Worker × Slot × ℕ). (walked (record { slots = slots; frames = [] }) commands).slots item.0 item.1
+  pub effect :
+      All (λ (item : Worker × Slot × ℕ). (walked (first_plane slots) commands).slots item.0 item.1
       ≡ content_at item.1 (version_at base (read_version job base (object_of item.1)) item.2)) template.effect
   pub rest : (worker : Worker) (slot : Slot) → slot.0 < 512 → is_affected template.effect worker slot ≡ false
-      → (walked (record { slots = slots; frames = [] }) commands).slots worker slot ≡ slots worker slot
+      → (walked (first_plane slots) commands).slots worker slot ≡ slots worker slot
 
 -- A template is sound where each instance that may begin does its block's tasks, whatever the job, the base, the
 -- arguments and what else the slots hold, when its commands run by rank.
 abbrev pub IsSound : WorkerTemplate → Type 0
 IsSound template =
     (job : Job) (base : ℕ) (args : List ℤ) (slots : Worker → Slot → Content) → MayBegin template job base args slots
-    → DoesTasks template job base slots (by_rank base (commands_from (read_version job base) base args 0 template.halves))
+    → let commands : List (Worker × Command) = commands_from (read_version job base) base args 0 template.halves in
+    DoesTasks template job base slots (by_rank base commands)

@@ -23,7 +23,8 @@ use Rattle.nim_place.specs.Versions.{Versions, holder, is_current, latest_of}
 pub record IsAt (job : Job) (position : ℕ) (versions : Versions) : Type 0 where
   pub objects : versions.objects ≡ objects_of job.vars
   pub holders : (object : Object) → object.0 < versions.objects → is_some (holder versions object) ≡ true
-  pub latest : (object : Object) → object.0 < versions.objects → latest_of versions object ≡ read_version job position object
+  pub latest : (object : Object) → object.0 < versions.objects
+      → latest_of versions object ≡ read_version job position object
 
 -- a whole job has this task at this position
 pub record IsTaskAt (job : Job) (position : ℕ) (task : Task) : Type 0 where
@@ -31,35 +32,41 @@ pub record IsTaskAt (job : Job) (position : ℕ) (task : Task) : Type 0 where
   pub there : slice_get (tasks_of job) position ≡ Some task
 
 -- Orders so far ask for commands that a map stands for.
-pub record AreSoFar (live : List Bool) (epoch : ℕ) (lists : ℕ → List ToWorker) (given : List (Worker × Command)) (versions : Versions) : Type 0 where
+pub record AreSoFar (live : List Bool) (epoch : ℕ) (lists : ℕ → List ToWorker)
+    (given : List (Worker × Command)) (versions : Versions) : Type 0 where
   pub stands : Stands given versions
   pub ask : AskFor live epoch lists given
 
 -- With Singles of a task's commands the orders ask for these too.
 abbrev pub AsksForMore : Versions → List Bool → List (Worker × Command) → Type 0
 AsksForMore versions live commands =
-    (epoch instance : ℕ) (lists : ℕ → List ToWorker) (given : List (Worker × Command)) → AreSoFar live epoch lists given versions
+    (epoch instance : ℕ) (lists : ℕ → List ToWorker) (given : List (Worker × Command))
+    → AreSoFar live epoch lists given versions
     → AskFor live epoch (longer lists (singles_of epoch instance commands)) (given ++ commands)
 
 -- Legal lists stay legal with Singles of a task's commands, for every job whose task it is.
 abbrev pub StaysLegal : Versions → List Bool → Task → ℕ → List (Worker × Command) → Type 0
 StaysLegal versions live task position commands =
-    (job : Job) (epoch instance : ℕ) (lists : ℕ → List ToWorker) (given : List (Worker × Command)) → AreSoFar live epoch lists given versions
-    → IsAt job position versions → IsTaskAt job position task → LongerIsLegal job live lists (singles_of epoch instance commands)
+    (job : Job) (epoch instance : ℕ) (lists : ℕ → List ToWorker) (given : List (Worker × Command))
+    → AreSoFar live epoch lists given versions → IsAt job position versions → IsTaskAt job position task
+    → LongerIsLegal job live lists (singles_of epoch instance commands)
 
 -- Covered lists stay covered.
 abbrev pub StaysCovered : List (Worker × Command) → Type 0
-StaysCovered commands = (epoch instance : ℕ) (lists : ℕ → List ToWorker) → LongerIsCovered lists (singles_of epoch instance commands)
+StaysCovered commands =
+    (epoch instance : ℕ) (lists : ℕ → List ToWorker) → LongerIsCovered lists (singles_of epoch instance commands)
 
 -- whether a key is of a task of an instance
 abbrev pub is_key_of : ℕ → ℕ → ℕ → Key → Bool
-is_key_of epoch instance number key = (key.epoch == epoch) && (key.instance == instance) && (task_of key.entry == number)
+is_key_of epoch instance number key =
+    (key.epoch == epoch) && (key.instance == instance) && (task_of key.entry == number)
 
 -- Paired lists stay paired: each new key is one of this task of this instance.
 abbrev pub StaysPaired : Versions → List Bool → Task → ℕ → List (Worker × Command) → Type 0
 StaysPaired versions live task number commands =
-    (epoch instance : ℕ) (lists : ℕ → List ToWorker) (given : List (Worker × Command)) → AreSoFar live epoch lists given versions
-    → length task.reads ≤ 8 → LongerIsPaired (is_key_of epoch instance number) live lists (singles_of epoch instance commands)
+    (epoch instance : ℕ) (lists : ℕ → List ToWorker) (given : List (Worker × Command))
+    → AreSoFar live epoch lists given versions → length task.reads ≤ 8
+    → LongerIsPaired (is_key_of epoch instance number) live lists (singles_of epoch instance commands)
 
 -- A task that writes was run where no version is past its position.
 pub record IsRunAt (before after : Versions) (owner : Worker) (task : Task) (position : ℕ) : Type 0 where
@@ -70,19 +77,20 @@ pub record IsRunAt (before after : Versions) (owner : Worker) (task : Task) (pos
   pub latest : (object : Object) → object.0 < before.objects → latest_of before object ≤ position
       → latest_of after object ≡ (if is_one_of task.writes object then position + 1 else latest_of before object)
   -- the owner holds the latest version of what it writes
-  pub written : (object : Object) → object.0 < before.objects → latest_of before object ≤ position → is_one_of task.writes object ≡ true
-      → is_current after object owner ≡ true
+  pub written : (object : Object) → object.0 < before.objects → latest_of before object ≤ position
+      → is_one_of task.writes object ≡ true → is_current after object owner ≡ true
   -- what some worker holds some worker holds still
-  pub holders : (object : Object) → object.0 < before.objects → latest_of before object ≤ position → is_some (holder before object) ≡ true
-      → is_some (holder after object) ≡ true
+  pub holders : (object : Object) → object.0 < before.objects → latest_of before object ≤ position
+      → is_some (holder before object) ≡ true → is_some (holder after object) ≡ true
 
 -- So it is where the map stands for the commands so far.
 abbrev pub RunsAt : Versions → Versions → Worker → Task → ℕ → Type 0
 RunsAt before after owner task position =
-    (given : List (Worker × Command)) → Stands given before → position + 1 < 2 ^ 64 → IsRunAt before after owner task position
+    (given : List (Worker × Command)) → Stands given before → position + 1 < 2 ^ 64
+    → IsRunAt before after owner task position
 
 -- Behind a task's commands the map is at the next position of each job whose task it is.
 abbrev pub GoesOn : Versions → Versions → Task → ℕ → Type 0
 GoesOn before after task position =
-    (job : Job) (given : List (Worker × Command)) → Stands given before → IsAt job position before → IsTaskAt job position task
-    → IsAt job (position + 1) after
+    (job : Job) (given : List (Worker × Command)) → Stands given before → IsAt job position before
+    → IsTaskAt job position task → IsAt job (position + 1) after
