@@ -195,7 +195,7 @@ steps_few : (job : Job) → is_whole job ≡ true → job.steps ≤ 1000000
 steps_few job whole = grind (arith, nat_tests)
 
 -- a task that is there has few before it
-position_few : (job : Job) (position : ℕ) (task : Task) → is_whole job ≡ true → slice_get (tasks_of job) position ≡ Some task → position < 1024000000
+pub position_few : (job : Job) (position : ℕ) (task : Task) → is_whole job ≡ true → slice_get (tasks_of job) position ≡ Some task → position < 1024000000
 position_few job position task whole there =
     omega (arith, slice_get_within (tasks_of job) position task there, few_tasks job whole, steps_few job whole)
 

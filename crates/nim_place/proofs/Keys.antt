@@ -14,6 +14,7 @@ use Rattle.nim_command.specs.declared.command.Command.{Command}
 use Rattle.nim_command.specs.Holds.{Content, holds}
 use Rattle.nim_command.specs.Waits.{Group, Member, commands_of, members_from, members_of, single_group}
 use Rattle.nim_message.specs.declared.order.ToWorker.{ToWorker}
+use Rattle.nim_message.specs.declared.order.ToWorker.TheVariants.{Single}
 use Rattle.nim_message.specs.Orders.{Session, session_of}
 use Rattle.nim_order.proofs.Items.{get_front}
 use Rattle.nim_plan.specs.Listing.{members_at}
@@ -210,22 +211,33 @@ received_more groups group =
     (λ (g : Group) (place : ℕ) (m : Member). received g m.command.id m.command.kind) groups group (λ place one m below. refl)
     ∙ ap (λ (rest : List Key). received_in groups ++ rest) (received_behind group (length groups) (length (members_of groups)) group.commands)
 
--- what a list sends with a Single behind it
+-- what a list sends with orders behind it that ask for one group more
+pub keys_sent_by : (to : Worker) (orders more : List ToWorker) (group : Group)
+    → (session_of (orders ++ more)).groups ≡ (session_of orders).groups ++ group ∷ []
+    → keys_sent to (orders ++ more) ≡ keys_sent to orders ++ new_sent to group (commands_of (session_of orders).groups) group.commands
+keys_sent_by to orders more group is = ap (sent_in to) is ∙ sent_more to (session_of orders).groups group
+
+-- and what it receives
+pub keys_received_by : (orders more : List ToWorker) (group : Group)
+    → (session_of (orders ++ more)).groups ≡ (session_of orders).groups ++ group ∷ []
+    → keys_received (orders ++ more) ≡ keys_received orders ++ new_received group group.commands
+keys_received_by orders more group is = ap received_in is ∙ received_more (session_of orders).groups group
+
+-- so with a Single behind it
 pub keys_sent_more : (to : Worker) (epoch instance : ℕ) (orders : List ToWorker) (commands : List Command) → (session_of orders).begun ≡ true
     → (session_of orders).epoch ≡ epoch
     → keys_sent to (orders ++ single_with epoch instance commands)
     ≡ keys_sent to orders ++ new_sent to (single_group epoch instance commands) (commands_of (session_of orders).groups) commands
 keys_sent_more to epoch instance orders [] begun same = ap (keys_sent to) (append-nil orders) ∙ sym (append-nil (keys_sent to orders))
 keys_sent_more to epoch instance orders (c ∷ cs) begun same =
-    ap (λ (s : Session). sent_in to s.groups) (single_counts epoch instance orders (c ∷ cs) begun same)
-    ∙ sent_more to (session_of orders).groups (single_group epoch instance (c ∷ cs))
+    keys_sent_by to orders (Single epoch instance (c ∷ cs) ∷ []) (single_group epoch instance (c ∷ cs))
+    (ap (λ (s : Session). s.groups) (single_counts epoch instance orders (c ∷ cs) begun same))
 
--- and what it receives
 pub keys_received_more : (epoch instance : ℕ) (orders : List ToWorker) (commands : List Command) → (session_of orders).begun ≡ true
     → (session_of orders).epoch ≡ epoch
     → keys_received (orders ++ single_with epoch instance commands)
     ≡ keys_received orders ++ new_received (single_group epoch instance commands) commands
 keys_received_more epoch instance orders [] begun same = ap keys_received (append-nil orders) ∙ sym (append-nil (keys_received orders))
 keys_received_more epoch instance orders (c ∷ cs) begun same =
-    ap (λ (s : Session). received_in s.groups) (single_counts epoch instance orders (c ∷ cs) begun same)
-    ∙ received_more (session_of orders).groups (single_group epoch instance (c ∷ cs))
+    keys_received_by orders (Single epoch instance (c ∷ cs) ∷ []) (single_group epoch instance (c ∷ cs))
+    (ap (λ (s : Session). s.groups) (single_counts epoch instance orders (c ∷ cs) begun same))

@@ -14,6 +14,7 @@ pub mod Pairs
 pub mod Places
 pub mod Puts
 pub mod Singles
+pub mod SoundRow
 pub mod Starts
 pub mod TaskPairs
 pub mod WorkedRows
