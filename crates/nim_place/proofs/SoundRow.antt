@@ -92,9 +92,10 @@ one_task_is_sound job base args slots may =
     record {
       found = (subst (λ (p : ℕ). legal (slice_get (tasks_of job) p) p) (sym position) found, tt);
       matched = record {
-        sent = All-nil (λ (one : Worker × ℕ). count_by (is_end one) [] ≡ 1);
-        received = All-nil (λ (one : Worker × ℕ). count_by (is_end one) [] ≡ 1);
+        sent = All-nil (λ (one : Worker × ℕ × Object). count_by (is_end one) [] ≡ 1);
+        received = All-nil (λ (one : Worker × ℕ × Object). count_by (is_end one) [] ≡ 1);
       };
+      owners = refl;
       runs = ap (λ (p : ℕ). (home, p) ∷ []) position;
       effect =
           All-cons (λ (item : Worker × Slot × ℕ). (walked (first_plane slots) ((home, run base) ∷ [])).slots item.0 item.1

@@ -110,20 +110,20 @@ AreFound job plane (c ∷ cs) =
 
 -- ---- the commands together
 
--- the worker and the entry that a Send goes to, and those of a Receive
-abbrev pub end_sent : Kind → List (Worker × ℕ)
-end_sent (Send slot peer entry) = (peer, entry) ∷ []
+-- where a Send goes to: the worker, the number of the entry that receives it, and the object; and those of a Receive
+abbrev pub end_sent : Kind → List (Worker × ℕ × Object)
+end_sent (Send slot peer entry) = (peer, entry, object_of slot) ∷ []
 end_sent _ = []
 
-abbrev pub end_received : Worker → ℕ → Kind → List (Worker × ℕ)
-end_received worker number (Receive slot version) = (worker, number) ∷ []
+abbrev pub end_received : Worker → ℕ → Kind → List (Worker × ℕ × Object)
+end_received worker number (Receive slot version) = (worker, number, object_of slot) ∷ []
 end_received worker number _ = []
 
-abbrev pub is_end : Worker × ℕ → Worker × ℕ → Bool
-is_end first second = (first.0.0 == second.0.0) && (first.1 == second.1)
+abbrev pub is_end : Worker × ℕ × Object → Worker × ℕ × Object → Bool
+is_end first second = (first.0.0 == second.0.0) && (first.1 == second.1) && (first.2.0 == second.2.0)
 
 -- each of these ends is among those once
-abbrev pub EachEndOnce : List (Worker × ℕ) → List (Worker × ℕ) → Type 0
+abbrev pub EachEndOnce : List (Worker × ℕ × Object) → List (Worker × ℕ × Object) → Type 0
 EachEndOnce ends those = All (λ one. count_by (is_end one) those ≡ 1) ends
 
 -- what is sent is received once, and what is received is sent once
@@ -166,6 +166,7 @@ pub record DoesTasks (template : WorkerTemplate) (job : Job) (base : ℕ) (slots
     (commands : List (Worker × Command)) : Type 0 where
   pub found : AreFound job (first_plane slots) commands
   pub matched : AreMatched commands
+  pub owners : length template.owners ≡ length template.forms
   pub runs : flat_map (λ (c : Worker × Command). run_by c.0 c.1.kind) commands ≡ owned_from base template.owners
   pub effect :
       All (λ (item : Worker × Slot × ℕ). (walked (first_plane slots) commands).slots item.0 item.1
