@@ -25,7 +25,8 @@ pub(crate) struct Moved {
 /// The commands that the task at a position needs, each with its worker, in the order in which they are given: each
 /// object that it reads, and whose latest version its owner lacks, is sent and received once, and then it runs. Their
 /// numbers are those of task `number` of a block. The map takes them in. `live` has a flag for each worker. Its
-/// meaning is `scheduled` of `specs/Schedule.antt`; where memory is refused, the map is as it was.
+/// meaning is `scheduled` of `specs/Schedule.antt`; where memory is refused, the map is as it was. What they keep true
+/// of all orders so far, each worker being given its own in one Single, stands in `specs/TaskOrders.antt`.
 pub fn schedule_task(
     alloc: Global,
     map: &mut VersionMap,
