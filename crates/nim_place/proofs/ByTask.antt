@@ -131,14 +131,14 @@ receives_ruled versions owner number reads run past (m ∷ ms) unmoved are last 
 
 -- ---- which of the commands are whose
 
-elsewhere : (owner worker from : Worker) → (owner.0 == worker.0) ≡ true → (from.0 ≡ owner.0 → ⊥) → (from.0 == worker.0) ≡ false
+pub elsewhere : (owner worker from : Worker) → (owner.0 == worker.0) ≡ true → (from.0 ≡ owner.0 → ⊥) → (from.0 == worker.0) ≡ false
 elsewhere owner worker from is apart = either (from.0 == worker.0) refl where
   either : (b : Bool) → (from.0 == worker.0) ≡ b → b ≡ false
   either true same = absurd (apart (eqb-true from.0 worker.0 same ∙ sym (eqb-true owner.0 worker.0 is)))
   either false same = refl
 
 -- the owner has what it receives
-for_owner : (versions : Versions) (owner worker : Worker) (number : ℕ) (reads : List Object) (ms : List Moved) → AreMoves versions owner reads ms
+pub for_owner : (versions : Versions) (owner worker : Worker) (number : ℕ) (reads : List Object) (ms : List Moved) → AreMoves versions owner reads ms
     → (owner.0 == worker.0) ≡ true
     → commands_for worker (copies_of versions number owner ms) ≡ map (λ (m : Moved). (receive_of versions number owner m).1) ms
 for_owner versions owner worker number reads [] are is = refl
@@ -160,7 +160,7 @@ chosen true f x xs = refl
 chosen false f x xs = refl
 
 -- another worker has what it sends
-for_other : (versions : Versions) (owner worker : Worker) (number : ℕ) (ms : List Moved) → (owner.0 == worker.0) ≡ false
+pub for_other : (versions : Versions) (owner worker : Worker) (number : ℕ) (ms : List Moved) → (owner.0 == worker.0) ≡ false
     → commands_for worker (copies_of versions number owner ms)
     ≡ map (λ (m : Moved). (send_of number owner m).1) (filter (λ (m : Moved). m.from.0 == worker.0) ms)
 for_other versions owner worker number [] is = refl

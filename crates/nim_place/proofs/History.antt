@@ -28,18 +28,18 @@ get_front [] ys n within = absurd (omega arith)
 get_front (x ∷ xs) ys zero within = refl
 get_front (x ∷ xs) ys (suc n) within = get_front xs ys n (omega arith)
 
-get_last : {X : Type 0} (xs : List X) (x : X) → slice_get (xs ++ x ∷ []) (length xs) ≡ Some x
+pub get_last : {X : Type 0} (xs : List X) (x : X) → slice_get (xs ++ x ∷ []) (length xs) ≡ Some x
 get_last [] x = refl
 get_last (y ∷ xs) x = get_last xs x
 
-holds_front : (xs ys : List Command) (n : ℕ) → n ≤ length xs → (slot : Slot) → holds (xs ++ ys) n slot ≡ holds xs n slot
+pub holds_front : (xs ys : List Command) (n : ℕ) → n ≤ length xs → (slot : Slot) → holds (xs ++ ys) n slot ≡ holds xs n slot
 holds_front xs ys zero within slot = refl
 holds_front xs ys (suc n) within slot =
     ap₂ (λ (h : Slot → Content) (o : Option Command). option_map_or (λ (c : Command). left_by c.kind h slot) o (h slot))
     (fun_ext (holds_front xs ys n (omega (arith, within)))) (get_front xs ys n (omega (arith, within)))
 
 -- what slots hold after one more command
-holds_last : (commands : List Command) (c : Command) (slot : Slot)
+pub holds_last : (commands : List Command) (c : Command) (slot : Slot)
     → holds (commands ++ c ∷ []) (length (commands ++ c ∷ [])) slot ≡ left_by c.kind (holds commands (length commands)) slot
 holds_last commands c slot =
     let n = length commands in

@@ -35,7 +35,7 @@ none_some {X} x is = false≢true (ap (λ (o : Option X). option_map_or (λ y. t
 some_same : {X : Type 0} (x y : X) → Some x ≡ Some y → x ≡ y
 some_same {X} x y is = ap (λ (o : Option X). option_map_or (λ (z : X). z) o x) is
 
-holder_facts : (versions : Versions) (object : Object) (from more : ℕ) (worker : Worker) → holder_from versions object from more ≡ Some worker
+pub holder_facts : (versions : Versions) (object : Object) (from more : ℕ) (worker : Worker) → holder_from versions object from more ≡ Some worker
     → (worker.0 < from + more) × (is_current versions object worker ≡ true)
 holder_facts versions object from zero worker is = absurd (none_some worker is)
 holder_facts versions object from (suc more) worker is =
@@ -53,7 +53,7 @@ holder_facts versions object from (suc more) worker is =
           (omega (arith, number), sym (ap (is_current versions object) same) ∙ test)
       either false test later further = let rest = later further in (omega (arith, rest.0), rest.1)
 
-source_facts : (versions : Versions) (owner : Worker) (past : List Object) (object : Object) (from : Worker) → source_of versions owner past object ≡ Some from
+pub source_facts : (versions : Versions) (owner : Worker) (past : List Object) (object : Object) (from : Worker) → source_of versions owner past object ≡ Some from
     → IsSource versions owner past object from
 source_facts versions owner past object from is = either (is_one_of past object) (is_current versions object owner) refl refl is where
   either : (a b : Bool) → is_one_of past object ≡ a → is_current versions object owner ≡ b → (if a || b then None else holder versions object) ≡ Some from

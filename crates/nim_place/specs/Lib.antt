@@ -1,5 +1,10 @@
+pub mod Extends
 pub mod Finds
+pub mod Orders
 pub mod Placement
 pub mod Schedule
+pub mod Sound
 pub mod Stands
+pub mod Starts
+pub mod TaskOrders
 pub mod Versions

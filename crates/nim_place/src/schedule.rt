@@ -4,8 +4,10 @@ ghost use Rattle.std.specs.List.{list_any};
 ghost use Rattle.nim_command.specs.Numbers as numbers;
 ghost use Rattle.nim_place.specs.declared.schedule.Moved.{Moved as moved_type};
 ghost use Rattle.nim_place.specs.Finds.{FindsLatest};
+ghost use Rattle.nim_place.specs.Extends.{is_live};
 ghost use Rattle.nim_place.specs.Schedule as spec;
 ghost use Rattle.nim_place.specs.Stands.{AreByRule, StandsOn};
+ghost use Rattle.nim_place.specs.TaskOrders.{AsksForMore, GoesOn, RunsAt, StaysCovered, StaysLegal, StaysPaired};
 ghost use Rattle.nim_place.specs.Versions.{after_commands};
 
 use crate::{Placement, VersionMap, home};
@@ -24,7 +26,8 @@ pub(crate) struct Moved {
 /// The commands that the task at a position needs, each with its worker, in the order in which they are given: each
 /// object that it reads, and whose latest version its owner lacks, is sent and received once, and then it runs. Their
 /// numbers are those of task `number` of a block. The map takes them in. `live` has a flag for each worker. Its
-/// meaning is `scheduled` of `specs/Schedule.antt`; where memory is refused, the map is as it was.
+/// meaning is `scheduled` of `specs/Schedule.antt`; where memory is refused, the map is as it was. What they keep true
+/// of all orders so far, each worker being given its own in one Single, stands in `specs/TaskOrders.antt`.
 pub fn schedule_task(
     alloc: Global,
     map: &mut VersionMap,
@@ -46,6 +49,13 @@ pub fn schedule_task(
     ensures finds { IfOk result (λ commands.
         FindsLatest map.old (spec.owner_of place.now task.now map.old.objects live.now) task.now number) }
     ensures by_rule { IfOk result (λ commands. AreByRule commands.items) }
+    ensures asked { IfOk result (λ commands. AsksForMore map.old live.now commands.items) }
+    ensures legal { IfOk result (λ commands. StaysLegal map.old live.now task.now position commands.items) }
+    ensures versions { OnOk result (
+        RunsAt map.old map.new (spec.owner_of place.now task.now map.old.objects live.now) task.now position) }
+    ensures next { OnOk result (GoesOn map.old map.new task.now position) }
+    ensures covered { IfOk result (λ commands. StaysCovered commands.items) }
+    ensures paired { IfOk result (λ commands. StaysPaired map.old live.now task.now number commands.items) }
 {
     let owner = owner_of(place, task, map.objects(), live);
     let moved = moves(alloc, map, owner, task.reads.as_slice())?;
@@ -63,6 +73,7 @@ fn owner_of(place: &Placement, task: &Task, objects: u16, live: &[bool]) -> Work
     requires writes { IsSomeAnd (slice_get task.now.writes 0) (λ object. object.0 < objects) }
     ensures value { result ≡ spec.owner_of place.now task.now objects live.now }
     ensures within { result.0 < length live.now }
+    ensures live { is_live live.now result ≡ true }
 {
     let first = task.writes.as_slice()[0];
     home(place, first, objects, live)

@@ -11,6 +11,7 @@ use nim_order::{
     never_stuck, orders_cover, versions_are_local,
 };
 use nim_parse::parse;
+use nim_place::{map_starts, orders_extend};
 use nim_plan::legal_by_steps;
 use nim_printed::{job_is_read, job_stands, tree_is_read, words_are_read};
 use sqlite_items::Items;
@@ -65,6 +66,8 @@ fn laws_of_orders(_rt: HostRuntime) -> Result<(), Fail> {
     front_stays();
     never_stuck();
     versions_are_local();
+    orders_extend();
+    map_starts();
     Ok(())
 }
 
