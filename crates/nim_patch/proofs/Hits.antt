@@ -4,7 +4,7 @@ use Rattle.std.specs.Prelude.{nat_lt, ◌&&◌, if◌then◌else◌, Option, Non
 use Rattle.std.specs.Map.{lookup, remove_entry}
 use Rattle.std.specs.Option.{option_map_or}
 use Rattle.std.proofs.lemmas.Bool.{cond-false, cond-true, le-ltb, lt-ltb, true≢false}
-use Rattle.std.proofs.lemmas.Bool.Decides.{nat_tests}
+use Rattle.std.proofs.Math.Dec.{leb-suc-suc}
 use Rattle.nim_patch.specs.declared.kept.Key.{Key}
 use Rattle.nim_patch.specs.declared.kept.Kept.{Kept}
 use Rattle.nim_patch.specs.declared.patch.PatchCopy.{PatchCopy}
@@ -23,13 +23,16 @@ stands_used latest uses kept is =
 lookup_taken : (key : Key) (n : ℕ) (uses : List Use)
     → lookup (same_key key) (take n uses) ≡ (if nat_lt (length (since key uses)) n then lookup (same_key key) uses else None)
 lookup_taken key zero uses = sym (cond-false (nat_lt (length (since key uses)) 0) (lookup (same_key key) uses) None (le-ltb (length (since key uses)) 0 (omega arith)))
-lookup_taken key (suc n) [] = refl
+lookup_taken key (suc n) [] = either (nat_lt 0 (suc n)) where
+  either : (b : Bool) → None ≡ (if b then None else None)
+  either true = refl
+  either false = refl
 lookup_taken key (suc n) (latest ∷ past) = by (same_key key latest.0) (lookup_taken key n past) where
   by : (b : Bool) → lookup (same_key key) (take n past) ≡ (if nat_lt (length (since key past)) n then lookup (same_key key) past else None)
       → (if b then Some latest.1 else lookup (same_key key) (take n past))
       ≡ (if nat_lt (length (if b then [] else latest ∷ since key past)) (suc n) then (if b then Some latest.1 else lookup (same_key key) past) else None)
   by true rest = sym (cond-true (nat_lt 0 (suc n)) (Some latest.1) None (lt-ltb 0 (suc n) (omega arith)))
-  by false rest = rest ∙ ap (λ (b : Bool). if b then lookup (same_key key) past else None) (grind (arith, nat_tests))
+  by false rest = rest ∙ ap (λ (b : Bool). if b then lookup (same_key key) past else None) (sym (leb-suc-suc (suc (length (since key past))) n))
 
 -- the pairs before a key's, without another key's
 since_removed : (other key : Key) → same_key key other ≡ false → (uses : List Use)
