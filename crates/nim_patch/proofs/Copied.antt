@@ -1,17 +1,16 @@
 -- What a map holds behind copies of latest versions.
-use Rattle.std.proofs.Common.{◌≡◌, ℕ, ◌<◌, Bool, true, false, List, [], ◌∷◌, length, get_or, set, refl, ap, ap₂, sym, subst, ◌∙◌, arith}
-use Rattle.std.specs.Prelude.{◌==◌, ◌&&◌, ◌||◌, nat_lt, max, if◌then◌else◌, Option, None, Some}
-use Rattle.std.proofs.lemmas.Bool.{and_parts, eqb-true, false≢true, lt-ltb}
+use Rattle.std.proofs.Common.{◌≡◌, ℕ, Bool, true, false, List, [], ◌∷◌, get_or, set, refl, ap, ap₂, sym, subst, ◌∙◌, arith}
+use Rattle.std.specs.Prelude.{◌==◌, ◌&&◌, ◌||◌, nat_lt, max, if◌then◌else◌, Option, Some}
+use Rattle.std.proofs.lemmas.Bool.{and_parts, eqb-true, false≢true}
 use Rattle.std.proofs.lemmas.List.{set-get_or}
-use Rattle.nim_base.specs.declared.number.Object.{Object}
 use Rattle.nim_base.specs.declared.number.Slot.{Slot}
 use Rattle.nim_base.specs.declared.number.Worker.{Worker}
 use Rattle.nim_command.specs.Numbers.{main_slot}
 use Rattle.nim_patch.specs.declared.patch.PatchCopy.{PatchCopy}
 use Rattle.nim_patch.specs.Mends.{is_target}
 use Rattle.nim_patch.specs.Patches.{after_copies, after_copy}
-use Rattle.nim_place.specs.Versions.{Versions, held_at, is_kept, latest_of, place_of, with_version}
-use Rattle.nim_place.proofs.Puts.{IsPut, IsWhole, kept_bounds, kept_for, put_one, whole_after}
+use Rattle.nim_place.specs.Versions.{Versions, held_at, is_kept, latest_of, place_of}
+use Rattle.nim_place.proofs.Puts.{IsPut, IsWhole, kept_bounds, put_one, whole_after}
 
 -- a map behind copies, and the map before
 pub record IsCopied (before : Versions) (copies : List PatchCopy) (after : Versions) : Type 0 where

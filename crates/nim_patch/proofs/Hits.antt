@@ -9,7 +9,7 @@ use Rattle.nim_patch.specs.declared.kept.Key.{Key}
 use Rattle.nim_patch.specs.declared.kept.Kept.{Kept}
 use Rattle.nim_patch.specs.declared.patch.PatchCopy.{PatchCopy}
 use Rattle.nim_patch.specs.Cache.{after_use, found, number_if_equal}
-use Rattle.nim_patch.specs.Uses.{StandsFor, Use, hit, is_hit, keys_in, lasts, same_copies, same_key, since, used}
+use Rattle.nim_patch.specs.Uses.{StandsFor, Use, hit, keys_in, lasts, same_copies, same_key, since, used}
 use Rattle.nim_patch.proofs.Entries.{take_removed}
 use Rattle.nim_patch.proofs.Tests.{key_apart}
 
@@ -24,7 +24,7 @@ lookup_taken : (key : Key) (n : ℕ) (uses : List Use)
     → lookup (same_key key) (take n uses) ≡ (if nat_lt (length (since key uses)) n then lookup (same_key key) uses else None)
 lookup_taken key zero uses = sym (cond-false (nat_lt (length (since key uses)) 0) (lookup (same_key key) uses) None (le-ltb (length (since key uses)) 0 (omega arith)))
 lookup_taken key (suc n) [] = either (nat_lt 0 (suc n)) where
-  either : (b : Bool) → None ≡ (if b then None else None)
+  either : (b : Bool) → ◌≡◌ {A = Option Kept} None (if b then None else None)
   either true = refl
   either false = refl
 lookup_taken key (suc n) (latest ∷ past) = by (same_key key latest.0) (lookup_taken key n past) where
@@ -89,7 +89,7 @@ both_ways copies true (Some kept) = by (same_copies kept.patch.copies copies) wh
   by true = refl
   by false = refl
 both_ways copies false (Some kept) = by (same_copies kept.patch.copies copies) where
-  by : (b : Bool) → None ≡ (if b && false then Some kept.number else None)
+  by : (b : Bool) → ◌≡◌ {A = Option ℕ} None (if b && false then Some kept.number else None)
   by true = refl
   by false = refl
 

@@ -1,3 +1,4 @@
+pub mod Calls
 pub mod Copied
 pub mod Entries
 pub mod Flags

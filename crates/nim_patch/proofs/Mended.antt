@@ -1,6 +1,6 @@
 -- Behind the copies of a patch no precondition fails.
-use Rattle.std.proofs.Common.{◌≡◌, ℕ, ◌<◌, Bool, true, false, not, List, [], ◌∷◌, get_or, Contains, refl, ap, ap₂, sym, subst, ◌∙◌, arith, eq-eqb, ltb-true, inl, inr, ◌⊎◌}
-use Rattle.std.specs.Prelude.{◌==◌, ◌&&◌, ◌||◌, if◌then◌else◌, Option, None, Some, option_map, is_some}
+use Rattle.std.proofs.Common.{◌≡◌, ℕ, ◌<◌, Bool, true, false, not, List, [], ◌∷◌, get_or, Contains, refl, ap, ap₂, sym, subst, ◌∙◌, eq-eqb, inl, inr}
+use Rattle.std.specs.Prelude.{◌==◌, ◌&&◌, if◌then◌else◌, Option, None, Some, option_map, is_some}
 use Rattle.std.specs.Option.{option_map_or}
 use Rattle.std.proofs.lemmas.Bool.{and_from, false≢true, or_left, or_right}
 use Rattle.lru.proofs.Splits.{Contains-cons, Contains-nil}
@@ -11,7 +11,7 @@ use Rattle.nim_command.specs.Numbers.{main_slot}
 use Rattle.nim_command.specs.declared.command.Command.{Command}
 use Rattle.nim_patch.specs.declared.patch.PatchCopy.{PatchCopy}
 use Rattle.nim_patch.specs.Mends.{Mends, is_target}
-use Rattle.nim_patch.specs.Patches.{after_copies, copies_of, copy_first, copy_from, copy_if, fails}
+use Rattle.nim_patch.specs.Patches.{after_copies, copies_of, copy_first, copy_from, copy_of, fails}
 use Rattle.nim_patch.proofs.Copied.{IsCopied, copied_all, same_slots}
 use Rattle.nim_patch.proofs.Sources.{found_from}
 use Rattle.nim_place.specs.Stands.{Stands}
@@ -44,7 +44,7 @@ still_target (Some copy) copies worker slot is = or_right ((copy.object.0 == slo
 -- the copy of a precondition that fails
 first_target : (versions : Versions) (precondition : Worker × Object) (copies : List PatchCopy) → fails versions precondition ≡ true
     → is_some (holder versions precondition.1) ≡ true
-    → is_target (copy_first (copy_if (fails versions precondition) versions precondition) copies) precondition.0 (main_slot precondition.1) ≡ true
+    → is_target (copy_first (copy_of versions precondition) copies) precondition.0 (main_slot precondition.1) ≡ true
 first_target versions precondition copies wanted some = by (fails versions precondition) (holder versions precondition.1) wanted some where
   by : (b : Bool) (o : Option Worker) → b ≡ true → is_some o ≡ true
       → is_target (copy_first (if b then option_map (copy_from precondition) o else None) copies) precondition.0 (main_slot precondition.1) ≡ true
@@ -63,7 +63,7 @@ targeted versions [] precondition among wanted some = absurd (Contains-nil preco
 targeted versions (first ∷ rest) precondition among wanted some = elim (Contains-cons first rest precondition among) [
   | inl same ↦ subst (λ (p : Worker × Object). is_target (copies_of versions (p ∷ rest)) precondition.0 (main_slot precondition.1) ≡ true) (sym same)
       (first_target versions precondition (copies_of versions rest) wanted some)
-  | inr later ↦ still_target (copy_if (fails versions first) versions first) (copies_of versions rest) precondition.0 (main_slot precondition.1)
+  | inr later ↦ still_target (copy_of versions first) (copies_of versions rest) precondition.0 (main_slot precondition.1)
       (targeted versions rest precondition later wanted some)
 ]
 

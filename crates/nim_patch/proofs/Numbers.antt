@@ -1,5 +1,5 @@
 -- Which number a patch gets, and that each number is that of one patch.
-use Rattle.std.proofs.Common.{◌≡◌, ℕ, zero, suc, ◌+◌, ◌-◌, ◌<◌, ◌≤◌, Bool, true, false, List, [], ◌∷◌, length, take, refl, ap, ap₂, sym, subst, ◌∙◌, arith, take_all, eq-eqb, inl, inr}
+use Rattle.std.proofs.Common.{◌≡◌, ℕ, zero, suc, ◌+◌, ◌-◌, ◌<◌, ◌≤◌, Bool, true, false, List, [], ◌∷◌, length, take, refl, ap, sym, subst, ◌∙◌, arith, take_all, eq-eqb, inl, inr}
 use Rattle.std.specs.Prelude.{◌==◌, nat_lt, if◌then◌else◌, Option, None, Some, slice_get, unwrap_or}
 use Rattle.std.specs.Map.{lookup, lookup_entry, remove_entry}
 use Rattle.std.specs.Option.{option_map_or}
@@ -138,7 +138,7 @@ one_more key copies kept numbered number =
     count n m = grind (arith, nat_tests)
 
 -- a cache stays valid when a patch is kept under its number again
-valid_again : (key : Key) (copies : List PatchCopy) (kept : List Use) (e : Use) → IsValid kept → IsFound (same_key key) kept e
+pub valid_again : (key : Key) (copies : List PatchCopy) (kept : List Use) (e : Use) → IsValid kept → IsFound (same_key key) kept e
     → IsValid (after_use (use_of key e.1.number copies) kept)
 valid_again key copies kept e valid is =
     let few = valid.few in

@@ -1,11 +1,11 @@
 -- Where the copies of a patch come from.
-use Rattle.std.proofs.Common.{◌≡◌, ℕ, zero, suc, ◌+◌, ◌<◌, ◌≤◌, Bool, true, false, List, [], ◌∷◌, refl, ap, sym, subst, ◌∙◌, arith, inl, inr}
+use Rattle.std.proofs.Common.{◌≡◌, ℕ, zero, suc, ◌+◌, ◌<◌, ◌≤◌, Bool, true, false, List, [], ◌∷◌, refl, ap, subst, ◌∙◌, arith, inl, inr}
 use Rattle.std.specs.Prelude.{if◌then◌else◌, Option, None, Some, option_map}
-use Rattle.std.proofs.lemmas.Bool.{cases_eq, false≢true}
+use Rattle.std.proofs.lemmas.Bool.{cases_eq}
 use Rattle.nim_base.specs.declared.number.Object.{Object}
 use Rattle.nim_base.specs.declared.number.Worker.{Worker}
 use Rattle.nim_patch.specs.Mends.{AreSourced, IsSourced}
-use Rattle.nim_patch.specs.Patches.{copies_of, copy_first, copy_from, copy_if, fails}
+use Rattle.nim_patch.specs.Patches.{copies_of, copy_first, copy_from, fails}
 use Rattle.nim_place.specs.Versions.{Versions, holder, holder_from, is_current}
 
 -- a worker holds the latest version, and none from one on that is lower

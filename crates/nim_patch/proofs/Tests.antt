@@ -1,10 +1,8 @@
 -- What the tests for equal keys and equal copies say.
-use Rattle.std.proofs.Common.{◌≡◌, ℕ, Bool, true, false, List, refl, ap, ap₂, sym, ◌∙◌, eq-eqb, eqb-true, Decides}
+use Rattle.std.proofs.Common.{◌≡◌, ℕ, true, false, List, refl, ap, ap₂, sym, ◌∙◌, eq-eqb, eqb-true, Decides}
 use Rattle.std.specs.Prelude.{◌==◌, ◌&&◌}
 use Rattle.std.proofs.lemmas.Bool.{and_from, and_parts}
 use Rattle.std.proofs.lemmas.Slice.Eq.{slice_eq-Decides}
-use Rattle.nim_base.specs.declared.number.Object.{Object}
-use Rattle.nim_base.specs.declared.number.Worker.{Worker}
 use Rattle.nim_patch.specs.declared.kept.Key.{Key}
 use Rattle.nim_patch.specs.declared.patch.PatchCopy.{PatchCopy}
 use Rattle.nim_patch.specs.Uses.{key_of, same_copies, same_copy, same_key}

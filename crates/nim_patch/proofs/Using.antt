@@ -1,5 +1,5 @@
 -- What the kit's cache does is a use.
-use Rattle.std.proofs.Common.{◌≡◌, ℕ, ◌+◌, ◌-◌, ◌≤◌, Bool, true, false, List, [], ◌∷◌, length, take, refl, ap, ap₂, sym, subst, ◌∙◌, arith, take_all}
+use Rattle.std.proofs.Common.{◌≡◌, ℕ, ◌-◌, ◌≤◌, Bool, true, false, List, ◌∷◌, length, take, refl, ap, sym, subst, ◌∙◌, arith, take_all}
 use Rattle.std.specs.Prelude.{if◌then◌else◌, Option, None, Some}
 use Rattle.std.specs.Map.{lookup, lookup_entry, remove_entry}
 use Rattle.std.specs.Option.{option_map_or}
@@ -8,7 +8,7 @@ use Rattle.nim_patch.specs.declared.kept.Key.{Key}
 use Rattle.nim_patch.specs.declared.kept.Kept.{Kept}
 use Rattle.nim_patch.specs.declared.patch.PatchCopy.{PatchCopy}
 use Rattle.nim_patch.specs.Cache.{after_find, after_use, found, number_if_equal}
-use Rattle.nim_patch.specs.Uses.{StandsFor, Use, same_copies, same_key, use_of, used}
+use Rattle.nim_patch.specs.Uses.{Use, same_copies, same_key, use_of}
 use Rattle.nim_patch.proofs.Entries.{IsFound, IsMissing, find_entry, miss_entry}
 use Rattle.nim_patch.proofs.Tests.{copies_equal, key_equal}
 
@@ -25,7 +25,7 @@ kept_new key value kept is = ap (λ (l : List Use). (key, value) ∷ take 63 l) 
 pub record IsKept (key : Key) (number : ℕ) (copies : List PatchCopy) (kept : List Use) : Type 0 where
   pub entry : IsFound (same_key key) kept (use_of key number copies)
 
-found_kept : (key : Key) (copies : List PatchCopy) (number : ℕ) (kept : List Use) → found key copies kept ≡ Some number → IsKept key number copies kept
+pub found_kept : (key : Key) (copies : List PatchCopy) (number : ℕ) (kept : List Use) → found key copies kept ≡ Some number → IsKept key number copies kept
 found_kept key copies number kept is = by (lookup (same_key key) kept) refl is where
   equal : (k : Kept) → lookup (same_key key) kept ≡ Some k → (b : Bool) → same_copies k.patch.copies copies ≡ b → (if b then Some k.number else None) ≡ Some number
       → IsKept key number copies kept

@@ -1,7 +1,6 @@
 -- Worked by hand, and computed: two workers, a[0] and b[0] at home at worker 0, a[1] and b[1] at worker 1. A block that
 -- reads a[0] and a[1] at both workers takes turns with one that writes each at its home; four instances ran, of two tasks.
 use Rattle.std.proofs.Common.{◌≡◌, ℕ, true, false, List, [], ◌∷◌, refl, Some, None}
-use Rattle.std.specs.Prelude.{Option}
 use Rattle.nim_base.specs.declared.number.Object.{Object}
 use Rattle.nim_base.specs.declared.number.Worker.{Worker}
 use Rattle.nim_patch.specs.declared.patch.PatchCopy.{PatchCopy}

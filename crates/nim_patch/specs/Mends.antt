@@ -1,5 +1,5 @@
 -- What a patch is for: behind its copies no precondition fails, and nothing else has changed.
-use Rattle.std.specs.Prelude.{◌≡◌, ℕ, ◌<◌, ◌==◌, Bool, ◌&&◌, true, false, List}
+use Rattle.std.specs.Prelude.{◌≡◌, ◌<◌, ◌==◌, Bool, ◌&&◌, true, false, List}
 use Rattle.std.specs.List.{AllByRecursion, Contains, list_any}
 use Rattle.std.specs.Option.{is_some}
 use Rattle.nim_base.specs.declared.number.Object.{Object}

@@ -23,9 +23,9 @@ failing_in versions preconditions = count_by (fails versions) preconditions
 abbrev pub copy_from : Worker × Object → Worker → PatchCopy
 copy_from precondition from = record { from = from; to = precondition.0; object = precondition.1 }
 
--- the copy for a precondition, from the lowest worker whose main slot holds the latest version, if it is wanted
-abbrev pub copy_if : Bool → Versions → Worker × Object → Option PatchCopy
-copy_if wanted versions precondition = if wanted then option_map (copy_from precondition) (holder versions precondition.1) else None
+-- the copy for a precondition that fails, from the lowest worker whose main slot holds the latest version
+abbrev pub copy_of : Versions → Worker × Object → Option PatchCopy
+copy_of versions precondition = if fails versions precondition then option_map (copy_from precondition) (holder versions precondition.1) else None
 
 -- a copy, if there is one, before others
 abbrev pub copy_first : Option PatchCopy → List PatchCopy → List PatchCopy
@@ -35,7 +35,7 @@ copy_first (Some copy) copies = copy ∷ copies
 -- The copies of a patch: one for each precondition that fails, in their order.
 abbrev pub copies_of : Versions → List (Worker × Object) → List PatchCopy
 copies_of versions [] = []
-copies_of versions (precondition ∷ rest) = copy_first (copy_if (fails versions precondition) versions precondition) (copies_of versions rest)
+copies_of versions (precondition ∷ rest) = copy_first (copy_of versions precondition) (copies_of versions rest)
 
 -- a copy puts the latest version of its object into the receiver's main slot
 abbrev pub after_copy : Versions → PatchCopy → Versions

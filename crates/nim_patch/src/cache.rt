@@ -21,16 +21,16 @@ pub struct PatchCache {
 }
 
 impl Model for PatchCache {
-    ghost use Rattle.std.specs.Prelude.{◌≡◌, ◌×◌, List};
+    ghost use Rattle.std.specs.Prelude.{◌≡◌, List};
     ghost use Rattle.std.specs.Coded.{coded_list, coded×};
     ghost use Rattle.nim_patch.specs.Cache.{IsValid};
     ghost use Rattle.nim_patch.specs.Uses.{Use};
-    ghost use Rattle.nim_patch.specs.contracts.kept.Key as key;
-    ghost use Rattle.nim_patch.specs.contracts.kept.Kept as kept;
+    ghost use Rattle.nim_patch.specs.contracts.kept.Key as key_type;
+    ghost use Rattle.nim_patch.specs.contracts.kept.Kept as kept_type;
 
     ghost Value = { List Use };
 
-    ghost coded = { coded_list (coded× key.the_row.coded kept.the_row.coded) };
+    ghost coded = { coded_list (coded× key_type.the_row.coded kept_type.the_row.coded) };
 
     ghost view = { λ c. c.kept.entries };
 

@@ -1,4 +1,4 @@
-ghost use Rattle.std.specs.Prelude.{◌≡◌, ◌×◌, List, length, IfOk};
+ghost use Rattle.std.specs.Prelude.{◌≡◌, List, length, IfOk};
 ghost use Rattle.nim_command.specs.declared.command.Command.{Command};
 ghost use Rattle.nim_base.specs.declared.number.Worker.{Worker as worker_type};
 ghost use Rattle.nim_patch.specs.Mends.{AreSourced, Mends};
@@ -77,9 +77,10 @@ fn fails(map: &VersionMap, precondition: &(Worker, Object)) -> bool
     !map.is_current(precondition.1, precondition.0)
 }
 
-/// The copy for a precondition, if it fails.
+/// The copy for a precondition, where it fails.
 fn copy_of(map: &VersionMap, fails: bool, precondition: &(Worker, Object)) -> Option<PatchCopy>
-    ensures { result ≡ spec.copy_if fails map.now precondition.now }
+    requires { fails ≡ spec.fails map.now precondition.now }
+    ensures { result ≡ spec.copy_of map.now precondition.now }
 {
     if !fails {
         return None;
