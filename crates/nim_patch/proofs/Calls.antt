@@ -29,7 +29,8 @@ oldest_free entries kept last same valid full is =
     ∙ sym (ap (λ (o : Option ℕ). unwrap_or o (oldest_number entries)) (none_is_free entries valid.numbered full)))
 
 -- either is below 64
-pub chosen_below : (entries kept : List Use) (number : ℕ) → entries ≡ kept → IsValid entries → number ≡ unwrap_or (least_free kept) (oldest_number kept) → number < 64
+pub chosen_below : (entries kept : List Use) (number : ℕ) → entries ≡ kept → IsValid entries → number ≡ unwrap_or (least_free kept) (oldest_number kept)
+    → number < 64
 chosen_below entries kept number same valid is = subst (λ (n : ℕ). n < 64) (sym is) (free_below kept (subst IsValid same valid))
 
 -- a find that answers a number
@@ -48,13 +49,14 @@ finds key copies number entries old new same valid told moved =
     = kept ∙ ap (λ (o : Option ℕ). option_map_or (λ (n : ℕ). after_use (use_of key n copies) old) o old) (sym told) in
     record {
       kept = kept;
-      valid = subst IsValid (sym used) (valid_again key copies old (use_of key number copies) whole (found_kept key copies number old (sym told)).entry);
+      valid = subst IsValid (sym used) (valid_again key copies old (use_of key number copies) whole (found_kept key copies number old (sym told)));
       hits = λ uses stands. told ∙ found_hits key copies uses old stands;
       stands = λ uses stands. used ∙ stands_used (use_of key number copies) uses old stands;
     }
 
 -- one that answers none
-pub misses : (key : Key) (copies : List PatchCopy) (old : List Use) → None ≡ found key copies old → (uses : List Use) → StandsFor uses old → None ≡ hit key copies uses
+pub misses : (key : Key) (copies : List PatchCopy) (old : List Use) → None ≡ found key copies old → (uses : List Use) → StandsFor uses old → None
+    ≡ hit key copies uses
 misses key copies old told uses stands = told ∙ found_hits key copies uses old stands
 
 -- a keeping

@@ -44,7 +44,8 @@ not_held true false latest rest not = refl
 not_held false c latest rest not = refl
 
 -- two times
-both_held : (b c : Bool) (latest : ℕ) (rest : Option ℕ) → (if c then Some latest else (if b || false then Some latest else rest)) ≡ (if b || c then Some latest else rest)
+both_held : (b c : Bool) (latest : ℕ) (rest : Option ℕ) → (if c then Some latest else (if b || false then Some latest else rest))
+    ≡ (if b || c then Some latest else rest)
 both_held true true latest rest = refl
 both_held true false latest rest = refl
 both_held false true latest rest = refl
@@ -80,7 +81,8 @@ copied_one versions copy whole = either (is_kept versions copy.to (main_slot cop
         whole = whole_after versions copy.to (latest_of versions copy.object) (main_slot copy.object ∷ []) (choose true) put whole;
         latest = ap (λ (n : ℕ). set versions.latest copy.object.0 n) (max_same (latest_of versions copy.object)) ∙ set-get_or versions.latest copy.object.0 0;
         held = λ worker slot there. put.held worker slot there
-            ∙ copy_held (copy.object.0 == slot.0) (copy.to.0 == worker.0) (get_or versions.latest slot.0 0) (latest_of versions copy.object) (held_at versions worker slot)
+            ∙ copy_held (copy.object.0 == slot.0) (copy.to.0 == worker.0) (get_or versions.latest slot.0 0) (latest_of versions copy.object)
+            (held_at versions worker slot)
             (λ is. ap (λ (n : ℕ). get_or versions.latest n 0) (eqb-true copy.object.0 slot.0 is));
       }
   either false kept = record {
@@ -93,7 +95,8 @@ copied_one versions copy whole = either (is_kept versions copy.to (main_slot cop
   }
 
 -- one copy, and then others
-copied_then : (before between after : Versions) (copy : PatchCopy) (copies : List PatchCopy) → IsCopied before (copy ∷ []) between → IsCopied between copies after
+copied_then : (before between after : Versions) (copy : PatchCopy) (copies : List PatchCopy) → IsCopied before (copy ∷ []) between
+    → IsCopied between copies after
     → IsCopied before (copy ∷ copies) after
 copied_then before between after copy copies one rest = record {
   workers = rest.workers ∙ one.workers;
@@ -104,7 +107,8 @@ copied_then before between after copy copies one rest = record {
       let choose : List ℕ → Option ℕ → Option ℕ = λ l o. if is_target copies worker slot then Some (get_or l slot.0 0) else o in
       rest.held worker slot (same_slots before between worker slot one.workers one.objects ∙ there)
       ∙ ap₂ choose one.latest (one.held worker slot there)
-      ∙ both_held ((copy.object.0 == slot.0) && (copy.to.0 == worker.0)) (is_target copies worker slot) (get_or before.latest slot.0 0) (held_at before worker slot);
+      ∙ both_held ((copy.object.0 == slot.0) && (copy.to.0 == worker.0)) (is_target copies worker slot) (get_or before.latest slot.0 0)
+      (held_at before worker slot);
 }
 
 -- all of them

@@ -22,7 +22,8 @@ stands_used latest uses kept is =
 -- what the first n pairs find: the pair of a key, where fewer than n are before it
 lookup_taken : (key : Key) (n : ℕ) (uses : List Use)
     → lookup (same_key key) (take n uses) ≡ (if nat_lt (length (since key uses)) n then lookup (same_key key) uses else None)
-lookup_taken key zero uses = sym (cond-false (nat_lt (length (since key uses)) 0) (lookup (same_key key) uses) None (le-ltb (length (since key uses)) 0 (omega arith)))
+lookup_taken key zero uses =
+    sym (cond-false (nat_lt (length (since key uses)) 0) (lookup (same_key key) uses) None (le-ltb (length (since key uses)) 0 (omega arith)))
 lookup_taken key (suc n) [] = either (nat_lt 0 (suc n)) where
   either : (b : Bool) → ◌≡◌ {A = Option Kept} None (if b then None else None)
   either true = refl
@@ -40,8 +41,10 @@ since_removed : (other key : Key) → same_key key other ≡ false → (uses : L
 since_removed other key apart [] = refl
 since_removed other key apart (latest ∷ past) =
     by (same_key other latest.0) (same_key key latest.0) refl refl (since_removed other key apart past) where
-      by : (s t : Bool) → same_key other latest.0 ≡ s → same_key key latest.0 ≡ t → since key (remove_entry (same_key other) past) ≡ remove_entry (same_key other) (since key past)
-          → since key (if s then past else latest ∷ remove_entry (same_key other) past) ≡ remove_entry (same_key other) (if t then [] else latest ∷ since key past)
+      by : (s t : Bool) → same_key other latest.0 ≡ s → same_key key latest.0 ≡ t → since key (remove_entry (same_key other) past)
+          ≡ remove_entry (same_key other) (since key past)
+          → since key (if s then past else latest ∷ remove_entry (same_key other) past)
+          ≡ remove_entry (same_key other) (if t then [] else latest ∷ since key past)
       by true true is it rest = absurd (true≢false (sym it ∙ key_apart other key latest.0 is apart))
       by true false is it rest = sym (cond-true (same_key other latest.0) (since key past) (latest ∷ remove_entry (same_key other) (since key past)) is)
       by false true is it rest = cond-true (same_key key latest.0) [] (latest ∷ since key (remove_entry (same_key other) past)) it
@@ -51,11 +54,13 @@ since_removed other key apart (latest ∷ past) =
           ∙ sym (cond-false (same_key other latest.0) (since key past) (latest ∷ remove_entry (same_key other) (since key past)) is)
 
 -- what is found without another key's
-lookup_removed : (other key : Key) → same_key key other ≡ false → (uses : List Use) → lookup (same_key key) (remove_entry (same_key other) uses) ≡ lookup (same_key key) uses
+lookup_removed : (other key : Key) → same_key key other ≡ false → (uses : List Use) → lookup (same_key key) (remove_entry (same_key other) uses)
+    ≡ lookup (same_key key) uses
 lookup_removed other key apart [] = refl
 lookup_removed other key apart (latest ∷ past) = by (same_key other latest.0) refl (lookup_removed other key apart past) where
   by : (s : Bool) → same_key other latest.0 ≡ s → lookup (same_key key) (remove_entry (same_key other) past) ≡ lookup (same_key key) past
-      → lookup (same_key key) (if s then past else latest ∷ remove_entry (same_key other) past) ≡ (if same_key key latest.0 then Some latest.1 else lookup (same_key key) past)
+      → lookup (same_key key) (if s then past else latest ∷ remove_entry (same_key other) past)
+      ≡ (if same_key key latest.0 then Some latest.1 else lookup (same_key key) past)
   by true is rest = sym (cond-false (same_key key latest.0) (Some latest.1) (lookup (same_key key) past) (key_apart other key latest.0 is apart))
   by false is rest = ap (λ (o : Option Kept). if same_key key latest.0 then Some latest.1 else o) rest
 
@@ -74,7 +79,8 @@ lookup_lasts : (key : Key) (uses : List Use) → lookup (same_key key) (lasts us
 lookup_lasts key [] = refl
 lookup_lasts key (latest ∷ past) = by (same_key key latest.0) refl (lookup_lasts key past) where
   by : (t : Bool) → same_key key latest.0 ≡ t → lookup (same_key key) (lasts past) ≡ lookup (same_key key) past
-      → (if t then Some latest.1 else lookup (same_key key) (remove_entry (same_key latest.0) (lasts past))) ≡ (if t then Some latest.1 else lookup (same_key key) past)
+      → (if t then Some latest.1 else lookup (same_key key) (remove_entry (same_key latest.0) (lasts past)))
+      ≡ (if t then Some latest.1 else lookup (same_key key) past)
   by true is rest = refl
   by false is rest = lookup_removed latest.0 key is (lasts past) ∙ rest
 

@@ -19,9 +19,12 @@ use Rattle.nim_place.specs.Versions.{Versions, held_at, holder, is_current, is_k
 use Rattle.nim_place.proofs.Puts.{IsWhole, kept_bounds, kept_for}
 
 -- where a slot holds the latest version, the map has it
-current_kept : (versions : Versions) (object : Object) (worker : Worker) → is_current versions object worker ≡ true → is_kept versions worker (main_slot object) ≡ true
+current_kept : (versions : Versions) (object : Object) (worker : Worker) → is_current versions object worker ≡ true
+    → is_kept versions worker (main_slot object) ≡ true
 current_kept versions object worker is = by (is_kept versions worker (main_slot object)) is where
-  by : (b : Bool) → option_map_or (λ (n : ℕ). n == latest_of versions object) (if b then get_or versions.held (place_of versions worker (main_slot object)) None else None) false ≡ true
+  by : (b : Bool)
+      → option_map_or (λ (n : ℕ). n == latest_of versions object)
+      (if b then get_or versions.held (place_of versions worker (main_slot object)) None else None) false ≡ true
       → b ≡ true
   by true is = refl
   by false is = absurd (false≢true is)
@@ -77,7 +80,8 @@ holds_then false o latest copied = by (option_map_or (λ (n : ℕ). n == latest)
   by false copied = copied refl
 
 -- what a patch is for
-pub patch_mends : (versions : Versions) (preconditions : List (Worker × Object)) → IsWhole versions → Mends versions preconditions (copies_of versions preconditions)
+pub patch_mends : (versions : Versions) (preconditions : List (Worker × Object)) → IsWhole versions
+    → Mends versions preconditions (copies_of versions preconditions)
 patch_mends versions preconditions whole = record { holds = holds; others = others; latest = λ object. latest object } where
   done : IsCopied versions (copies_of versions preconditions) (after_copies versions (copies_of versions preconditions))
   done = copied_all versions (copies_of versions preconditions) whole

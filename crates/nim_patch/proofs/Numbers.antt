@@ -26,10 +26,12 @@ free : (kept : List Use) → AreNumbered kept → (number : ℕ) → length kept
 free kept numbered number above = numbered number ∙ cond-false (nat_lt number (length kept)) 1 0 (le-ltb number (length kept) above)
 
 -- the first free number is the length
-free_at : (kept : List Use) → AreNumbered kept → (from more : ℕ) → from ≤ length kept → length kept < from + more → free_from kept from more ≡ Some (length kept)
+free_at : (kept : List Use) → AreNumbered kept → (from more : ℕ) → from ≤ length kept → length kept < from + more → free_from kept from more
+    ≡ Some (length kept)
 free_at kept numbered from zero low high = absurd (omega arith)
 free_at kept numbered from (suc more) low high = elim (cases_eq from (length kept)) [
-  | inl same ↦ ap (λ (n : ℕ). if n == 0 then Some from else free_from kept (from + 1) more) (free kept numbered from (omega arith)) ∙ ap (λ (n : ℕ). Some n) same
+  | inl same ↦ ap (λ (n : ℕ). if n == 0 then Some from else free_from kept (from + 1) more) (free kept numbered from (omega arith))
+      ∙ ap (λ (n : ℕ). Some n) same
   | inr apart ↦ ap (λ (n : ℕ). if n == 0 then Some from else free_from kept (from + 1) more) (taken kept numbered from (omega arith))
       ∙ free_at kept numbered (from + 1) more (omega arith) (omega arith)
 ]
@@ -68,7 +70,8 @@ times_found number key (first ∷ kept) e is = by (same_key key first.0) is (tim
   by false is rest = let on = rest is in omega arith
 
 -- without the last
-times_cut : (number n : ℕ) (kept : List Use) (e : Use) → length kept ≡ suc n → slice_get kept n ≡ Some e → times number kept ≡ has number e + times number (take n kept)
+times_cut : (number n : ℕ) (kept : List Use) (e : Use) → length kept ≡ suc n → slice_get kept n ≡ Some e → times number kept
+    ≡ has number e + times number (take n kept)
 times_cut number n [] e long is = absurd (omega arith)
 times_cut number zero (first ∷ []) e long is = let same : first ≡ e = cc in ap (λ (u : Use). has number u + 0) same
 times_cut number zero (first ∷ other ∷ kept) e long is = absurd (omega arith)
@@ -91,7 +94,8 @@ oldest_is kept e long is =
     ∙ ap (λ (o : Option Use). option_map_or (λ (u : Use). u.1.number) o 0) is
 
 -- what is kept after a keeping has numbers as before
-same_numbers : (before after : List Use) → length after ≡ length before → ((number : ℕ) → times number after ≡ times number before) → AreNumbered before → AreNumbered after
+same_numbers : (before after : List Use) → length after ≡ length before → ((number : ℕ) → times number after ≡ times number before) → AreNumbered before
+    → AreNumbered after
 same_numbers before after long same numbered number =
     same number ∙ numbered number ∙ ap (λ (n : ℕ). if nat_lt number n then 1 else 0) (sym long)
 

@@ -17,21 +17,23 @@ IsFirst versions object found from =
 pub found_from : (versions : Versions) (object : Object) (from more : ℕ) (found : Worker) → holder_from versions object from more ≡ Some found
     → IsFirst versions object found from
 found_from versions object from zero found is = cc
-found_from versions object from (suc more) found is = by (is_current versions object (record { 0 = from })) refl is (found_from versions object (from + 1) more found) where
-  by : (b : Bool) → is_current versions object (record { 0 = from }) ≡ b → (if b then Some (record { 0 = from }) else holder_from versions object (from + 1) more) ≡ Some found
-      → (holder_from versions object (from + 1) more ≡ Some found → IsFirst versions object found (from + 1)) → IsFirst versions object found from
-  by true holds e next =
-      let same : ◌≡◌ {A = Worker} (record { 0 = from }) found = cc in
-      let number = ap (λ (w : Worker). w.0) same in
-      (subst (λ (w : Worker). is_current versions object w ≡ true) same holds, λ worker low high. absurd (omega arith))
-  by false holds e next =
-      let on = next e in (
-        on.0,
-        λ worker low high. elim (cases_eq worker.0 from) [
-          | inl same ↦ ap (λ (n : ℕ). is_current versions object (record { 0 = n })) same ∙ holds
-          | inr apart ↦ on.1 worker (omega arith) high
-        ],
-      )
+found_from versions object from (suc more) found is =
+    by (is_current versions object (record { 0 = from })) refl is (found_from versions object (from + 1) more found) where
+      by : (b : Bool) → is_current versions object (record { 0 = from }) ≡ b
+          → (if b then Some (record { 0 = from }) else holder_from versions object (from + 1) more) ≡ Some found
+          → (holder_from versions object (from + 1) more ≡ Some found → IsFirst versions object found (from + 1)) → IsFirst versions object found from
+      by true holds e next =
+          let same : ◌≡◌ {A = Worker} (record { 0 = from }) found = cc in
+          let number = ap (λ (w : Worker). w.0) same in
+          (subst (λ (w : Worker). is_current versions object w ≡ true) same holds, λ worker low high. absurd (omega arith))
+      by false holds e next =
+          let on = next e in (
+            on.0,
+            λ worker low high. elim (cases_eq worker.0 from) [
+              | inl same ↦ ap (λ (n : ℕ). is_current versions object (record { 0 = n })) same ∙ holds
+              | inr apart ↦ on.1 worker (omega arith) high
+            ],
+          )
 
 -- the lowest worker that holds the latest version
 pub holder_sourced : (versions : Versions) (precondition : Worker × Object) (from : Worker) → holder versions precondition.1 ≡ Some from

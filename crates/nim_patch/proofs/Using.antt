@@ -22,23 +22,23 @@ pub kept_new : (key : Key) (value : Kept) (kept : List Use) → IsMissing (same_
 kept_new key value kept is = ap (λ (l : List Use). (key, value) ∷ take 63 l) is.left
 
 -- a patch that is found is kept with these copies
-pub record IsKept (key : Key) (number : ℕ) (copies : List PatchCopy) (kept : List Use) : Type 0 where
-  pub entry : IsFound (same_key key) kept (use_of key number copies)
-
-pub found_kept : (key : Key) (copies : List PatchCopy) (number : ℕ) (kept : List Use) → found key copies kept ≡ Some number → IsKept key number copies kept
+pub found_kept : (key : Key) (copies : List PatchCopy) (number : ℕ) (kept : List Use) → found key copies kept ≡ Some number
+    → IsFound (same_key key) kept (use_of key number copies)
 found_kept key copies number kept is = by (lookup (same_key key) kept) refl is where
-  equal : (k : Kept) → lookup (same_key key) kept ≡ Some k → (b : Bool) → same_copies k.patch.copies copies ≡ b → (if b then Some k.number else None) ≡ Some number
-      → IsKept key number copies kept
+  equal : (k : Kept) → lookup (same_key key) kept ≡ Some k → (b : Bool) → same_copies k.patch.copies copies ≡ b → (if b then Some k.number else None)
+      ≡ Some number
+      → IsFound (same_key key) kept (use_of key number copies)
   equal k there true same e =
       let on = find_entry (same_key key) kept k there in
       let keys : on.0 ≡ key = sym (key_equal key on.0 on.1.passes) in
       let numbers : k.number ≡ number = cc in
       let all = copies_equal k.patch.copies copies same in
       let uses : (on.0, k) ≡ use_of key number copies = λ i. (keys i, record { number = numbers i; patch = record { copies = all i } }) in
-      record { entry = subst (IsFound (same_key key) kept) uses on.1 }
+      subst (IsFound (same_key key) kept) uses on.1
   equal k there false same e = cc
 
-  by : (o : Option Kept) → lookup (same_key key) kept ≡ o → option_map_or (number_if_equal copies) o None ≡ Some number → IsKept key number copies kept
+  by : (o : Option Kept) → lookup (same_key key) kept ≡ o → option_map_or (number_if_equal copies) o None ≡ Some number
+      → IsFound (same_key key) kept (use_of key number copies)
   by None there e = cc
   by (Some k) there e = equal k there (same_copies k.patch.copies copies) refl e
 
@@ -46,7 +46,7 @@ found_kept key copies number kept is = by (lookup (same_key key) kept) refl is w
 pub promoted_found : (key : Key) (copies : List PatchCopy) (number : ℕ) (kept : List Use) → length kept ≤ 64 → found key copies kept ≡ Some number
     → promoted (same_key key) kept ≡ after_find key copies kept
 promoted_found key copies number kept few is =
-    let on = (found_kept key copies number kept is).entry in
+    let on = found_kept key copies number kept is in
     ap (λ (o : Option Use). option_map_or (λ (e : Use). e ∷ remove_entry (same_key key) kept) o kept) on.entry
     ∙ sym (kept_again key (use_of key number copies).1 kept few (use_of key number copies) on)
     ∙ sym (ap (λ (o : Option ℕ). option_map_or (λ (n : ℕ). after_use (use_of key n copies) kept) o kept) is)

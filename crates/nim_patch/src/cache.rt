@@ -57,7 +57,8 @@ impl PatchCache {
         ensures value { result ≡ spec.found (key_of previous next) patch.now.copies self.old }
         ensures kept { self.new ≡ spec.after_find (key_of previous next) patch.now.copies self.old }
         ensures valid { spec.IsValid self.new }
-        ensures hit { (uses : List Use) → StandsFor uses self.old → result ≡ hit (key_of previous next) patch.now.copies uses }
+        ensures hit { (uses : List Use) → StandsFor uses self.old
+            → result ≡ hit (key_of previous next) patch.now.copies uses }
         ensures stands { (uses : List Use) → StandsFor uses self.old → MatchOption result (StandsFor uses self.new)
             (λ number. StandsFor (use_of (key_of previous next) number patch.now.copies ∷ uses) self.new) }
     {
@@ -77,7 +78,8 @@ impl PatchCache {
     pub fn keep(&mut self, previous: u8, next: u8, patch: Patch) -> Result<u8, NoMemory>
         ensures number { IfOk result (λ number. number ≡ spec.number_for (key_of previous next) self.old) }
         ensures below { IfOk result (λ number. number < 64) }
-        ensures kept { IfOk result (λ number. self.new ≡ spec.after_use (use_of (key_of previous next) number patch.copies) self.old) }
+        ensures kept { IfOk result (λ number.
+            self.new ≡ spec.after_use (use_of (key_of previous next) number patch.copies) self.old) }
         ensures err { OnErr result (self.new ≡ self.old) }
         ensures valid { spec.IsValid self.new }
         ensures stands { (uses : List Use) → StandsFor uses self.old

@@ -27,15 +27,13 @@ copy_of-requires c =
     flag_read (fails c.args.map.now) c.as_slice-preconditions.result.now c.args.flags.now c.loop-at.at (record { 0 = 0 }, record { 0 = 0 }) false are
     c.loop-at-test.true
 
-pub returns-clause-sources : goal.returns-clause-sources
-returns-clause-sources c =
-    let are = all_copied c.args.map.now c.args.template.now.preconditions c.as_slice-preconditions.result.now c.loop-at.at c.loop-at.copies.items c.from_vec.result
+pub returns : goal.returns
+returns c =
+    let preconditions = c.args.template.now.preconditions in
+    let are = all_copied c.args.map.now preconditions c.as_slice-preconditions.result.now c.loop-at.at c.loop-at.copies.items c.from_vec.result
     c.as_slice-preconditions.ensures c.loop-at.invariant c.loop-at-test.false c.from_vec.ensures in
-    subst (AreSourced c.args.map.now) are (copies_sourced c.args.map.now c.args.template.now.preconditions)
-
-pub returns-clause-mends : goal.returns-clause-mends
-returns-clause-mends c =
-    let are = all_copied c.args.map.now c.args.template.now.preconditions c.as_slice-preconditions.result.now c.loop-at.at c.loop-at.copies.items c.from_vec.result
-    c.as_slice-preconditions.ensures c.loop-at.invariant c.loop-at-test.false c.from_vec.ensures in
-    λ given stands. subst (Mends c.args.map.now c.args.template.now.preconditions) are
-    (mends_given given c.args.map.now c.args.template.now.preconditions stands)
+    record {
+      copies = sym are;
+      sources = subst (AreSourced c.args.map.now) are (copies_sourced c.args.map.now preconditions);
+      mends = λ given stands. subst (Mends c.args.map.now preconditions) are (mends_given given c.args.map.now preconditions stands);
+    }

@@ -16,7 +16,8 @@ loop-at-preserved c =
     let at = c.loop-at.at in
     let long : length c.args.flags.now ≡ length all = search rules in
     record {
-      flags = flag_more (fails c.args.map.now) all c.loop-at.flags c.args.flags.now at none c.fails-failed.result c.loop-at.invariant.flags long c.loop-at-test.true c.fails-failed.ensures;
+      flags = flag_more (fails c.args.map.now) all c.loop-at.flags c.args.flags.now at none c.fails-failed.result
+          c.loop-at.invariant.flags long c.loop-at-test.true c.fails-failed.ensures;
       count = elim c.if-failed.branch [
         | then-failed w ↦ w.count-is ∙ ap (λ (n : ℕ). n + 1) c.loop-at.invariant.count
             ∙ sym (count_by_more_yes (fails c.args.map.now) all at none c.loop-at-test.true (sym c.fails-failed.ensures ∙ w.if-failed.true))

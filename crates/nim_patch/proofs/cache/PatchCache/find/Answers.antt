@@ -8,33 +8,17 @@ use Rattle.nim_patch.proofs.cache.PatchCache.find.Goals as goal
 
 pub invariant_of-self : goal.invariant_of-self
 invariant_of-self c =
-    let is = finds (key_of c.args.previous c.args.next) c.args.patch.now.copies c.in-Some.number c.self.inside.kept.entries c.args.self.now c.promote.new.self.entries
-    c.self.view_is c.self.invariant.1 (search rules) (ap (λ (l : LruCache Key Kept). l.entries) c.promote.ensures.entries) in
+    let moved = ap (λ (l : LruCache Key Kept). l.entries) c.promote.ensures.entries in
+    let is = finds (key_of c.args.previous c.args.next) c.args.patch.now.copies c.in-Some.number c.self.inside.kept.entries c.args.self.now
+    c.promote.new.self.entries c.self.view_is c.self.invariant.1 (search rules) moved in
     (ap (λ (l : LruCache Key Kept). l.cap) c.promote.ensures.entries ∙ c.self.invariant.0, is.valid)
 
-pub returns-in-Some-clause-kept : goal.returns-in-Some-clause-kept
-returns-in-Some-clause-kept c =
-    let is = finds (key_of c.args.previous c.args.next) c.args.patch.now.copies c.in-Some.number c.self.inside.kept.entries c.args.self.now c.promote.new.self.entries
-    c.self.view_is c.self.invariant.1 (search rules) (ap (λ (l : LruCache Key Kept). l.entries) c.promote.ensures.entries) in
-    is.kept
-
-pub returns-in-Some-clause-valid : goal.returns-in-Some-clause-valid
-returns-in-Some-clause-valid c =
-    let is = finds (key_of c.args.previous c.args.next) c.args.patch.now.copies c.in-Some.number c.self.inside.kept.entries c.args.self.now c.promote.new.self.entries
-    c.self.view_is c.self.invariant.1 (search rules) (ap (λ (l : LruCache Key Kept). l.entries) c.promote.ensures.entries) in
-    is.valid
-
-pub returns-in-Some-clause-hit : goal.returns-in-Some-clause-hit
-returns-in-Some-clause-hit c =
-    let is = finds (key_of c.args.previous c.args.next) c.args.patch.now.copies c.in-Some.number c.self.inside.kept.entries c.args.self.now c.promote.new.self.entries
-    c.self.view_is c.self.invariant.1 (search rules) (ap (λ (l : LruCache Key Kept). l.entries) c.promote.ensures.entries) in
-    is.hits
-
-pub returns-in-Some-clause-stands : goal.returns-in-Some-clause-stands
-returns-in-Some-clause-stands c =
-    let is = finds (key_of c.args.previous c.args.next) c.args.patch.now.copies c.in-Some.number c.self.inside.kept.entries c.args.self.now c.promote.new.self.entries
-    c.self.view_is c.self.invariant.1 (search rules) (ap (λ (l : LruCache Key Kept). l.entries) c.promote.ensures.entries) in
-    is.stands
+pub returns-in-Some : goal.returns-in-Some
+returns-in-Some c =
+    let moved = ap (λ (l : LruCache Key Kept). l.entries) c.promote.ensures.entries in
+    let is = finds (key_of c.args.previous c.args.next) c.args.patch.now.copies c.in-Some.number c.self.inside.kept.entries c.args.self.now
+    c.promote.new.self.entries c.self.view_is c.self.invariant.1 (search rules) moved in
+    record { value = search rules; kept = is.kept; valid = is.valid; hit = is.hits; stands = is.stands }
 
 pub returns-in-None-clause-hit : goal.returns-in-None-clause-hit
 returns-in-None-clause-hit c = misses (key_of c.args.previous c.args.next) c.args.patch.now.copies c.args.self.now (search rules)
