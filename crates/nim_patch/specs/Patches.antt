@@ -3,9 +3,10 @@ use Rattle.std.specs.Prelude.{ℕ, Bool, not, if◌then◌else◌, List, [], ◌
 use Rattle.std.specs.List.{count_by, fold}
 use Rattle.nim_base.specs.declared.number.Object.{Object}
 use Rattle.nim_base.specs.declared.number.Worker.{Worker}
+use Rattle.nim_command.specs.declared.command.Kind.{Kind}
 use Rattle.nim_command.specs.Numbers.{main_slot}
 use Rattle.nim_patch.specs.declared.patch.PatchCopy.{PatchCopy}
-use Rattle.nim_place.specs.Versions.{Versions, holder, is_current, latest_of, with_version}
+use Rattle.nim_place.specs.Versions.{Versions, after_kind, holder, is_current, latest_of}
 
 -- a precondition fails where the worker's main slot doesn't hold the latest version of the object
 abbrev pub fails : Versions → Worker × Object → Bool
@@ -37,9 +38,9 @@ abbrev pub copies_of : Versions → List (Worker × Object) → List PatchCopy
 copies_of versions [] = []
 copies_of versions (precondition ∷ rest) = copy_first (copy_of versions precondition) (copies_of versions rest)
 
--- a copy puts the latest version of its object into the receiver's main slot
+-- a copy has its receiver take in the latest version of its object
 abbrev pub after_copy : Versions → PatchCopy → Versions
-after_copy versions copy = with_version copy.to (latest_of versions copy.object) versions (main_slot copy.object)
+after_copy versions copy = after_kind copy.to versions (Kind.Receive (main_slot copy.object) (latest_of versions copy.object))
 
 -- what copies leave, one after another
 abbrev pub after_copies : Versions → List PatchCopy → Versions

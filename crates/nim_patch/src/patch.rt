@@ -78,11 +78,11 @@ fn fails(map: &VersionMap, precondition: &(Worker, Object)) -> bool
 }
 
 /// The copy for a precondition, where it fails.
-fn copy_of(map: &VersionMap, fails: bool, precondition: &(Worker, Object)) -> Option<PatchCopy>
-    requires { fails ≡ spec.fails map.now precondition.now }
+fn copy_of(map: &VersionMap, failed: bool, precondition: &(Worker, Object)) -> Option<PatchCopy>
+    requires { failed ≡ spec.fails map.now precondition.now }
     ensures { result ≡ spec.copy_of map.now precondition.now }
 {
-    if !fails {
+    if !failed {
         return None;
     }
     let (to, object) = *precondition;
