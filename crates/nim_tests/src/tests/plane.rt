@@ -1,8 +1,9 @@
 ghost use Rattle.std.specs.Prelude.{◌<◌, slice_get, IsSomeAnd, IsTrue};
 
 use nim_base::{Func, NoMemory, Object, Seq, Shape, Slot, Task, Value, Worker};
-use nim_command::{Command, Kind};
+use nim_command::{Command, Kind, WorkerTemplate};
 use nim_message::Data;
+use nim_patch::{PatchCache, build_patch, failing};
 use nim_place::{Placement, VersionMap, home, schedule_task};
 use nim_queue::BeforeQueue;
 use nim_store::{Held, Inbox, Key, Store};
@@ -77,6 +78,41 @@ fn a_map_holds_what_a_task_writes(rt: HostRuntime) -> Result<(), Fail> {
     assert_eq!(rt; map.latest(Object(0)), 1);
     map.apply_command(Worker(1), &filled(rt.alloc(), 0, 1));
     assert_eq!(rt; map.holder(Object(1)), Some(Worker(1)));
+    Ok(())
+}
+
+/// A template that has to find object 0 at two workers.
+fn template(alloc: Global) -> Result<WorkerTemplate, NoMemory> {
+    let places = [(Worker(0), Object(0)), (Worker(1), Object(0))];
+    Ok(WorkerTemplate {
+        block: 0,
+        forms: Seq::new(alloc),
+        halves: Seq::new(alloc),
+        built: Seq::new(alloc),
+        preconditions: Seq::from_vec(Vec::from_slice(alloc, &places)?),
+        effect: Seq::new(alloc),
+        homes: Seq::new(alloc),
+        owners: Seq::new(alloc),
+        unsent: Seq::new(alloc),
+    })
+}
+
+#[test]
+fn a_patch_is_kept_and_found(rt: HostRuntime) -> Result<(), Fail> {
+    let template = template(rt.alloc())?;
+    let mut map = VersionMap::new(rt.alloc(), 2, 1)?;
+    map.apply_command(Worker(0), &filled(rt.alloc(), 0, 0));
+    let mut flags = vec![in rt.alloc(); false; template.preconditions.len()]?;
+    assert_eq!(rt; failing(&template, &map, &mut flags), 1);
+    let patch = build_patch(rt.alloc(), &template, &map, &flags)?;
+    let again = build_patch(rt.alloc(), &template, &map, &flags)?;
+    assert_eq!(rt; patch.copies.len(), 1);
+    let mut cache = PatchCache::new(rt.alloc())?;
+    assert_eq!(rt; cache.find(32, 0, &again), None);
+    assert_eq!(rt; cache.keep(32, 0, patch)?, 0);
+    assert_eq!(rt; cache.find(32, 0, &again), Some(0));
+    assert_eq!(rt; cache.find(0, 0, &again), None);
+    assert_eq!(rt; cache.keep(0, 0, again)?, 1);
     Ok(())
 }
 

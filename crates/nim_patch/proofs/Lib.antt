@@ -1,0 +1,11 @@
+pub mod Calls
+pub mod Copied
+pub mod Entries
+pub mod Flags
+pub mod Hits
+pub mod Mended
+pub mod Numbers
+pub mod Sources
+pub mod Tests
+pub mod Using
+pub mod WorkedRows

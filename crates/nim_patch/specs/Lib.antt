@@ -1,0 +1,4 @@
+pub mod Cache
+pub mod Mends
+pub mod Patches
+pub mod Uses
