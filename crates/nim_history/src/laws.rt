@@ -1,0 +1,8 @@
+ghost use Rattle.nim_history.specs.Truth.{HistoriesAreTrue};
+
+/// Whatever the order in which a worker completed its commands, as far as their waits allowed it: for every job for which
+/// its orders may be given, are covered, and its frames are true, all that it gave is true, and each command that may be
+/// completed next finds in its slots what the list of commands says.
+pub fn histories_are_true()
+    ensures { HistoriesAreTrue }
+{}
