@@ -82,3 +82,12 @@ first_free (w ∷ rest) after = if is_free_after w after then Some w.ticket else
 abbrev pub command_at : List Waiting → ℕ → Option Command
 command_at [] ticket = None
 command_at (w ∷ rest) ticket = if w.ticket == ticket then Some w.command else command_at rest ticket
+
+-- which group it is of
+abbrev pub group_at : List Waiting → ℕ → Option ℕ
+group_at [] ticket = None
+group_at (w ∷ rest) ticket = if w.ticket == ticket then Some w.group else group_at rest ticket
+
+-- whether it is the command of this ticket
+abbrev pub has_ticket : ℕ → Waiting → Bool
+has_ticket ticket w = ticket == w.ticket

@@ -44,3 +44,15 @@ pub(crate) fn command_at(waiting: &[Waiting], ticket: u64) -> Option<&Command>
     }
     None
 }
+
+/// Which group the waiting command of a ticket is of.
+pub(crate) fn group_at(waiting: &[Waiting], ticket: u64) -> Option<u64>
+    ensures { result ≡ spec.group_at waiting.now ticket }
+{
+    for w in waiting {
+        if w.ticket == ticket {
+            return Some(w.group);
+        }
+    }
+    None
+}
