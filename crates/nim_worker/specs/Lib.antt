@@ -1,5 +1,5 @@
+pub mod Chains
 pub mod Inputs
-pub mod Kept
 pub mod Leaves
 pub mod Lending
 pub mod Right

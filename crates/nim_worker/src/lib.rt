@@ -3,14 +3,12 @@
 
 mod batch;
 mod complete;
-mod held;
+mod head;
 mod inputs;
 mod leave;
 mod room;
-mod slots;
 mod taking;
 mod worker;
 
 pub use batch::{Batch, Work};
-pub use held::Held;
 pub use worker::{Out, WorkerCore};
