@@ -1,5 +1,5 @@
 -- What a worker comes to: what it was handed and which commands it completed, in the order in which that happened.
-use Rattle.std.specs.Prelude.{◌≡◌, ℕ, ◌==◌, nat_lt, Bool, true, false, not, ◌&&◌, if◌then◌else◌, List, [], ◌∷◌, ◌++◌, length, Option, None, Some, slice_get}
+use Rattle.std.specs.Prelude.{◌≡◌, ℕ, zero, ◌==◌, nat_lt, Bool, true, false, not, ◌&&◌, if◌then◌else◌, List, [], ◌∷◌, ◌++◌, length, Option, None, Some, slice_get}
 use Rattle.std.specs.FinMap as map
 use Rattle.std.specs.List.{filter, flat_map, fold, list_all, range_with_len}
 use Rattle.std.specs.Option.{option_and_then, option_map, option_map_or}
@@ -101,7 +101,7 @@ left_of groups number ran =
 
 -- once these places are complete an instance of a block is told to be through, where all of its commands are
 abbrev pub through_outs : Source → Group → ℕ → List Out
-through_outs (FromInstance base) group 0 = Out.Report (Through group.epoch group.instance) ∷ []
+through_outs (FromInstance base) group zero = Out.Report (Through group.epoch group.instance) ∷ []
 through_outs source group left = []
 
 -- all that is given when a command is completed behind these: what it gives of its own, and whether its instance is

@@ -1,13 +1,14 @@
 -- What a search by ticket hands out.
 use Rattle.std.proofs.Common.{◌≡◌, ℕ, suc, ◌<◌, ◌≤◌, Bool, true, false, not, List, [], ◌∷◌, length, slice_index_or, slice_set, refl, ap, ap₂, sym, ◌∙◌, arith, Option, Some, None}
-use Rattle.std.specs.Prelude.{◌==◌, ◌+◌, if◌then◌else◌, slice_get}
+use Rattle.std.specs.Prelude.{◌==◌, ◌+◌, ◌&&◌, if◌then◌else◌, slice_get, IfSome}
 use Rattle.std.specs.List.{position_or_len}
 use Rattle.std.specs.Option.{option_map}
 use Rattle.std.proofs.lemmas.Bool.{eqb-true, eq-eqb}
 use Rattle.std.proofs.lemmas.Option.{slice_get_past}
 use Rattle.nim_command.specs.declared.command.Command.{Command}
 use Rattle.nim_command.specs.Waits.{Member}
-use Rattle.nim_queue.specs.Steps.{all_but, command_at, has_ticket}
+use Rattle.nim_queue.specs.Stands.{is_after}
+use Rattle.nim_queue.specs.Steps.{all_but, command_at, first_free, has_ticket, is_nil}
 use Rattle.nim_queue.specs.declared.waiting.Waiting.{Waiting}
 
 -- which is the same the other way round
@@ -64,3 +65,13 @@ pub none_given : (members : List Member) (ticket : ℕ) (is : Bool) → length m
     → None ≡ (if is then None else option_map (λ (m : Member). m.command) (slice_get members ticket))
 none_given members ticket true past = refl
 none_given members ticket false past = ap (λ (found : Option Member). option_map (λ (m : Member). m.command) found) (sym (slice_get_past members ticket past))
+
+-- what a search finds comes after the given one
+pub first_after : (after : Option ℕ) (ws : List Waiting) → IfSome (first_free ws after) (λ ticket. is_after after ticket ≡ true)
+first_after after [] = record {}
+first_after after (w ∷ ws) = either (is_after after w.ticket) (is_nil w.waits) refl (first_after after ws) where
+  either : (later free : Bool) → is_after after w.ticket ≡ later → IfSome (first_free ws after) (λ ticket. is_after after ticket ≡ true)
+      → IfSome (if later && free then Some w.ticket else first_free ws after) (λ ticket. is_after after ticket ≡ true)
+  either true true is more = is
+  either true false is more = more
+  either false free is more = more

@@ -1,10 +1,10 @@
-ghost use Rattle.std.specs.Prelude.{◌≡◌, ℕ, ◌+◌, ◌≤◌, ◌<◌, ◌^◌, ◌++◌, ◌∷◌, [], Bool, List, length, IfSome, OnOk, OnErr};
+ghost use Rattle.std.specs.Prelude.{◌≡◌, ℕ, ◌+◌, ◌≤◌, ◌<◌, ◌^◌, ◌++◌, ◌∷◌, [], Bool, true, List, length, IfSome, OnOk, OnErr};
 ghost use Rattle.std.specs.Vec.{vec_capacity, vec_len};
 ghost use Rattle.std.specs.Option.{option_copied};
 ghost use Rattle.nim_command.specs.Waits.{Group as group_type, placed_commands};
 ghost use Rattle.nim_order.specs.Progress.{IsReleasedAt};
 ghost use Rattle.nim_queue.specs.Arrived.{joined};
-ghost use Rattle.nim_queue.specs.Stands.{Stands, command_of, done_with, group_of, nothing_done, ready_of};
+ghost use Rattle.nim_queue.specs.Stands.{Stands, command_of, done_with, group_of, is_after, nothing_done, ready_of};
 
 use crate::arrivals::{Arrivals, arrive, hide_all};
 use crate::complete::free_all;
@@ -63,6 +63,7 @@ impl BeforeQueue {
         ensures first { (groups : List group_type) (done : ℕ → Bool) → Stands self.now groups done → result ≡ ready_of groups done after }
         ensures released { (groups : List group_type) (done : ℕ → Bool) → Stands self.now groups done
             → IfSome result (λ ticket. IsReleasedAt (placed_commands groups) done ticket) }
+        ensures later { IfSome result (λ ticket. is_after after ticket ≡ true) }
     {
         first_free(self.waiting.as_slice(), after)
     }

@@ -1,11 +1,3 @@
-pub mod Begun
 pub mod Completes
-pub mod Finishing
 pub mod GivenBack
-pub mod KeptRight
-pub mod Law
-pub mod LegalOrders
 pub mod Puts
-pub mod Standing
-pub mod TrueRuns
-pub mod TrueSlots

@@ -1,7 +1,10 @@
+pub mod Admitted
 pub mod Chains
 pub mod Inputs
 pub mod Leaves
 pub mod Lending
+pub mod Messages
 pub mod Right
 pub mod Stands
+pub mod Taken
 pub mod Works
