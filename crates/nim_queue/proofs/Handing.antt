@@ -8,7 +8,7 @@ use Rattle.std.proofs.lemmas.Option.{slice_get_past}
 use Rattle.nim_command.specs.declared.command.Command.{Command}
 use Rattle.nim_command.specs.Waits.{Member}
 use Rattle.nim_queue.specs.Stands.{is_after}
-use Rattle.nim_queue.specs.Steps.{all_but, command_at, first_free, has_ticket, is_nil}
+use Rattle.nim_queue.specs.Steps.{all_but, command_at, first_free, has_ticket, is_nil, with_ticket}
 use Rattle.nim_queue.specs.declared.waiting.Waiting.{Waiting}
 
 -- which is the same the other way round
@@ -24,12 +24,12 @@ command_there ticket (w ∷ ws) d within = either (ticket == w.ticket) refl with
   either : (b : Bool) → (ticket == w.ticket) ≡ b → (if not b then 1 + position_or_len (has_ticket ticket) ws else 0) < suc (length ws)
       → (position_or_len (has_ticket ticket) ws < length ws → Some (slice_index_or ws (position_or_len (has_ticket ticket) ws) d).command ≡ command_at ws ticket)
       → Some (slice_index_or (w ∷ ws) (if not b then 1 + position_or_len (has_ticket ticket) ws else 0) d).command
-      ≡ (if w.ticket == ticket then Some w.command else command_at ws ticket)
-  either true is within more = sym (ap (λ (b : Bool). if b then Some w.command else command_at ws ticket) (turned ticket w.ticket true is))
+      ≡ option_map (λ (x : Waiting). x.command) (if w.ticket == ticket then Some w else with_ticket ws ticket)
+  either true is within more = sym (ap (λ (b : Bool). option_map (λ (x : Waiting). x.command) (if b then Some w else with_ticket ws ticket)) (turned ticket w.ticket true is))
   either false is within more =
       let next : 1 + position_or_len (has_ticket ticket) ws ≡ suc (position_or_len (has_ticket ticket) ws) = omega arith in
       ap (λ (n : ℕ). Some (slice_index_or (w ∷ ws) n d).command) next
-      ∙ more (omega (arith, within)) ∙ sym (ap (λ (b : Bool). if b then Some w.command else command_at ws ticket) (turned ticket w.ticket false is))
+      ∙ more (omega (arith, within)) ∙ sym (ap (λ (b : Bool). option_map (λ (x : Waiting). x.command) (if b then Some w else with_ticket ws ticket)) (turned ticket w.ticket false is))
 
 -- no command of a ticket stands anywhere
 pub command_nowhere : (ticket : ℕ) (ws : List Waiting) → length ws ≤ position_or_len (has_ticket ticket) ws → None ≡ command_at ws ticket
@@ -37,9 +37,9 @@ command_nowhere ticket [] past = refl
 command_nowhere ticket (w ∷ ws) past = either (ticket == w.ticket) refl past (command_nowhere ticket ws) where
   either : (b : Bool) → (ticket == w.ticket) ≡ b → suc (length ws) ≤ (if not b then 1 + position_or_len (has_ticket ticket) ws else 0)
       → (length ws ≤ position_or_len (has_ticket ticket) ws → None ≡ command_at ws ticket)
-      → None ≡ (if w.ticket == ticket then Some w.command else command_at ws ticket)
+      → None ≡ option_map (λ (x : Waiting). x.command) (if w.ticket == ticket then Some w else with_ticket ws ticket)
   either true is past more = absurd (omega (arith, past))
-  either false is past more = more (omega (arith, past)) ∙ sym (ap (λ (b : Bool). if b then Some w.command else command_at ws ticket) (turned ticket w.ticket false is))
+  either false is past more = more (omega (arith, past)) ∙ sym (ap (λ (b : Bool). option_map (λ (x : Waiting). x.command) (if b then Some w else with_ticket ws ticket)) (turned ticket w.ticket false is))
 
 -- what stands in the place of the one that leaves is nothing to the others
 pub all_but_it : (ticket : ℕ) (ws : List Waiting) (command : Command) (d : Waiting) → position_or_len (has_ticket ticket) ws < length ws

@@ -91,3 +91,7 @@ command_at ws ticket = option_map (λ (w : Waiting). w.command) (with_ticket ws 
 -- which of the groups it is of
 abbrev pub group_at : List Waiting → ℕ → Option ℕ
 group_at ws ticket = option_map (λ (w : Waiting). w.group) (with_ticket ws ticket)
+
+-- whether it is the command of this ticket
+abbrev pub has_ticket : ℕ → Waiting → Bool
+has_ticket ticket w = ticket == w.ticket

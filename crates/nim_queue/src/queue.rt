@@ -4,7 +4,7 @@ ghost use Rattle.std.specs.Option.{option_copied};
 ghost use Rattle.nim_command.specs.Waits.{Group as group_type, placed_commands};
 ghost use Rattle.nim_order.specs.Progress.{IsReleasedAt};
 ghost use Rattle.nim_queue.specs.Arrived.{joined};
-ghost use Rattle.nim_queue.specs.Stands.{Stands, command_of, done_with, group_of, nothing_done, ready_of};
+ghost use Rattle.nim_queue.specs.Stands.{Stands, command_of, done_with, group_of, is_after, nothing_done, ready_of};
 
 use crate::arrivals::{Arrivals, arrive, hide_all};
 use crate::complete::free_all;
@@ -82,21 +82,16 @@ impl BeforeQueue {
         group_at(self.waiting.as_slice(), ticket)
     }
 
-    /// The command of a ticket is complete, and leaves. A ticket that was never given changes nothing. Takes no memory.
-    pub fn complete(&mut self, ticket: u64)
-        ensures { (groups : List group_type) (done : ℕ → Bool) → Stands self.old groups done → Stands self.new groups (done_with groups done ticket) }
+    /// The command of a ticket is complete, and is handed back, where it wasn't complete before. A ticket that was never
+    /// given changes nothing. Takes no memory.
+    pub fn complete(&mut self, ticket: u64) -> Option<Command>
+        ensures stands { (groups : List group_type) (done : ℕ → Bool) → Stands self.old groups done → Stands self.new groups (done_with groups done ticket) }
+        ensures command { (groups : List group_type) (done : ℕ → Bool) → Stands self.old groups done → result ≡ command_of groups done ticket }
     {
         if ticket < self.given {
             return free_all(self.alloc, &mut self.waiting, ticket);
         }
         None
-    }
-
-    /// Which of the groups given, counted from 0, the command of a ticket is of, while it isn't complete; takes no memory.
-    pub fn group(&self, ticket: u64) -> Option<u64>
-        ensures { (groups : List group_type) (done : ℕ → Bool) → Stands self.now groups done → result ≡ group_of groups done ticket }
-    {
-        group_at(self.waiting.as_slice(), ticket)
     }
 
     /// Takes in what has arrived, for which there is room.

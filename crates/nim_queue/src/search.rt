@@ -63,15 +63,3 @@ fn with_ticket(waiting: &[Waiting], ticket: u64) -> Option<&Waiting>
     }
     None
 }
-
-/// Which group the waiting command of a ticket is of.
-pub(crate) fn group_at(waiting: &[Waiting], ticket: u64) -> Option<u64>
-    ensures { result ≡ spec.group_at waiting.now ticket }
-{
-    for w in waiting {
-        if w.ticket == ticket {
-            return Some(w.group);
-        }
-    }
-    None
-}

@@ -1,5 +1,5 @@
 use Rattle.std.proofs.Common.{◌∙◌, ℕ, ◌≤◌, List, ap, arith, refl, subst}
-use Rattle.nim_command.specs.Waits.{members_of}
+use Rattle.nim_command.specs.Waits.{Member, members_of}
 use Rattle.nim_queue.specs.Steps.{command_at}
 use Rattle.nim_queue.specs.declared.waiting.Waiting.{Waiting}
 use Rattle.nim_queue.proofs.Handing.{none_given}
@@ -15,7 +15,8 @@ returns-then-ticket-self-clause-stands c = λ groups done stands.
 pub returns-then-ticket-self-clause-command : goal.returns-then-ticket-self-clause-command
 returns-then-ticket-self-clause-command c = λ groups done stands.
     c.free_all.ensures.command ∙ ap (λ (ws : List Waiting). command_at ws c.args.ticket) stands.waiting
-    ∙ found_at (members_of groups) done c.args.ticket 0 c.args.ticket (members_of groups) (omega arith)
+    ∙ found_at (λ (w : Waiting). w.command) (λ (m : Member). m.command) (members_of groups) done c.args.ticket 0 c.args.ticket (members_of groups)
+    (λ at x more. refl) (omega arith)
 
 pub returns-clause-command : goal.returns-clause-command
 returns-clause-command c = λ groups done stands.
