@@ -1,7 +1,7 @@
 -- What a worker comes to: what it was handed and which commands it completed, in the order in which that happened.
-use Rattle.std.specs.Prelude.{◌≡◌, ℕ, ◌==◌, nat_lt, Bool, true, false, not, ◌&&◌, if◌then◌else◌, List, [], ◌∷◌, ◌++◌, length, Option, None, Some, slice_get}
+use Rattle.std.specs.Prelude.{◌≡◌, ℕ, zero, ◌==◌, nat_lt, Bool, true, false, not, ◌&&◌, if◌then◌else◌, List, [], ◌∷◌, ◌++◌, length, Option, None, Some, slice_get}
 use Rattle.std.specs.FinMap as map
-use Rattle.std.specs.List.{filter, flat_map, fold, list_all, range_with_len}
+use Rattle.std.specs.List.{filter, flat_map, fold, range_with_len}
 use Rattle.std.specs.Option.{option_and_then, option_map, option_map_or}
 use Rattle.nim_base.specs.declared.number.Slot.{Slot}
 use Rattle.nim_base.specs.Value.{Grid}
@@ -9,7 +9,7 @@ use Rattle.nim_command.specs.declared.command.Command.{Command}
 use Rattle.nim_command.specs.declared.command.Kind.{Kind}
 use Rattle.nim_command.specs.declared.command.Kind.TheVariants.{Receive}
 use Rattle.nim_command.specs.Slots.{object_of}
-use Rattle.nim_command.specs.Waits.{Group, Member, Source, FromSingle, FromInstance, FromPatch, members_of, placed_commands}
+use Rattle.nim_command.specs.Waits.{Group, Member, Source, FromInstance, members_of, placed_commands}
 use Rattle.nim_message.specs.declared.frame.Data.{Data}
 use Rattle.nim_message.specs.declared.order.ToWorker.{ToWorker}
 use Rattle.nim_message.specs.declared.order.ToWorker.TheVariants.{Reset}
@@ -101,7 +101,7 @@ left_of groups number ran =
 
 -- once these places are complete an instance of a block is told to be through, where all of its commands are
 abbrev pub through_outs : Source → Group → ℕ → List Out
-through_outs (FromInstance base) group 0 = Out.Report (Through group.epoch group.instance) ∷ []
+through_outs (FromInstance base) group zero = Out.Report (Through group.epoch group.instance) ∷ []
 through_outs source group left = []
 
 -- all that is given when a command is completed behind these: what it gives of its own, and whether its instance is

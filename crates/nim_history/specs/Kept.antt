@@ -12,9 +12,8 @@ use Rattle.nim_command.specs.declared.command.Kind.TheVariants.{Create, Load, Se
 use Rattle.nim_command.specs.Created.{created}
 use Rattle.nim_command.specs.Holds.{put_at, version_after}
 use Rattle.nim_command.specs.Slots.{object_of}
-use Rattle.nim_command.specs.Waits.{Group, Source, FromSingle, FromInstance, FromPatch}
+use Rattle.nim_command.specs.Waits.{Group, Source, FromSingle}
 use Rattle.nim_message.specs.declared.frame.Data.{Data}
-use Rattle.nim_message.specs.declared.report.FromWorker.{FromWorker}
 use Rattle.nim_message.specs.declared.report.FromWorker.TheVariants.{Ran, Value}
 use Rattle.nim_store.specs.declared.held.Held.{Held}
 use Rattle.nim_history.specs.declared.out.Out.{Out}

@@ -1,7 +1,6 @@
 -- When what a worker gives is true of a job: whatever the order in which it completed its commands.
 use Rattle.std.specs.Prelude.{◌≡◌, ℕ, true, IsTrue, List, [], ◌∷◌, map, All, Option, IfSome, IsSomeAnd, slice_get}
 use Rattle.std.specs.Option.{option_map}
-use Rattle.nim_base.specs.declared.number.Object.{Object}
 use Rattle.nim_base.specs.declared.number.Slot.{Slot}
 use Rattle.nim_base.specs.declared.task.Task.{Task}
 use Rattle.nim_base.specs.Value.{Grid}
@@ -9,7 +8,7 @@ use Rattle.nim_command.specs.declared.command.Kind.{Kind}
 use Rattle.nim_command.specs.declared.command.Kind.TheVariants.{Run}
 use Rattle.nim_command.specs.Covered.{is_covered}
 use Rattle.nim_command.specs.Holds.{Content, holds}
-use Rattle.nim_command.specs.Slots.{does_touch, object_of}
+use Rattle.nim_command.specs.Slots.{does_touch}
 use Rattle.nim_command.specs.Waits.{commands_of, placed_commands}
 use Rattle.nim_message.specs.declared.order.ToWorker.{ToWorker}
 use Rattle.nim_message.specs.Orders.{Session, after_order, no_session}
@@ -49,9 +48,9 @@ pub record IsHandedTruth (job : Job) (history : List Happening) : Type 0 where
   pub covered : AreCovered (orders_in history)
   pub frames : All (IsGoodFrame job) (frames_in history)
 
--- a slot has the value of its version, which is one of its object's
-pub record IsTrueHeld (job : Job) (slot : Slot) (held : Held) : Type 0 where
-  pub object : held.object ≡ object_of slot
+-- What a slot has is the value of its version, which is one of its object's. A Copy may have left an object in a slot of
+-- another one.
+pub record IsTrueHeld (job : Job) (held : Held) : Type 0 where
   pub version : is_version job held.object held.version ≡ true
   pub value : held.value ≡ version_value job held.object held.version
 
@@ -76,7 +75,7 @@ pub record FindsRight (job : Job) (state : WorkerState) (place : ℕ) (asked : A
 -- what a worker has and gave is true of a job
 pub record IsTrueOf (job : Job) (state : WorkerState) : Type 0 where
   pub gave : All (IsGoodOut job) state.gave
-  pub slots : (slot : Slot) → IfSome (state.slots slot) (IsTrueHeld job slot)
+  pub slots : (slot : Slot) → IfSome (state.slots slot) (IsTrueHeld job)
   pub next : (place : ℕ) → MayComplete state place → IfSome (asked_at state.session.groups place) (FindsRight job state place)
 
 -- Whatever the order of its commands, a worker that is handed what is true of a job gives what is true of it.
