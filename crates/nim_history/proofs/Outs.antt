@@ -1,10 +1,11 @@
 -- What a legal command gives is true of the job, where the slots have what they hold.
-use Rattle.std.proofs.Common.{◌≡◌, ◌≢◌, ℕ, suc, zero, Bool, true, false, ℤ, List, [], ◌∷◌, ◌++◌, map, sym, Option, None, Some, All}
+use Rattle.std.proofs.Common.{◌≡◌, ◌≢◌, ℕ, suc, zero, Bool, true, false, ℤ, List, [], ◌∷◌, length, ◌++◌, map, sym, Option, None, Some, All}
 use Rattle.std.specs.Prelude.{slice_get, if◌then◌else◌}
 use Rattle.std.specs.Option.{option_map_or}
 use Rattle.std.proofs.lemmas.List.Elements.{All-append, All-cons, All-nil}
 use Rattle.nim_base.specs.declared.number.Slot.{Slot}
 use Rattle.nim_base.specs.declared.task.Func.{Func}
+use Rattle.nim_base.specs.Apply.{has_counts}
 use Rattle.nim_base.specs.Value.{empty_grid}
 use Rattle.nim_command.specs.declared.command.Kind.{Kind}
 use Rattle.nim_command.specs.declared.command.Kind.TheVariants.{Create, Load, Send, Receive, Copy, Run, Fetch}
@@ -78,6 +79,9 @@ outs_good job state place asked before whole legal are =
 pub reads_right : (job : Job) (kind : Kind) (now : Slot → Option Held) (before : Slot → Content) → is_whole job ≡ true → IsLegalKind job before kind
     → ((s : Slot) → IsTrueTo job (now s) (before s)) → ReadsRight job now kind
 reads_right job (Run position func params reads writes) now before whole legal are =
-    some_then (λ task. (map (content_seen now) reads ≡ reads_at job position task) × (map (λ slot. (seen now slot).value) reads ≡ values_read job position task))
-    (slice_get (tasks_of job) position) (run_true job now before position func params reads writes whole legal are) (λ task there run. (run.contents, run.values))
+    some_then
+    (λ task. (has_counts func (length params) (length reads) (length writes) ≡ true) × (map (content_seen now) reads ≡ reads_at job position task)
+    × (map (λ slot. (seen now slot).value) reads ≡ values_read job position task))
+    (slice_get (tasks_of job) position) (run_true job now before position func params reads writes whole legal are)
+    (λ task there run. (run.counts, run.contents, run.values))
 reads_right job kind now before whole legal are = tt

@@ -1,8 +1,9 @@
 -- When what a worker gives is true of a job: whatever the order in which it completed its commands.
-use Rattle.std.specs.Prelude.{◌≡◌, ℕ, true, IsTrue, List, [], ◌∷◌, map, All, Option, IfSome, IsSomeAnd, slice_get}
+use Rattle.std.specs.Prelude.{◌≡◌, ℕ, true, IsTrue, List, [], ◌∷◌, length, map, All, Option, IfSome, IsSomeAnd, slice_get}
 use Rattle.std.specs.Option.{option_map}
 use Rattle.nim_base.specs.declared.number.Slot.{Slot}
 use Rattle.nim_base.specs.declared.task.Task.{Task}
+use Rattle.nim_base.specs.Apply.{has_counts}
 use Rattle.nim_base.specs.Value.{Grid}
 use Rattle.nim_command.specs.declared.command.Kind.{Kind}
 use Rattle.nim_command.specs.declared.command.Kind.TheVariants.{Run}
@@ -54,10 +55,11 @@ pub record IsTrueHeld (job : Job) (held : Held) : Type 0 where
   pub version : is_version job held.object held.version ≡ true
   pub value : held.value ≡ version_value job held.object held.version
 
--- A Run reads the versions that program order names, and their values.
+-- A Run has its function's counts, and reads the versions that program order names, and their values.
 abbrev pub ReadsRight : Job → (Slot → Option Held) → Kind → Type 0
 ReadsRight job before (Run position func params reads writes) =
-    IsSomeAnd (slice_get (tasks_of job) position) (λ task. (map (content_seen before) reads ≡ reads_at job position task)
+    IsSomeAnd (slice_get (tasks_of job) position)
+    (λ task. (has_counts func (length params) (length reads) (length writes) ≡ true) × (map (content_seen before) reads ≡ reads_at job position task)
     × (map (λ slot. (seen before slot).value) reads ≡ values_read job position task))
 ReadsRight job before kind = Unit {0}
 
