@@ -76,7 +76,9 @@ found_right job state place whole right may = either (asked_at state.session.gro
   either None is = tt
   either (Some asked) is = record {
     finds = finds_right job state place asked right is may.released;
-    reads = reads_right job asked.command.kind state.slots (content_in state.slots) whole (legal_now job state place asked right is may.released) (slots_true job state right);
+    reads =
+        reads_right job asked.command.kind state.slots (content_in state.slots) whole (legal_now job state place asked right is may.released)
+        (slots_true job state right);
   }
 
 -- the frame that it receives carries the value of the version that it names
@@ -86,7 +88,8 @@ received_right : (job : Job) (inbox : map.FinMap key_cmp Grid) (group : Group) (
 received_right job inbox group number (Receive slot version) all there =
     let key : Key = record { epoch = group.epoch; instance = group.instance; entry = number; object = object_of slot; version = version } in
     either key (map.get inbox key) there (all key) where
-      either : (key : Key) (o : Option Grid) → is_some o ≡ true → IfSome o (IsTrueAt job key) → IsSomeAnd o (λ value. value ≡ version_value job key.object key.version)
+      either : (key : Key) (o : Option Grid) → is_some o ≡ true → IfSome o (IsTrueAt job key)
+          → IsSomeAnd o (λ value. value ≡ version_value job key.object key.version)
       either key None there is = absurd (both_ways false refl there)
       either key (Some value) there is = is.value
 received_right job inbox group number kind all there = tt
@@ -98,9 +101,11 @@ inbox_right job inbox None all = all
 inbox_right job inbox (Some key) all = removed_true job inbox key all
 
 -- the slots are then what the complete commands leave
-left_right : (job : Job) (state : WorkerState) (place : ℕ) (asked : Asked) → is_whole job ≡ true → IsRight job state → asked_at state.session.groups place ≡ Some asked
+left_right : (job : Job) (state : WorkerState) (place : ℕ) (asked : Asked) → is_whole job ≡ true → IsRight job state
+    → asked_at state.session.groups place ≡ Some asked
     → IsReleasedAt (placed_commands state.session.groups) (is_one_of state.ran) place → has_frame state asked ≡ true → (slot : Slot)
-    → IsTrueTo job (kept_by state.session.shapes (value_for state asked) asked.command.kind state.slots slot) (left_by asked.command.kind (content_in state.slots) slot)
+    → IsTrueTo job (kept_by state.session.shapes (value_for state asked) asked.command.kind state.slots slot)
+    (left_by asked.command.kind (content_in state.slots) slot)
 left_right job state place asked whole right there released frame slot =
     let kind : Kind = asked.command.kind in
     subst (λ (shapes : List Shape). IsTrueTo job (kept_by shapes (value_for state asked) kind state.slots slot) (left_by kind (content_in state.slots) slot))
@@ -122,8 +127,10 @@ step_right job state place asked right there released slot =
     ∙ sym ((step_free job state right).step place (is_one_of (state.ran ++ place ∷ [])) slot released (one_more state.ran place))
 
 -- once it is complete
-asked_right : (job : Job) (state : WorkerState) (place : ℕ) (asked : Asked) → is_whole job ≡ true → IsRight job state → asked_at state.session.groups place ≡ Some asked
-    → IsReleasedAt (placed_commands state.session.groups) (is_one_of state.ran) place → has_frame state asked ≡ true → IsRight job (after_asked state place asked)
+asked_right : (job : Job) (state : WorkerState) (place : ℕ) (asked : Asked) → is_whole job ≡ true → IsRight job state
+    → asked_at state.session.groups place ≡ Some asked
+    → IsReleasedAt (placed_commands state.session.groups) (is_one_of state.ran) place → has_frame state asked ≡ true
+    → IsRight job (after_asked state place asked)
 asked_right job state place asked whole right there released frame =
     let now : ℕ → Bool = is_one_of (state.ran ++ place ∷ []) in
     let gains : GainsPlace (is_one_of state.ran) place now = one_more state.ran place in
@@ -133,8 +140,10 @@ asked_right job state place asked whole right there released frame =
       closed = (step_free job state right).closed place now released gains;
       within = λ other past.
           gains other
-          ∙ or_from (is_one_of state.ran other) (place == other) (right.within other past) (ne_eqb place other (λ same. absurd (omega (arith, same, past, released.within))));
-      contents = λ slot. (left_right job state place asked whole right there released frame slot).same ∙ step_right job state place asked right there released slot;
+          ∙ or_from (is_one_of state.ran other) (place == other) (right.within other past)
+          (ne_eqb place other (λ same. absurd (omega (arith, same, past, released.within))));
+      contents =
+          λ slot. (left_right job state place asked whole right there released frame slot).same ∙ step_right job state place asked right there released slot;
       slots = λ slot. (left_right job state place asked whole right there released frame slot).right;
       inbox = inbox_right job state.inbox (key_for asked) right.inbox;
       gave = All-append (IsGoodOut job) state.gave (outs_of state place asked) right.gave
@@ -142,7 +151,8 @@ asked_right job state place asked whole right there released frame =
     }
 
 -- one more command is complete
-pub completed_right : (job : Job) (state : WorkerState) (place : ℕ) → is_whole job ≡ true → IsRight job state → MayComplete state place → IsRight job (completed state place)
+pub completed_right : (job : Job) (state : WorkerState) (place : ℕ) → is_whole job ≡ true → IsRight job state → MayComplete state place
+    → IsRight job (completed state place)
 completed_right job state place whole right may = either (asked_at state.session.groups place) refl may.frame where
   either : (o : Option Asked) → asked_at state.session.groups place ≡ o → option_map_or (has_frame state) o false ≡ true
       → IsRight job (option_map_or (after_asked state place) o state)

@@ -29,7 +29,8 @@ may_on : (history more : List Happening) → IsHistory history → MayAllHappen 
 unfolding IsHistory
 may_on history more first second = may_all new_state history more first second
 
-session_from : (state : WorkerState) (history : List Happening) → (fold after_happening state history).session ≡ fold after_order state.session (orders_in history)
+session_from : (state : WorkerState) (history : List Happening)
+    → (fold after_happening state history).session ≡ fold after_order state.session (orders_in history)
 session_from state [] = refl
 session_from state (Ordered order ∷ history) =
     session_from (ordered state order) history ∙ ap (λ (session : Session). fold after_order session (orders_in history)) (ordered_session state order)
@@ -58,7 +59,8 @@ none_in {X} f (place ∷ places) none = ap (λ (front : List X). front ++ flat_m
 still_in : {X : Type 0} (f : Happening → List X) (history : List Happening) (places : List ℕ) → ((place : ℕ) → f (Completed place) ≡ [])
     → flat_map f (history ++ map Completed places) ≡ flat_map f history
 still_in {X} f history places none =
-    flat_map-append f history (map Completed places) ∙ ap (λ (more : List X). flat_map f history ++ more) (none_in f places none) ∙ append-nil (flat_map f history)
+    flat_map-append f history (map Completed places) ∙ ap (λ (more : List X). flat_map f history ++ more) (none_in f places none)
+    ∙ append-nil (flat_map f history)
 
 -- one more order
 covered_more : (session : Session) (orders : List ToWorker) (order : ToWorker) → AreCoveredFrom session orders
@@ -66,7 +68,8 @@ covered_more : (session : Session) (orders : List ToWorker) (order : ToWorker) �
 covered_more session [] order are is = (is, tt)
 covered_more session (first ∷ orders) order are is = (are.0, covered_more (after_order session first) orders order are.1 is)
 
-covered_on : (orders : List ToWorker) (order : ToWorker) → AreCovered orders → is_covered (placed_commands (after_order (session_of orders) order).groups) ≡ true
+covered_on : (orders : List ToWorker) (order : ToWorker) → AreCovered orders
+    → is_covered (placed_commands (after_order (session_of orders) order).groups) ≡ true
     → AreCovered (orders ++ order ∷ [])
 unfolding AreCovered
 covered_on orders order are is = covered_more no_session orders order are is
@@ -75,16 +78,19 @@ handed_order : (job : Job) (history : List Happening) (order : ToWorker) → IsH
     → is_covered (placed_commands (after_order (session_of (orders_in history)) order).groups) ≡ true → IsHandedTruth job (history ++ Ordered order ∷ [])
 handed_order job history order handed may covered =
     let orders : orders_in (history ++ Ordered order ∷ []) ≡ orders_in history ++ order ∷ [] = flat_map-append order_in history (Ordered order ∷ []) in
-    let frames : frames_in (history ++ Ordered order ∷ []) ≡ frames_in history = flat_map-append frame_in history (Ordered order ∷ []) ∙ append-nil (frames_in history) in
+    let frames : frames_in (history ++ Ordered order ∷ []) ≡ frames_in history =
+    flat_map-append frame_in history (Ordered order ∷ []) ∙ append-nil (frames_in history) in
     record {
       legal = subst (IsLegal job) (sym orders) (by_steps.longer job (orders_in history) order handed.legal may);
       covered = subst AreCovered (sym orders) (covered_on (orders_in history) order handed.covered covered);
       frames = subst (All (IsGoodFrame job)) (sym frames) handed.frames;
     }
 
-handed_frame : (job : Job) (history : List Happening) (frame : Data) → IsHandedTruth job history → IsGoodFrame job frame → IsHandedTruth job (history ++ Framed frame ∷ [])
+handed_frame : (job : Job) (history : List Happening) (frame : Data) → IsHandedTruth job history → IsGoodFrame job frame
+    → IsHandedTruth job (history ++ Framed frame ∷ [])
 handed_frame job history frame handed good =
-    let orders : orders_in (history ++ Framed frame ∷ []) ≡ orders_in history = flat_map-append order_in history (Framed frame ∷ []) ∙ append-nil (orders_in history) in
+    let orders : orders_in (history ++ Framed frame ∷ []) ≡ orders_in history =
+    flat_map-append order_in history (Framed frame ∷ []) ∙ append-nil (orders_in history) in
     let frames : frames_in (history ++ Framed frame ∷ []) ≡ frames_in history ++ frame ∷ [] = flat_map-append frame_in history (Framed frame ∷ []) in
     record {
       legal = subst (IsLegal job) (sym orders) handed.legal;
@@ -97,5 +103,6 @@ truth_goes_on = record {
   ordered = handed_order;
   framed = handed_frame;
   completed = λ job history places.
-      handed_alike job history (history ++ map Completed places) (still_in order_in history places (λ place. refl)) (still_in frame_in history places (λ place. refl));
+      handed_alike job history (history ++ map Completed places) (still_in order_in history places (λ place. refl))
+      (still_in frame_in history places (λ place. refl));
 }

@@ -60,7 +60,8 @@ removed_true job inbox gone all key =
     (gone_there (IsTrueAt job key) (is_eq (key_cmp key gone)) (map.get inbox key) (all key))
 
 -- without those of earlier epochs
-pub retained_true : (job : Job) (inbox : map.FinMap key_cmp Grid) (epoch : ℕ) → IsTrueInbox job inbox → IsTrueInbox job (map.retain_keys inbox (is_not_before epoch))
+pub retained_true : (job : Job) (inbox : map.FinMap key_cmp Grid) (epoch : ℕ) → IsTrueInbox job inbox
+    → IsTrueInbox job (map.retain_keys inbox (is_not_before epoch))
 retained_true job inbox epoch all key =
     subst (λ (o : Option Grid). IfSome o (IsTrueAt job key))
     (sym (get-retain_keys inbox (is_not_before epoch) key (λ k alike. ap (is_not_before epoch) (sym (exact_keys key k alike)))))

@@ -28,7 +28,8 @@ all_right : (job : Job) (state : WorkerState) (history : List Happening) → is_
 all_right job state [] whole right may is = right
 all_right job state (Ordered order ∷ history) whole right may is =
     all_right job (ordered state order) history whole (ordered_right job state order is.legal.0 is.covered.0 right) may.1
-    (true_in job _ (ordered state order).session history (ordered_session state order) (record { legal = is.legal.1; covered = is.covered.1; frames = is.frames }))
+    (true_in job _ (ordered state order).session history (ordered_session state order)
+    (record { legal = is.legal.1; covered = is.covered.1; frames = is.frames }))
 all_right job state (Framed frame ∷ history) whole right may is =
     all_right job (framed state frame) history whole (framed_right job state frame (All-head (IsGoodFrame job) frame (frames_in history) is.frames) right) may.1
     (true_in job state.session (framed state frame).session history (framed_session state frame)

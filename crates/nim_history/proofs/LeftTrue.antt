@@ -26,12 +26,15 @@ use Rattle.nim_history.proofs.TrueRuns.{run_true, some_gives}
 use Rattle.nim_history.proofs.TrueSlots.{IsTrueTo, fitting_there, put_there, put_true, results_true}
 
 -- what a Create makes is the first version
-create_right : (job : Job) (slot : Slot) (iota : Bool) (number : ℤ) (shape : Shape) → is_whole job ≡ true → slice_get (shapes_of job.vars) (object_of slot).0 ≡ Some shape
+create_right : (job : Job) (slot : Slot) (iota : Bool) (number : ℤ) (shape : Shape) → is_whole job ≡ true
+    → slice_get (shapes_of job.vars) (object_of slot).0 ≡ Some shape
     → slice_get (initial_values job.vars) (object_of slot).0 ≡ Some (created shape iota number)
-    → (is_object (objects_of job.vars) (object_of slot) ≡ true) × IsTrueHeld job (held_at slot 0 (created (fitting_shape (shapes_of job.vars) slot) iota number))
+    → (is_object (objects_of job.vars) (object_of slot) ≡ true)
+    × IsTrueHeld job (held_at slot 0 (created (fitting_shape (shapes_of job.vars) slot) iota number))
 create_right job slot iota number shape whole shaped made =
     let there : is_object (objects_of job.vars) (object_of slot) ≡ true =
-    lt-ltb (object_of slot).0 (objects_of job.vars) (omega (arith, slice_get_within (shapes_of job.vars) (object_of slot).0 shape shaped, length_shapes job.vars)) in
+    lt-ltb (object_of slot).0 (objects_of job.vars)
+    (omega (arith, slice_get_within (shapes_of job.vars) (object_of slot).0 shape shaped, length_shapes job.vars)) in
     let fitting : fitting_shape (shapes_of job.vars) slot ≡ shape =
     fitting_there job.vars slot (vars_sizes job.vars (whole_vars job whole)).1 there
     ∙ get_or_from_slice_get (shapes_of job.vars) (object_of slot).0 shape (record { width = 1; rows = 0 }) shaped in
@@ -45,7 +48,8 @@ create_right job slot iota number shape whole shaped made =
     )
 
 -- the slots after a Create
-create_true : (job : Job) (frame : Option Grid) (slot : Slot) (iota : Bool) (number : ℤ) (now : Slot → Option Held) (before : Slot → Content) → is_whole job ≡ true
+create_true : (job : Job) (frame : Option Grid) (slot : Slot) (iota : Bool) (number : ℤ) (now : Slot → Option Held) (before : Slot → Content)
+    → is_whole job ≡ true
     → IsLegalKind job before (Create slot iota number) → ((s : Slot) → IsTrueTo job (now s) (before s))
     → (s : Slot) → IsTrueTo job (kept_by (shapes_of job.vars) frame (Create slot iota number) now s) (left_by (Create slot iota number) before s)
 create_true job frame slot iota number now before whole legal are s =
@@ -59,15 +63,19 @@ create_true job frame slot iota number now before whole legal are s =
     (put_true job slot (Some held) (content_at slot 0) now before (record { same = refl; right = right.1 }) are s))
 
 -- the slots after a Run
-run_leaves : (job : Job) (frame : Option Grid) (position : ℕ) (func : Func) (params : List ℤ) (reads writes : List Slot) (now : Slot → Option Held) (before : Slot → Content) → is_whole job ≡ true
+run_leaves : (job : Job) (frame : Option Grid) (position : ℕ) (func : Func) (params : List ℤ) (reads writes : List Slot) (now : Slot → Option Held)
+    (before : Slot → Content) → is_whole job ≡ true
     → IsLegalKind job before (Run position func params reads writes) → ((s : Slot) → IsTrueTo job (now s) (before s))
-    → (s : Slot) → IsTrueTo job (kept_by (shapes_of job.vars) frame (Run position func params reads writes) now s) (left_by (Run position func params reads writes) before s)
+    → (s : Slot)
+    → IsTrueTo job (kept_by (shapes_of job.vars) frame (Run position func params reads writes) now s) (left_by (Run position func params reads writes) before s)
 run_leaves job frame position func params reads writes now before whole legal are s =
-    some_gives (IsTrueTo job (kept_by (shapes_of job.vars) frame (Run position func params reads writes) now s) (left_by (Run position func params reads writes) before s))
+    some_gives
+    (IsTrueTo job (kept_by (shapes_of job.vars) frame (Run position func params reads writes) now s) (left_by (Run position func params reads writes) before s))
     (slice_get (tasks_of job) position) (run_true job now before position func params reads writes whole legal are)
     (λ task is run.
     rw run.counts
-    (results_true job (version_after position) writes (results_for (shapes_of job.vars) func params reads writes now) now before (vars_sizes job.vars (whole_vars job whole)).1 run.left are s))
+    (results_true job (version_after position) writes (results_for (shapes_of job.vars) func params reads writes now) now before
+    (vars_sizes job.vars (whole_vars job whole)).1 run.left are s))
 
 -- the frame that a command receives carries the value of the version that it names
 abbrev pub IsFrameFor : Job → Kind → Option Grid → Type 0
@@ -85,7 +93,8 @@ receive_leaves job slot version (Some value) now before there is are s =
     (record { same = refl; right = record { version = there; value = is } }) are s
 
 -- after one more command that is legal
-pub left_true : (job : Job) (frame : Option Grid) (kind : Kind) (now : Slot → Option Held) (before : Slot → Content) → is_whole job ≡ true → IsLegalKind job before kind
+pub left_true : (job : Job) (frame : Option Grid) (kind : Kind) (now : Slot → Option Held) (before : Slot → Content) → is_whole job ≡ true
+    → IsLegalKind job before kind
     → IsFrameFor job kind frame → ((s : Slot) → IsTrueTo job (now s) (before s)) → (s : Slot)
     → IsTrueTo job (kept_by (shapes_of job.vars) frame kind now s) (left_by kind before s)
 left_true job frame (Create slot iota number) now before whole legal is are s = create_true job frame slot iota number now before whole legal are s

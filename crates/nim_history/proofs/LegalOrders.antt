@@ -40,7 +40,8 @@ legal_among job past [] i c legal is = absurd cc
 legal_among job past (x ∷ xs) zero c legal is =
     let same : x ≡ c = cc in
     let place : length past ≡ length past + 0 = omega arith in
-    let front : holds past (length past) ≡ holds (past ++ x ∷ xs) (length past) = fun_ext (λ slot. sym (holds_front past (x ∷ xs) (length past) (omega arith) slot)) in
+    let front : holds past (length past) ≡ holds (past ++ x ∷ xs) (length past) =
+    fun_ext (λ slot. sym (holds_front past (x ∷ xs) (length past) (omega arith) slot)) in
     subst (λ (n : ℕ). IsLegalKind job (holds (past ++ x ∷ xs) n) c.kind) place
     (subst (λ (h : Slot → Content). IsLegalKind job h c.kind) front (subst (λ (d : Command). IsLegalKind job (holds past (length past)) d.kind) same legal.0))
 legal_among job past (x ∷ xs) (suc i) c legal is =
@@ -48,7 +49,8 @@ legal_among job past (x ∷ xs) (suc i) c legal is =
     subst (λ (all : List Command). IsLegalKind job (holds all (length past + suc i)) c.kind) (append_assoc past (x ∷ []) xs)
     (subst (λ (n : ℕ). IsLegalKind job (holds ((past ++ x ∷ []) ++ xs) n) c.kind) place (legal_among job (past ++ x ∷ []) xs i c legal.1 is))
 
-pub legal_at : (job : Job) (commands : List Command) (i : ℕ) (c : Command) → AreLegal job [] commands → slice_get commands i ≡ Some c → IsLegalKind job (holds commands i) c.kind
+pub legal_at : (job : Job) (commands : List Command) (i : ℕ) (c : Command) → AreLegal job [] commands → slice_get commands i ≡ Some c
+    → IsLegalKind job (holds commands i) c.kind
 legal_at job commands i c legal is =
     let place : 0 + i ≡ i = omega arith in
     subst (λ (n : ℕ). IsLegalKind job (holds commands n) c.kind) place (legal_among job [] commands i c legal is)
@@ -64,7 +66,8 @@ grown : (job : Job) (session : Session) (group : Group) → session.begun ≡ tr
     → IsSound job (with_group session group)
 grown job session group begun more sound =
     let all : commands_of (with_group session group).groups ≡ commands_of session.groups ++ group.commands =
-    flat_map-append (λ (g : Group). g.commands) session.groups (group ∷ []) ∙ ap (λ (cs : List Command). commands_of session.groups ++ cs) (append-nil group.commands) in
+    flat_map-append (λ (g : Group). g.commands) session.groups (group ∷ [])
+    ∙ ap (λ (cs : List Command). commands_of session.groups ++ cs) (append-nil group.commands) in
     record {
       legal = subst (λ (cs : List Command). AreLegal job [] cs) (sym all) (legal_behind job [] (commands_of session.groups) group.commands sound.legal more);
       shapes = sound.shapes;
@@ -72,41 +75,51 @@ grown job session group begun more sound =
     }
 
 -- halves and patches don't count
-alike : (job : Job) (session wider : Session) → IsSound job session → wider.groups ≡ session.groups → wider.shapes ≡ session.shapes → wider.begun ≡ session.begun → IsSound job wider
+alike : (job : Job) (session wider : Session) → IsSound job session → wider.groups ≡ session.groups → wider.shapes ≡ session.shapes
+    → wider.begun ≡ session.begun → IsSound job wider
 alike job session wider sound groups shapes same = record {
   legal = subst (λ (gs : List Group). AreLegal job [] (commands_of gs)) (sym groups) sound.legal;
   shapes = λ begun. shapes ∙ sound.shapes (sym same ∙ begun);
   none = λ unbegun. ap commands_of groups ∙ sound.none (sym same ∙ unbegun);
 }
 
-alike_if : (job : Job) (session wider : Session) → IsSound job session → wider.groups ≡ session.groups → wider.shapes ≡ session.shapes → wider.begun ≡ session.begun
+alike_if : (job : Job) (session wider : Session) → IsSound job session → wider.groups ≡ session.groups → wider.shapes ≡ session.shapes
+    → wider.begun ≡ session.begun
     → (b : Bool) → IsSound job (if b then wider else session)
 alike_if job session wider sound groups shapes same true = alike job session wider sound groups shapes same
 alike_if job session wider sound groups shapes same false = sound
 
 -- with one more group where it counts
-grown_if : (job : Job) (session wider : Session) (group : Group) → session.begun ≡ true → AreLegal job (commands_of session.groups) group.commands → IsSound job session
-    → wider.groups ≡ session.groups → wider.shapes ≡ session.shapes → wider.begun ≡ session.begun → (b : Bool) → IsSound job (if b then with_group wider group else session)
+grown_if : (job : Job) (session wider : Session) (group : Group) → session.begun ≡ true → AreLegal job (commands_of session.groups) group.commands
+    → IsSound job session
+    → wider.groups ≡ session.groups → wider.shapes ≡ session.shapes → wider.begun ≡ session.begun → (b : Bool)
+    → IsSound job (if b then with_group wider group else session)
 grown_if job session wider group begun more sound groups shapes same true =
-    grown job wider group (same ∙ begun) (subst (λ (gs : List Group). AreLegal job (commands_of gs) group.commands) (sym groups) more) (alike job session wider sound groups shapes same)
+    grown job wider group (same ∙ begun) (subst (λ (gs : List Group). AreLegal job (commands_of gs) group.commands) (sym groups) more)
+    (alike job session wider sound groups shapes same)
 grown_if job session wider group begun more sound groups shapes same false = sound
 
 -- after one more order
-pub sound_order : (job : Job) (session : Session) (order : ToWorker) → IsLegalOrder job session order → IsSound job session → IsSound job (after_order session order)
+pub sound_order : (job : Job) (session : Session) (order : ToWorker) → IsLegalOrder job session order → IsSound job session
+    → IsSound job (after_order session order)
 sound_order job session (Single epoch instance commands) legal sound =
     grown_if job session session (single_group epoch instance commands) legal.0 legal.2 sound refl refl refl (is_current session epoch)
-sound_order job session (InstallTemplate epoch block entries) legal sound = alike_if job session (with_half session block entries) sound refl refl refl (is_current session epoch)
+sound_order job session (InstallTemplate epoch block entries) legal sound =
+    alike_if job session (with_half session block entries) sound refl refl refl (is_current session epoch)
 sound_order job session (Instantiate epoch instance block base args versions edits) legal sound =
     let half : List Entry = edited_by edits (session.halves block) in
-    grown_if job session (with_half session block half) (instance_group epoch instance base args versions half) legal.0 legal.2 sound refl refl refl (is_current session epoch)
-sound_order job session (InstallPatch epoch patch copies) legal sound = alike_if job session (with_patch session patch copies) sound refl refl refl (is_current session epoch)
+    grown_if job session (with_half session block half) (instance_group epoch instance base args versions half) legal.0 legal.2 sound refl refl refl
+    (is_current session epoch)
+sound_order job session (InstallPatch epoch patch copies) legal sound =
+    alike_if job session (with_patch session patch copies) sound refl refl refl (is_current session epoch)
 sound_order job session (RunPatch epoch instance patch versions) legal sound =
     grown_if job session session (patch_group epoch instance versions (session.patches patch)) legal.0 legal.2 sound refl refl refl (is_current session epoch)
 sound_order job session (Reset epoch worker workers shapes) legal sound = record { legal = tt; shapes = λ begun. legal; none = λ unbegun. refl }
 sound_order job session Stop legal sound = sound
 
 -- where a command is, the session has begun, and has the job's shapes
-pub shapes_there : (job : Job) (session : Session) (place : ℕ) (command : Command) → IsSound job session → slice_get (commands_of session.groups) place ≡ Some command
+pub shapes_there : (job : Job) (session : Session) (place : ℕ) (command : Command) → IsSound job session
+    → slice_get (commands_of session.groups) place ≡ Some command
     → session.shapes ≡ shapes_of job.vars
 shapes_there job session place command sound there = either session.begun refl where
   either : (b : Bool) → session.begun ≡ b → session.shapes ≡ shapes_of job.vars

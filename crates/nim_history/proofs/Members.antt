@@ -24,7 +24,8 @@ abbrev kinds_of : List Command → List Kind
 kinds_of commands = map (λ (c : Command). c.kind) commands
 
 -- the commands of members are those of their groups
-of_group : (number : ℕ) (commands : List Command) → map (λ (m : Member). m.command) (map (λ command. record { group = number; command = command }) commands) ≡ commands
+of_group : (number : ℕ) (commands : List Command)
+    → map (λ (m : Member). m.command) (map (λ command. record { group = number; command = command }) commands) ≡ commands
 of_group number [] = refl
 of_group number (command ∷ commands) = ap (λ (rest : List Command). command ∷ rest) (of_group number commands)
 
@@ -45,7 +46,8 @@ same_kinds groups = placed_kinds (members_of groups) 0 (members_of groups) ∙ a
 
 -- what slots hold is a matter of what commands do
 by_kind : (command : Option Command) (before : Slot → Content) (slot : Slot)
-    → option_map_or (λ (c : Command). left_by c.kind before slot) command (before slot) ≡ option_map_or (λ (k : Kind). left_by k before slot) (kind_in command) (before slot)
+    → option_map_or (λ (c : Command). left_by c.kind before slot) command (before slot)
+    ≡ option_map_or (λ (k : Kind). left_by k before slot) (kind_in command) (before slot)
 by_kind None before slot = refl
 by_kind (Some c) before slot = refl
 
@@ -59,7 +61,8 @@ holds_alike : (xs ys : List Command) (place : ℕ) → kinds_of xs ≡ kinds_of 
 holds_alike xs ys zero same = refl
 holds_alike xs ys (suc place) same =
     fun_ext (λ slot. by_kind (slice_get xs place) (holds xs place) slot
-    ∙ ap₂ (λ (before : Slot → Content) (kind : Option Kind). option_map_or (λ (k : Kind). left_by k before slot) kind (before slot)) (holds_alike xs ys place same) (alike_at xs ys place same)
+    ∙ ap₂ (λ (before : Slot → Content) (kind : Option Kind). option_map_or (λ (k : Kind). left_by k before slot) kind (before slot))
+    (holds_alike xs ys place same) (alike_at xs ys place same)
     ∙ sym (by_kind (slice_get ys place) (holds ys place) slot))
 
 pub placed_holds : (groups : List Group) (place : ℕ) (slot : Slot) → holds (placed_commands groups) place slot ≡ holds (commands_of groups) place slot
@@ -72,24 +75,29 @@ in_its_group m None asked is = absurd cc
 in_its_group m (Some g) asked is = let same : record { number = m.group; group = g; command = m.command } ≡ asked = cc in ap (λ (a : Asked). a.command) same
 
 asked_of : (groups : List Group) (member : Option Member) (asked : Asked)
-    → option_and_then (λ (m : Member). option_map (λ (group : Group). record { number = m.group; group = group; command = m.command }) (slice_get groups m.group)) member ≡ Some asked
+    → option_and_then
+    (λ (m : Member). option_map (λ (group : Group). record { number = m.group; group = group; command = m.command }) (slice_get groups m.group)) member
+    ≡ Some asked
     → option_map (λ (m : Member). m.command) member ≡ Some asked.command
 asked_of groups None asked is = absurd cc
 asked_of groups (Some m) asked is = ap Some (in_its_group m (slice_get groups m.group) asked is)
 
 -- it stands at its place in the list of commands
-pub listed_at : (groups : List Group) (place : ℕ) (asked : Asked) → asked_at groups place ≡ Some asked → slice_get (commands_of groups) place ≡ Some asked.command
+pub listed_at : (groups : List Group) (place : ℕ) (asked : Asked) → asked_at groups place ≡ Some asked
+    → slice_get (commands_of groups) place ≡ Some asked.command
 listed_at groups place asked is =
     ap (λ (commands : List Command). slice_get commands place) (sym (members_commands 0 groups))
     ∙ slice_get-map (λ (m : Member). m.command) (members_of groups) place ∙ asked_of groups (slice_get (members_of groups) place) asked is
 
 -- and so does what it does in the list of waits
-pub placed_at : (groups : List Group) (place : ℕ) (asked : Asked) → asked_at groups place ≡ Some asked → kind_in (slice_get (placed_commands groups) place) ≡ Some asked.command.kind
+pub placed_at : (groups : List Group) (place : ℕ) (asked : Asked) → asked_at groups place ≡ Some asked
+    → kind_in (slice_get (placed_commands groups) place) ≡ Some asked.command.kind
 placed_at groups place asked is =
     alike_at (placed_commands groups) (commands_of groups) place (same_kinds groups) ∙ ap kind_in (listed_at groups place asked is)
 
 -- what is known of a command by what it does
-touches_by : (command : Option Command) (kind : Kind) (slot : Slot) → kind_in command ≡ Some kind → option_map_or (λ (c : Command). does_touch c.kind slot) command false ≡ does_touch kind slot
+touches_by : (command : Option Command) (kind : Kind) (slot : Slot) → kind_in command ≡ Some kind
+    → option_map_or (λ (c : Command). does_touch c.kind slot) command false ≡ does_touch kind slot
 touches_by None kind slot is = absurd cc
 touches_by (Some c) kind slot is = let same : c.kind ≡ kind = cc in ap (λ (k : Kind). does_touch k slot) same
 

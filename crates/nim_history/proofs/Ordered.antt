@@ -36,20 +36,23 @@ grows_if true session wider grows = grows
 grows_if false session wider grows = ([], sym (append-nil session.groups))
 
 -- more commands behind those that were asked for
-longer_right : (job : Job) (state : WorkerState) (session : Session) → GrowsTo state.session session → IsSound job session → is_covered (placed_commands session.groups) ≡ true
+longer_right : (job : Job) (state : WorkerState) (session : Session) → GrowsTo state.session session → IsSound job session
+    → is_covered (placed_commands session.groups) ≡ true
     → IsRight job state → IsRight job (record state { session = session })
 longer_right job state session grows sound covered right =
     let front : List Command = placed_commands state.session.groups in
     let rest : List Command = drop (length front) (placed_commands (state.session.groups ++ grows.0)) in
     let is : placed_commands session.groups ≡ front ++ rest = ap placed_commands grows.1 ∙ front_stays state.session.groups grows.0 in
-    let stands : LongerStands versions nothing front rest (is_one_of state.ran) = any_longer Content versions nothing front rest (is_one_of state.ran) right.within in
+    let stands : LongerStands versions nothing front rest (is_one_of state.ran) =
+    any_longer Content versions nothing front rest (is_one_of state.ran) right.within in
     record {
       sound = sound;
       covered = covered;
       closed = subst (λ (commands : List Command). IsClosed commands (is_one_of state.ran)) (sym is) (stands.closed right.closed);
       within = λ place past. right.within place (omega (arith, past, ap length is, length-append front rest));
       contents = λ slot.
-          right.contents slot ∙ sym (stands.held slot) ∙ ap (λ (commands : List Command). held_when versions nothing commands (is_one_of state.ran) slot) (sym is);
+          right.contents slot ∙ sym (stands.held slot)
+          ∙ ap (λ (commands : List Command). held_when versions nothing commands (is_one_of state.ran) slot) (sym is);
       slots = right.slots;
       inbox = right.inbox;
       gave = right.gave;

@@ -29,14 +29,16 @@ only_one : {X : Type 0} (P : X → Type 0) (x : X) → P x → All P (x ∷ [])
 only_one P x is = All-cons P x [] is (All-nil P)
 
 -- a slot that isn't empty has a true version
-seen_right : (job : Job) (now : Slot → Option Held) (slot : Slot) (content : Content) → IsTrueTo job (now slot) content → content ≢ None → IsTrueHeld job (seen now slot)
+seen_right : (job : Job) (now : Slot → Option Held) (slot : Slot) (content : Content) → IsTrueTo job (now slot) content → content ≢ None
+    → IsTrueHeld job (seen now slot)
 seen_right job now slot content is some = either (now slot) is where
   either : (h : Option Held) → IsTrueTo job h content → IsTrueHeld job (option_map_or (λ (held : Held). held) h (held_at slot 0 empty_grid))
   either None true_to = absurd (some (sym true_to.same))
   either (Some held) true_to = true_to.right
 
 -- what is reported of a Run that is to be reported
-told_good : (job : Job) (group : Group) (position : ℕ) (func : Func) (params : List ℤ) (reads writes : List Slot) (now : Slot → Option Held) (before : Slot → Content) → is_whole job ≡ true
+told_good : (job : Job) (group : Group) (position : ℕ) (func : Func) (params : List ℤ) (reads writes : List Slot) (now : Slot → Option Held)
+    (before : Slot → Content) → is_whole job ≡ true
     → IsLegalKind job before (Run position func params reads writes) → ((s : Slot) → IsTrueTo job (now s) (before s)) → (b : Bool)
     → All (IsGoodOut job) (if b then Out.Report (Ran group.epoch position (contents_read func params reads writes now)) ∷ [] else [])
 told_good job group position func params reads writes now before whole legal are true =
@@ -53,7 +55,8 @@ own_good job group (Send slot peer entry) now before whole legal are =
     only_one (IsGoodOut job) (Out.Data peer (frame_of group entry (seen now slot))) (right.version, right.value)
 own_good job group (Fetch slot ticket) now before whole legal are =
     let right = seen_right job now slot (before slot) (are slot) legal in
-    only_one (IsGoodOut job) (Out.Report (Value group.epoch ticket (seen now slot).object (seen now slot).version (seen now slot).value)) (right.version, right.value)
+    only_one (IsGoodOut job) (Out.Report (Value group.epoch ticket (seen now slot).object (seen now slot).version (seen now slot).value))
+    (right.version, right.value)
 own_good job group (Run position func params reads writes) now before whole legal are =
     told_good job group position func params reads writes now before whole legal are (is_single group.source)
 own_good job group (Create slot iota number) now before whole legal are = All-nil (IsGoodOut job)
@@ -68,7 +71,8 @@ through_good job FromSingle group left = All-nil (IsGoodOut job)
 through_good job FromPatch group left = All-nil (IsGoodOut job)
 
 -- all that is given when a legal command is completed
-pub outs_good : (job : Job) (state : WorkerState) (place : ℕ) (asked : Asked) (before : Slot → Content) → is_whole job ≡ true → IsLegalKind job before asked.command.kind
+pub outs_good : (job : Job) (state : WorkerState) (place : ℕ) (asked : Asked) (before : Slot → Content) → is_whole job ≡ true
+    → IsLegalKind job before asked.command.kind
     → ((s : Slot) → IsTrueTo job (state.slots s) (before s)) → All (IsGoodOut job) (outs_of state place asked)
 outs_good job state place asked before whole legal are =
     let left : ℕ = left_of state.session.groups asked.number (state.ran ++ place ∷ []) in

@@ -47,9 +47,11 @@ length-fit_all [] (shape ∷ shapes) same = absurd cc
 length-fit_all (grid ∷ grids) [] same = absurd cc
 length-fit_all (grid ∷ grids) (shape ∷ shapes) same = ap suc (length-fit_all grids shapes (omega (arith, same)))
 
-length-apply : (func : Func) (params : List ℤ) (reads : List Grid) (shapes : List Shape) → length shapes ≡ writes_of func → length (apply_of func params reads shapes) ≡ length shapes
+length-apply : (func : Func) (params : List ℤ) (reads : List Grid) (shapes : List Shape) → length shapes ≡ writes_of func
+    → length (apply_of func params reads shapes) ≡ length shapes
 length-apply func params reads [] same = refl
-length-apply func params reads (shape ∷ shapes) same = length-fit_all (results_of func params reads shape) (shape ∷ shapes) (length-results func params reads shape ∙ sym same)
+length-apply func params reads (shape ∷ shapes) same =
+    length-fit_all (results_of func params reads shape) (shape ∷ shapes) (length-results func params reads shape ∙ sym same)
 
 -- as many writes as the function has results
 counts_writes : (func : Func) (params reads writes : ℕ) → has_counts func params reads writes ≡ true → writes ≡ writes_of func
@@ -62,7 +64,8 @@ item_passes p (y ∷ ys) zero x all is = let same : y ≡ x = cc in ap p (sym sa
 item_passes p (y ∷ ys) (suc i) x all is = item_passes p ys i x (and_parts (p y) (list_all p ys) all).1 is
 
 -- an object among these is there
-among_there : (n : ℕ) (objects : List Object) (object : Object) → list_all (is_object n) objects ≡ true → list_any (λ (o : Object). o.0 == object.0) objects ≡ true → is_object n object ≡ true
+among_there : (n : ℕ) (objects : List Object) (object : Object) → list_all (is_object n) objects ≡ true
+    → list_any (λ (o : Object). o.0 == object.0) objects ≡ true → is_object n object ≡ true
 among_there n [] object all is = absurd (both_ways false refl is)
 among_there n (o ∷ objects) object all is = either (o.0 == object.0) refl (among_there n objects object parts.1) is where
   parts : (is_object n o ≡ true) × (list_all (is_object n) objects ≡ true)
@@ -99,7 +102,8 @@ writes_right job version (slot ∷ slots) (grid ∷ grids) values paired distinc
     let within : o.0 < length values = ltb-true o.0 (length values) parts.0 in (
       record {
         version = are o (or_left (o.0 == o.0) (list_any (λ (p : Object). p.0 == o.0) (map object_of slots)) (eq-eqb o.0 o.0 refl));
-        value = sym (is o ∙ written_other (slice_set values o.0 grid) (map object_of slots) grids o distinct.0 ∙ get_or-set_same values o.0 grid empty_grid within);
+        value =
+            sym (is o ∙ written_other (slice_set values o.0 grid) (map object_of slots) grids o distinct.0 ∙ get_or-set_same values o.0 grid empty_grid within);
       },
       writes_right job version slots grids (slice_set values o.0 grid) (omega (arith, paired)) distinct.1
           (subst (λ (n : ℕ). list_all (is_object n) (map object_of slots) ≡ true) (sym (length-set values o.0 grid)) parts.1)
@@ -108,18 +112,21 @@ writes_right job version (slot ∷ slots) (grid ∷ grids) values paired distinc
     )
 
 -- What a Run of a task reads and gives.
-pub record IsTrueRun (job : Job) (now : Slot → Option Held) (position : ℕ) (func : Func) (params : List ℤ) (reads writes : List Slot) (task : Task) : Type 0 where
+pub record IsTrueRun (job : Job) (now : Slot → Option Held) (position : ℕ) (func : Func) (params : List ℤ) (reads writes : List Slot) (task : Task)
+    : Type 0 where
   pub counts : has_counts func (length params) (length reads) (length writes) ≡ true
   pub contents : map (content_seen now) reads ≡ reads_at job position task
   pub values : map (λ slot. (seen now slot).value) reads ≡ values_read job position task
-  pub left : AllZip (λ slot grid. IsTrueHeld job (held_at slot (version_after position) grid)) writes (results_for (shapes_of job.vars) func params reads writes now)
+  pub left : AllZip (λ slot grid. IsTrueHeld job (held_at slot (version_after position) grid)) writes
+      (results_for (shapes_of job.vars) func params reads writes now)
 
 -- a whole job's steps
 steps_few : (job : Job) → is_whole job ≡ true → job.steps ≤ 1000000
 steps_few job whole = grind (arith, nat_tests)
 
 -- what the task at a position writes has the next version, which is one of the job
-next_version : (job : Job) (position : ℕ) (task : Task) → is_whole job ≡ true → slice_get (tasks_of job) position ≡ Some task → version_after position ≡ suc position
+next_version : (job : Job) (position : ℕ) (task : Task) → is_whole job ≡ true → slice_get (tasks_of job) position ≡ Some task
+    → version_after position ≡ suc position
 next_version job position task whole there =
     omega (arith, slice_get_within (tasks_of job) position task there, few_tasks job whole, steps_few job whole)
 
@@ -129,7 +136,8 @@ version_there job position version task object next there is wrote =
     let before : version - 1 ≡ position = omega (arith, next) in
     and_from (is_object (objects_of job.vars) object) ((version == 0) || option_map_or (is_written object) (slice_get (tasks_of job) (version - 1)) false) is
     (or_right (version == 0) (option_map_or (is_written object) (slice_get (tasks_of job) (version - 1)) false)
-    (ap (λ (k : ℕ). option_map_or (is_written object) (slice_get (tasks_of job) k) false) before ∙ ap (λ (t : Option Task). option_map_or (is_written object) t false) there ∙ wrote))
+    (ap (λ (k : ℕ). option_map_or (is_written object) (slice_get (tasks_of job) k) false) before
+    ∙ ap (λ (t : Option Task). option_map_or (is_written object) t false) there ∙ wrote))
 
 -- the results of a Run are fitted to the shapes of the objects that its task writes
 shapes_fitting : (vars : List Var) (slots : List Slot) → list_all is_var vars ≡ true → list_all (is_object (objects_of vars)) (map object_of slots) ≡ true
@@ -147,12 +155,14 @@ values_before job position task =
     ap (λ (f : Object → Grid). map f task.reads) same
 
 -- what a task that fits gives
-task_parts : (objects : ℕ) (task : Task) → is_task objects task ≡ true → (has_counts task.func (length task.params) (length task.reads) (length task.writes) ≡ true)
+task_parts : (objects : ℕ) (task : Task) → is_task objects task ≡ true
+    → (has_counts task.func (length task.params) (length task.reads) (length task.writes) ≡ true)
     × (list_all (is_object objects) task.writes ≡ true) × (are_distinct task.writes ≡ true)
 task_parts objects task fit = grind (arith, nat_tests)
 
 -- a Run of a task that is there, where the slots have what they hold
-run_of : (job : Job) (now : Slot → Option Held) (before : Slot → Content) (position : ℕ) (func : Func) (params : List ℤ) (reads writes : List Slot) (task : Task)
+run_of : (job : Job) (now : Slot → Option Held) (before : Slot → Content) (position : ℕ) (func : Func) (params : List ℤ) (reads writes : List Slot)
+    (task : Task)
     → is_whole job ≡ true → ((s : Slot) → IsTrueTo job (now s) (before s)) → slice_get (tasks_of job) position ≡ Some task
     → IsRunOf job before position func params reads writes task → IsTrueRun job now position func params reads writes task
 run_of job now before position func params reads writes task whole are there run =
@@ -173,8 +183,10 @@ run_of job now before position func params reads writes task whole are there run
     sym (length-apply func params (map (λ slot. (seen now slot).value) reads) (map (fitting_shape (shapes_of job.vars)) writes)
     (length-map writes (fitting_shape (shapes_of job.vars)) ∙ counts_writes func (length params) (length reads) (length writes) counts)
     ∙ length-map writes (fitting_shape (shapes_of job.vars))) in
-    let given : results ≡ apply_of task.func task.params (map (value_at (values_after job position)) task.reads) (map (shape_at (shapes_of job.vars)) task.writes) =
-    ap₂ (λ (f : Func) (ps : List ℤ). apply_of f ps (map (λ slot. (seen now slot).value) reads) (map (fitting_shape (shapes_of job.vars)) writes)) run.func run.params
+    let read_before : List Grid = map (value_at (values_after job position)) task.reads in
+    let given : results ≡ apply_of task.func task.params read_before (map (shape_at (shapes_of job.vars)) task.writes) =
+    ap₂ (λ (f : Func) (ps : List ℤ). apply_of f ps (map (λ slot. (seen now slot).value) reads) (map (fitting_shape (shapes_of job.vars)) writes))
+    run.func run.params
     ∙ ap₂ (λ (vs : List Grid) (ss : List Shape). apply_of task.func task.params vs ss) (read.1 ∙ values_before job position task)
     (shapes_fitting job.vars writes vars written_there ∙ ap (map (shape_at (shapes_of job.vars))) run.writes) in
     let next = next_version job position task whole there in

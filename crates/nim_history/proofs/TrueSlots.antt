@@ -34,7 +34,8 @@ pub record IsTrueTo (job : Job) (held : Option Held) (content : Content) : Type 
   pub right : IfSome held (IsTrueHeld job)
 
 -- one more is put
-pub put_true : (job : Job) (slot : Slot) (held : Option Held) (content : Content) (now : Slot → Option Held) (before : Slot → Content) → IsTrueTo job held content
+pub put_true : (job : Job) (slot : Slot) (held : Option Held) (content : Content) (now : Slot → Option Held) (before : Slot → Content)
+    → IsTrueTo job held content
     → ((s : Slot) → IsTrueTo job (now s) (before s)) → (s : Slot) → IsTrueTo job (put_at slot held now s) (put_at slot content before s)
 put_true job slot held content now before this others s = either (s.0 == slot.0) where
   either : (b : Bool) → IsTrueTo job (if b then held else now s) (if b then content else before s)
@@ -49,20 +50,25 @@ shape_there vars slot all is =
     let within : (object_of slot).0 < objects_of vars = ltb-true (object_of slot).0 (objects_of vars) is in
     let place : (object_of slot).0 < length (shapes_of vars) = omega (arith, within, length_shapes vars) in
     let wide : 0 < (shape_at (shapes_of vars) (object_of slot)).width = omega (arith, widths vars all (object_of slot).0 none place) in
-    ap (option_and_then (λ (shape : Shape). if nat_lt 0 shape.width then Some shape else None)) (slice_get-get_or (shapes_of vars) (object_of slot).0 none place)
-    ∙ cond-true (nat_lt 0 (shape_at (shapes_of vars) (object_of slot)).width) (Some (shape_at (shapes_of vars) (object_of slot))) None (lt-ltb 0 (shape_at (shapes_of vars) (object_of slot)).width wide)
+    ap (option_and_then (λ (shape : Shape). if nat_lt 0 shape.width then Some shape else None))
+    (slice_get-get_or (shapes_of vars) (object_of slot).0 none place)
+    ∙ cond-true (nat_lt 0 (shape_at (shapes_of vars) (object_of slot)).width) (Some (shape_at (shapes_of vars) (object_of slot))) None
+    (lt-ltb 0 (shape_at (shapes_of vars) (object_of slot)).width wide)
 
 pub fitting_there : (vars : List Var) (slot : Slot) → list_all is_var vars ≡ true → is_object (objects_of vars) (object_of slot) ≡ true
     → fitting_shape (shapes_of vars) slot ≡ shape_at (shapes_of vars) (object_of slot)
-fitting_there vars slot all is = ap (λ (o : Option Shape). option_map_or (λ (shape : Shape). shape) o (record { width = 1; rows = 0 })) (shape_there vars slot all is)
+fitting_there vars slot all is =
+    ap (λ (o : Option Shape). option_map_or (λ (shape : Shape). shape) o (record { width = 1; rows = 0 })) (shape_there vars slot all is)
 
-pub put_there : (vars : List Var) (slot : Slot) (held : Held) (now : Slot → Option Held) → list_all is_var vars ≡ true → is_object (objects_of vars) (object_of slot) ≡ true
+pub put_there : (vars : List Var) (slot : Slot) (held : Held) (now : Slot → Option Held) → list_all is_var vars ≡ true
+    → is_object (objects_of vars) (object_of slot) ≡ true
     → put_shaped (shapes_of vars) slot held now ≡ put_at slot (Some held) now
 put_there vars slot held now all is = rw (shape_there vars slot all is) refl
 
 -- what the slots hold once one slot and then others are written
 written_too : (slot s : Slot) (slots : List Slot) (version : ℕ) (before : Slot → Content)
-    → (if is_among slots s then content_at s version else put_at slot (content_at slot version) before s) ≡ (if is_among (slot ∷ slots) s then content_at s version else before s)
+    → (if is_among slots s then content_at s version else put_at slot (content_at slot version) before s)
+    ≡ (if is_among (slot ∷ slots) s then content_at s version else before s)
 written_too slot s slots version before = either (is_among slots s) (slot.0 == s.0) refl where
   either : (a b : Bool) → (slot.0 == s.0) ≡ b
       → (if a then content_at s version else put_at slot (content_at slot version) before s) ≡ (if b || a then content_at s version else before s)
@@ -70,11 +76,13 @@ written_too slot s slots version before = either (is_among slots s) (slot.0 == s
   either true false is = refl
   either false true is =
       let same : slot.0 ≡ s.0 = eqb-true slot.0 s.0 is in
-      cond-true (s.0 == slot.0) (content_at slot version) (before s) (eq-eqb s.0 slot.0 (sym same)) ∙ ap (λ (t : Slot). content_at t version) (same_slot slot s same)
+      cond-true (s.0 == slot.0) (content_at slot version) (before s) (eq-eqb s.0 slot.0 (sym same))
+      ∙ ap (λ (t : Slot). content_at t version) (same_slot slot s same)
   either false false is = rw (ne_eqb s.0 slot.0 (λ same. eqb-false slot.0 s.0 is (sym same))) refl
 
 -- the results of a task are put
-pub results_true : (job : Job) (version : ℕ) (slots : List Slot) (grids : List Grid) (now : Slot → Option Held) (before : Slot → Content) → list_all is_var job.vars ≡ true
+pub results_true : (job : Job) (version : ℕ) (slots : List Slot) (grids : List Grid) (now : Slot → Option Held) (before : Slot → Content)
+    → list_all is_var job.vars ≡ true
     → AllZip (λ slot grid. IsTrueHeld job (held_at slot version grid)) slots grids → ((s : Slot) → IsTrueTo job (now s) (before s))
     → (s : Slot) → IsTrueTo job (put_results (shapes_of job.vars) version slots grids now s) (if is_among slots s then content_at s version else before s)
 results_true job version [] [] now before all right are s = are s
@@ -83,7 +91,8 @@ results_true job version (slot ∷ slots) [] now before all right are s = absurd
 results_true job version (slot ∷ slots) (grid ∷ grids) now before all right are s =
     let there = (and_parts (is_object (objects_of job.vars) (object_of slot)) _ right.0.version).0 in
     let held = held_at slot version grid in
-    subst (λ (f : Slot → Option Held). IsTrueTo job (put_results (shapes_of job.vars) version slots grids f s) (if is_among (slot ∷ slots) s then content_at s version else before s))
+    subst (λ (f : Slot → Option Held). IsTrueTo job (put_results (shapes_of job.vars) version slots grids f s)
+    (if is_among (slot ∷ slots) s then content_at s version else before s))
     (sym (put_there job.vars slot held now all there))
     (subst (λ (c : Content). IsTrueTo job (put_results (shapes_of job.vars) version slots grids (put_at slot (Some held) now) s) c)
     (written_too slot s slots version before)
@@ -95,7 +104,8 @@ pub record IsRead (job : Job) (now : Slot → Option Held) (slot : Slot) (object
   pub content : content_seen now slot ≡ (object, version)
   pub right : IsTrueHeld job (seen now slot)
 
-pub read_true : (job : Job) (now : Slot → Option Held) (slot : Slot) (content : Content) (object : Object) (version : ℕ) → IsTrueTo job (now slot) content → content ≡ Some (object, version)
+pub read_true : (job : Job) (now : Slot → Option Held) (slot : Slot) (content : Content) (object : Object) (version : ℕ) → IsTrueTo job (now slot) content
+    → content ≡ Some (object, version)
     → IsRead job now slot object version
 read_true job now slot content object version is holds = either (now slot) refl is where
   either : (h : Option Held) → now slot ≡ h → IsTrueTo job h content → IsRead job now slot object version
@@ -108,7 +118,8 @@ read_true job now slot content object version is holds = either (now slot) refl 
 
 -- what a task reads of slots
 pub reads_true : (job : Job) (position : ℕ) (now : Slot → Option Held) (before : Slot → Content) (slots : List Slot) (objects : List Object)
-    → ((s : Slot) → IsTrueTo job (now s) (before s)) → map before slots ≡ map (λ (c : Object × ℕ). Some c) (map (λ object. (object, read_version job position object)) objects)
+    → ((s : Slot) → IsTrueTo job (now s) (before s))
+    → map before slots ≡ map (λ (c : Object × ℕ). Some c) (map (λ object. (object, read_version job position object)) objects)
     → (map (content_seen now) slots ≡ map (λ object. (object, read_version job position object)) objects)
     × (map (λ slot. (seen now slot).value) slots ≡ map (λ object. version_value job object (read_version job position object)) objects)
 reads_true job position now before [] [] are is = (refl, refl)

@@ -15,19 +15,24 @@ use Rattle.nim_history.specs.Truth.{IsHandedTruth}
 -- A history goes on.
 pub record HistoryGoesOn : Type 0 where
   -- it comes to what its front comes to and what happens behind it
-  pub state : (history more : List Happening) → state_of (history ++ more) ≡ fold after_happening (state_of history) more
+  pub state : (history more : List Happening)
+      → state_of (history ++ more) ≡ fold after_happening (state_of history) more
   -- it may be where its front may be and what is behind it may happen there
-  pub may : (history more : List Happening) → IsHistory history → MayAllHappen (state_of history) more → IsHistory (history ++ more)
+  pub may : (history more : List Happening) → IsHistory history → MayAllHappen (state_of history) more
+      → IsHistory (history ++ more)
   -- what counts of its orders is what they come to by themselves
   pub session : (history : List Happening) → (state_of history).session ≡ session_of (orders_in history)
 
 -- What a worker was handed stays true of a job.
 pub record TruthGoesOn : Type 0 where
   -- with an order that may be given and whose commands are covered
-  pub ordered : (job : Job) (history : List Happening) (order : ToWorker) → IsHandedTruth job history → MayFollow job (orders_in history) order
-      → is_covered (placed_commands (after_order (session_of (orders_in history)) order).groups) ≡ true → IsHandedTruth job (history ++ Ordered order ∷ [])
+  pub ordered : (job : Job) (history : List Happening) (order : ToWorker) → IsHandedTruth job history
+      → MayFollow job (orders_in history) order
+      → is_covered (placed_commands (after_order (session_of (orders_in history)) order).groups) ≡ true
+      → IsHandedTruth job (history ++ Ordered order ∷ [])
   -- with a frame that is true of the job
   pub framed : (job : Job) (history : List Happening) (frame : Data) → IsHandedTruth job history → IsGoodFrame job frame
       → IsHandedTruth job (history ++ Framed frame ∷ [])
   -- whatever it completes
-  pub completed : (job : Job) (history : List Happening) (places : List ℕ) → IsHandedTruth job history → IsHandedTruth job (history ++ map Completed places)
+  pub completed : (job : Job) (history : List Happening) (places : List ℕ) → IsHandedTruth job history
+      → IsHandedTruth job (history ++ map Completed places)
