@@ -1,15 +1,16 @@
 -- What a worker comes to: what it was handed and which commands it completed, in the order in which that happened.
-use Rattle.std.specs.Prelude.{◌≡◌, ℕ, ◌==◌, nat_lt, Bool, true, false, not, ◌&&◌, if◌then◌else◌, List, [], ◌∷◌, ◌++◌, length, Option, None, Some, slice_get}
+use Rattle.std.specs.Prelude.{◌≡◌, ℕ, zero, ◌==◌, nat_lt, Bool, true, false, not, ◌&&◌, if◌then◌else◌, List, [], ◌∷◌, ◌++◌, length, Option, None, Some, slice_get}
 use Rattle.std.specs.FinMap as map
-use Rattle.std.specs.List.{filter, flat_map, fold, list_all, range_with_len}
+use Rattle.std.specs.List.{filter, flat_map, fold, range_with_len}
 use Rattle.std.specs.Option.{option_and_then, option_map, option_map_or}
+use Rattle.nim_base.specs.declared.number.Object.{Object}
 use Rattle.nim_base.specs.declared.number.Slot.{Slot}
 use Rattle.nim_base.specs.Value.{Grid}
 use Rattle.nim_command.specs.declared.command.Command.{Command}
 use Rattle.nim_command.specs.declared.command.Kind.{Kind}
 use Rattle.nim_command.specs.declared.command.Kind.TheVariants.{Receive}
 use Rattle.nim_command.specs.Slots.{object_of}
-use Rattle.nim_command.specs.Waits.{Group, Member, Source, FromSingle, FromInstance, FromPatch, members_of, placed_commands}
+use Rattle.nim_command.specs.Waits.{Group, Member, Source, FromInstance, members_of, placed_commands}
 use Rattle.nim_message.specs.declared.frame.Data.{Data}
 use Rattle.nim_message.specs.declared.order.ToWorker.{ToWorker}
 use Rattle.nim_message.specs.declared.order.ToWorker.TheVariants.{Reset}
@@ -70,13 +71,16 @@ pub record Asked : Type 0 where
 abbrev pub asked_at : List Group → ℕ → Option Asked
 asked_at groups place =
     option_and_then
-    (λ (m : Member). option_map (λ (group : Group). record { number = m.group; group = group; command = m.command }) (slice_get groups m.group))
+    (λ (m : Member).
+    option_map (λ (group : Group). record { number = m.group; group = group; command = m.command })
+    (slice_get groups m.group))
     (slice_get (members_of groups) place)
 
 -- the key of the frame that a command receives, if it receives one
 abbrev pub key_received : Group → ℕ → Kind → Option Key
 key_received group number (Receive slot version) =
-    Some (record { epoch = group.epoch; instance = group.instance; entry = number; object = object_of slot; version = version })
+    let object : Object = object_of slot in
+    Some (record { epoch = group.epoch; instance = group.instance; entry = number; object = object; version = version })
 key_received group number kind = None
 
 abbrev pub key_for : Asked → Option Key
@@ -92,16 +96,18 @@ inbox_after state asked = option_map_or (λ (key : Key). map.remove state.inbox 
 
 -- whether a place is of a group
 abbrev pub is_of_group : List Group → ℕ → ℕ → Bool
-is_of_group groups number place = option_map_or (λ (m : Member). m.group == number) (slice_get (members_of groups) place) false
+is_of_group groups number place =
+    option_map_or (λ (m : Member). m.group == number) (slice_get (members_of groups) place) false
 
 -- how many commands of a group aren't among these places
 abbrev pub left_of : List Group → ℕ → List ℕ → ℕ
 left_of groups number ran =
-    length (filter (λ place. is_of_group groups number place && not (is_one_of ran place)) (range_with_len 0 (length (members_of groups))))
+    let places : List ℕ = range_with_len 0 (length (members_of groups)) in
+    length (filter (λ place. is_of_group groups number place && not (is_one_of ran place)) places)
 
 -- once these places are complete an instance of a block is told to be through, where all of its commands are
 abbrev pub through_outs : Source → Group → ℕ → List Out
-through_outs (FromInstance base) group 0 = Out.Report (Through group.epoch group.instance) ∷ []
+through_outs (FromInstance base) group zero = Out.Report (Through group.epoch group.instance) ∷ []
 through_outs source group left = []
 
 -- all that is given when a command is completed behind these: what it gives of its own, and whether its instance is

@@ -12,9 +12,8 @@ use Rattle.nim_command.specs.declared.command.Kind.TheVariants.{Create, Load, Se
 use Rattle.nim_command.specs.Created.{created}
 use Rattle.nim_command.specs.Holds.{put_at, version_after}
 use Rattle.nim_command.specs.Slots.{object_of}
-use Rattle.nim_command.specs.Waits.{Group, Source, FromSingle, FromInstance, FromPatch}
+use Rattle.nim_command.specs.Waits.{Group, Source, FromSingle}
 use Rattle.nim_message.specs.declared.frame.Data.{Data}
-use Rattle.nim_message.specs.declared.report.FromWorker.{FromWorker}
 use Rattle.nim_message.specs.declared.report.FromWorker.TheVariants.{Ran, Value}
 use Rattle.nim_store.specs.declared.held.Held.{Held}
 use Rattle.nim_history.specs.declared.out.Out.{Out}
@@ -33,11 +32,14 @@ content_seen before slot = ((seen before slot).object, (seen before slot).versio
 
 -- the shape of a slot's object, if it has one with columns
 abbrev pub shape_of : List Shape → Slot → Option Shape
-shape_of shapes slot = option_and_then (λ (shape : Shape). if nat_lt 0 shape.width then Some shape else None) (slice_get shapes (object_of slot).0)
+shape_of shapes slot =
+    option_and_then (λ (shape : Shape). if nat_lt 0 shape.width then Some shape else None)
+    (slice_get shapes (object_of slot).0)
 
 -- the shape that a result is fitted to; where there is none the result isn't kept
 abbrev pub fitting_shape : List Shape → Slot → Shape
-fitting_shape shapes slot = option_map_or (λ (shape : Shape). shape) (shape_of shapes slot) (record { width = 1; rows = 0 })
+fitting_shape shapes slot =
+    option_map_or (λ (shape : Shape). shape) (shape_of shapes slot) (record { width = 1; rows = 0 })
 
 -- a value put into a slot, where the slot has a shape
 abbrev pub put_shaped : List Shape → Slot → Held → (Slot → Option Held) → Slot → Option Held
@@ -96,5 +98,7 @@ own_outs group (Send slot peer entry) before = Out.Data peer (frame_of group ent
 own_outs group (Fetch slot ticket) before =
     let held : Held = seen before slot in Out.Report (Value group.epoch ticket held.object held.version held.value) ∷ []
 own_outs group (Run position func params reads writes) before =
-    if is_single group.source then Out.Report (Ran group.epoch position (contents_read func params reads writes before)) ∷ [] else []
+    if is_single group.source
+    then Out.Report (Ran group.epoch position (contents_read func params reads writes before)) ∷ []
+    else []
 own_outs group _ before = []

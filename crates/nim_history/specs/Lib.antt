@@ -1,3 +1,4 @@
+pub mod GoesOn
 pub mod History
 pub mod Kept
 pub mod Truth

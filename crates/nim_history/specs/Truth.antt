@@ -1,15 +1,15 @@
 -- When what a worker gives is true of a job: whatever the order in which it completed its commands.
-use Rattle.std.specs.Prelude.{◌≡◌, ℕ, true, IsTrue, List, [], ◌∷◌, map, All, Option, IfSome, IsSomeAnd, slice_get}
+use Rattle.std.specs.Prelude.{◌≡◌, ℕ, true, IsTrue, List, [], ◌∷◌, length, map, All, Option, IfSome, IsSomeAnd, slice_get}
 use Rattle.std.specs.Option.{option_map}
-use Rattle.nim_base.specs.declared.number.Object.{Object}
 use Rattle.nim_base.specs.declared.number.Slot.{Slot}
 use Rattle.nim_base.specs.declared.task.Task.{Task}
+use Rattle.nim_base.specs.Apply.{has_counts}
 use Rattle.nim_base.specs.Value.{Grid}
 use Rattle.nim_command.specs.declared.command.Kind.{Kind}
 use Rattle.nim_command.specs.declared.command.Kind.TheVariants.{Run}
 use Rattle.nim_command.specs.Covered.{is_covered}
 use Rattle.nim_command.specs.Holds.{Content, holds}
-use Rattle.nim_command.specs.Slots.{does_touch, object_of}
+use Rattle.nim_command.specs.Slots.{does_touch}
 use Rattle.nim_command.specs.Waits.{commands_of, placed_commands}
 use Rattle.nim_message.specs.declared.order.ToWorker.{ToWorker}
 use Rattle.nim_message.specs.Orders.{Session, after_order, no_session}
@@ -37,7 +37,8 @@ IsGoodOut job (Out.Data peer frame) = IsGoodFrame job frame
 abbrev pub AreCoveredFrom : Session → List ToWorker → Type 0
 AreCoveredFrom session [] = Unit {0}
 AreCoveredFrom session (order ∷ orders) =
-    (is_covered (placed_commands (after_order session order).groups) ≡ true) × AreCoveredFrom (after_order session order) orders
+    (is_covered (placed_commands (after_order session order).groups) ≡ true)
+    × AreCoveredFrom (after_order session order) orders
 
 unfoldable pub AreCovered : List ToWorker → Type 0
 AreCovered orders = AreCoveredFrom no_session orders
@@ -49,16 +50,18 @@ pub record IsHandedTruth (job : Job) (history : List Happening) : Type 0 where
   pub covered : AreCovered (orders_in history)
   pub frames : All (IsGoodFrame job) (frames_in history)
 
--- a slot has the value of its version, which is one of its object's
-pub record IsTrueHeld (job : Job) (slot : Slot) (held : Held) : Type 0 where
-  pub object : held.object ≡ object_of slot
+-- What a slot has is the value of its version, which is one of its object's. A Copy may have left it in a slot of
+-- another object.
+pub record IsTrueHeld (job : Job) (held : Held) : Type 0 where
   pub version : is_version job held.object held.version ≡ true
   pub value : held.value ≡ version_value job held.object held.version
 
--- A Run reads the versions that program order names, and their values.
+-- A Run has its function's counts, and reads the versions that program order names, and their values.
 abbrev pub ReadsRight : Job → (Slot → Option Held) → Kind → Type 0
 ReadsRight job before (Run position func params reads writes) =
-    IsSomeAnd (slice_get (tasks_of job) position) (λ task. (map (content_seen before) reads ≡ reads_at job position task)
+    IsSomeAnd (slice_get (tasks_of job) position)
+    (λ task. (has_counts func (length params) (length reads) (length writes) ≡ true)
+    × (map (content_seen before) reads ≡ reads_at job position task)
     × (map (λ slot. (seen before slot).value) reads ≡ values_read job position task))
 ReadsRight job before kind = Unit {0}
 
@@ -76,10 +79,12 @@ pub record FindsRight (job : Job) (state : WorkerState) (place : ℕ) (asked : A
 -- what a worker has and gave is true of a job
 pub record IsTrueOf (job : Job) (state : WorkerState) : Type 0 where
   pub gave : All (IsGoodOut job) state.gave
-  pub slots : (slot : Slot) → IfSome (state.slots slot) (IsTrueHeld job slot)
-  pub next : (place : ℕ) → MayComplete state place → IfSome (asked_at state.session.groups place) (FindsRight job state place)
+  pub slots : (slot : Slot) → IfSome (state.slots slot) (IsTrueHeld job)
+  pub next : (place : ℕ) → MayComplete state place
+      → IfSome (asked_at state.session.groups place) (FindsRight job state place)
 
 -- Whatever the order of its commands, a worker that is handed what is true of a job gives what is true of it.
 abbrev pub HistoriesAreTrue : Type 0
 HistoriesAreTrue =
-    (job : Job) (history : List Happening) → IsTrue (is_whole job) → IsHistory history → IsHandedTruth job history → IsTrueOf job (state_of history)
+    (job : Job) (history : List Happening) → IsTrue (is_whole job) → IsHistory history → IsHandedTruth job history
+    → IsTrueOf job (state_of history)

@@ -1,0 +1,13 @@
+pub mod Completed
+pub mod Found
+pub mod GoesOn
+pub mod Inbox
+pub mod Law
+pub mod LeftTrue
+pub mod LegalOrders
+pub mod Members
+pub mod Ordered
+pub mod Outs
+pub mod Right
+pub mod TrueRuns
+pub mod TrueSlots
