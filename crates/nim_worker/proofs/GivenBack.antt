@@ -11,10 +11,10 @@ use Rattle.nim_base.specs.declared.number.Slot.{Slot}
 use Rattle.nim_base.specs.Functions.{reads_of}
 use Rattle.nim_base.specs.Value.{Grid, empty_grid}
 use Rattle.nim_command.specs.Holds.{put_at}
-use Rattle.nim_worker.specs.declared.held.Held.{Held}
+use Rattle.nim_store.specs.declared.held.Held.{Held}
 use Rattle.nim_worker.specs.declared.inputs.Taken.{Taken}
 use Rattle.nim_worker.specs.Inputs.{AreSeen, Continues, content_of, given_back, held_of, is_from}
-use Rattle.nim_worker.specs.Kept.{content_seen, held_at, seen}
+use Rattle.nim_history.specs.Kept.{content_seen, held_at, seen}
 use Rattle.nim_worker.proofs.Puts.{put_again, put_same, same_slot}
 
 -- the last that was taken is given back first

@@ -15,14 +15,13 @@ use Rattle.nim_worker.specs.declared.batch.Work.{Work}
 use Rattle.nim_worker.specs.declared.inputs.Inputs.{Inputs}
 use Rattle.nim_worker.specs.Inputs.{AreInputs}
 
--- what a work is begun for: a ticket, what the command does, and the value of the frame that it receives, if it receives one
+-- what a work is begun for: the ticket of a command, and what it does
 pub record Begun : Type 0 where
   pub ticket : ℕ
   pub kind : Kind
-  pub frame : Option Grid
 
-abbrev pub begun_as : ℕ → Kind → Option Grid → Begun
-begun_as ticket kind frame = record { ticket = ticket; kind = kind; frame = frame }
+abbrev pub begun_as : ℕ → Kind → Begun
+begun_as ticket kind = record { ticket = ticket; kind = kind }
 
 -- the position of the task that a command runs, if it runs one
 abbrev pub position_of : Kind → Option ℕ
@@ -77,7 +76,6 @@ pub record IsPerformed (old new : Work) : Type 0 where
   pub ticket : new.ticket ≡ old.ticket
   pub position : new.position ≡ old.position
   pub func : new.func ≡ old.func
-  pub frame : new.frame ≡ old.frame
   pub inputs : new.inputs ≡ old.inputs
   pub results : results_in new ≡ option_or (results_in old) (results_from old)
 
@@ -86,7 +84,6 @@ pub record IsWork (shapes : List Shape) (before now : Slot → Option Held) (beg
   pub ticket : work.ticket ≡ begun.ticket
   pub position : work.position ≡ position_of begun.kind
   pub func : work.func ≡ func_taken begun.kind
-  pub frame : work.frame ≡ begun.frame
   pub inputs : AreInputsOf shapes begun.kind before now work.inputs.value
   pub results : IfSome (results_in work) (λ results. results_of shapes begun.kind before ≡ Some results)
 

@@ -1,4 +1,4 @@
-ghost use Rattle.std.specs.Prelude.{◌≡◌, ◌×◌, true, IfSome, IsOk, OnOk, OnErr};
+ghost use Rattle.std.specs.Prelude.{◌≡◌, true, IfSome, IsOk, OnOk, OnErr};
 ghost use Rattle.std.specs.Borrow.{sem};
 ghost use Rattle.nim_base.specs.declared.task.Func.{Func as func_type};
 ghost use Rattle.nim_base.specs.Apply.{HasCounts};
@@ -24,8 +24,6 @@ pub struct Work {
     /// The function of a Run whose counts are that function's; all else has nothing to perform.
     pub(crate) func: Option<Func>,
     pub(crate) inputs: Box<Inputs>,
-    /// The value of the frame that a Receive receives.
-    pub(crate) frame: Option<Value>,
     pub(crate) results: Option<Vec<Value>>,
     ghost counted: { IfSome func (λ (f : func_type). HasCounts f inputs.value.params.items inputs.value.places.items inputs.value.shapes.items) },
 }
@@ -105,18 +103,16 @@ impl Work {
         self.inputs.contents.as_slice()
     }
 
-    /// The work of a command, with the value of the frame that it receives, if it receives one: a Run whose counts are
-    /// its function's takes the values that it reads. Takes no memory.
+    /// The work of a command: a Run whose counts are its function's takes the values that it reads. Takes no memory.
     pub(crate) fn new(
         alloc: Global,
         ticket: u64,
         kind: &Kind,
-        frame: Option<Value>,
         mut inputs: Box<Inputs>,
         store: &mut Store,
     ) -> Work
         requires { IsIdle inputs.value }
-        ensures work { IsWork store.old.shapes (slot_at store.old) (slot_at store.new) (begun_as ticket kind.now frame) result }
+        ensures work { IsWork store.old.shapes (slot_at store.old) (slot_at store.new) (begun_as ticket kind.now) result }
         ensures shapes { store.new.shapes ≡ store.old.shapes }
     {
         let func = inputs.take_for(alloc, kind, store);
@@ -126,7 +122,6 @@ impl Work {
             position: position_of(kind),
             func,
             inputs,
-            frame,
             results: None,
         }
     }

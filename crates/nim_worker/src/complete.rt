@@ -22,19 +22,21 @@ use nim_history::Out;
 use nim_store::{Held, Store};
 use std::alloc::Global;
 
-/// Completes the first of the works that are out, given its command, which the queue kept, and what is known of its
-/// group: performs what wasn't performed, leaves in the slots what the command leaves, and gives what the command gives
-/// of its own, and the room of its inputs. The other works are out as before.
+/// Completes the first of the works that are out, given its command, which the queue kept, the value of the frame that it
+/// receives, if it receives one, and what is known of its group: performs what wasn't performed, leaves in the slots what
+/// the command leaves, and gives what the command gives of its own, and the room of its inputs. The other works are out as
+/// before.
 pub(crate) fn complete(
     alloc: Global,
     head: GroupHead,
     store: &mut Store,
     mut work: Work,
     command: Command,
+    frame: Option<Value>,
 ) -> Result<(Option<Out>, Box<Inputs>), NoMemory>
     ensures chain { (before : slot_number → Option held_type) (begun : begun_type) (more : List begun_type) (works : List work_type)
         → begun.kind ≡ command.kind → AreWorks store.old.shapes before (slot_at store.old) (begun ∷ more) (work ∷ works)
-        → OnOk result (AreWorks store.old.shapes (kept_by store.old.shapes begun.frame begun.kind before) (slot_at store.new) more works) }
+        → OnOk result (AreWorks store.old.shapes (kept_by store.old.shapes frame begun.kind before) (slot_at store.new) more works) }
     ensures outs { (before : slot_number → Option held_type) (begun : begun_type) (more : List begun_type) (works : List work_type) (group : group_type)
         → begun.kind ≡ command.kind → AreWorks store.old.shapes before (slot_at store.old) (begun ∷ more) (work ∷ works) → IsHeadOf head group
         → IfOk result (λ completed. option_to_list completed.0 ≡ own_outs group begun.kind before) }
@@ -44,7 +46,6 @@ pub(crate) fn complete(
     work.perform()?;
     let Work {
         mut inputs,
-        frame,
         results,
         ..
     } = work;

@@ -1,7 +1,7 @@
 use Rattle.std.proofs.Common.{◌≡◌, ◌≤◌, map, take, All}
 use Rattle.std.specs.Vec.{vec_capacity}
 use Rattle.nim_base.specs.declared.number.Shape.{Shape}
-use Rattle.nim_worker.specs.Kept.{fitting_shape}
+use Rattle.nim_history.specs.Kept.{fitting_shape}
 use Rattle.nim_worker.proofs.taking.push_shapes.Given as goal
 
 -- the shapes of the first slots
