@@ -1,3 +1,6 @@
+pub mod Beside
+pub mod Chains
 pub mod Completes
 pub mod GivenBack
+pub mod KeptBeside
 pub mod Puts

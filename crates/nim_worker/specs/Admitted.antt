@@ -36,7 +36,7 @@ open_of groups ran number = option_and_then (λ (group : Group). open_with group
 pub record IsAdmitted (admitted : Admitted) (groups : List Group) (ran : List ℕ) : Type 0 where
   pub queue : queue.Stands admitted.queue groups (is_one_of ran)
   pub given : admitted.given ≡ length groups
-  pub open : (number : ℕ) → get nat_cmp admitted.open number ≡ open_of groups ran number
+  pub table : (number : ℕ) → get nat_cmp admitted.unfinished number ≡ open_of groups ran number
 
 -- a group is of these commands, with what is known of it
 pub record IsGroupOf (head : GroupHead) (told : Bool) (commands : List Command) (group : Group) : Type 0 where

@@ -1,5 +1,7 @@
 pub mod Admitted
+pub mod Beginning
 pub mod Chains
+pub mod Finishing
 pub mod Inputs
 pub mod Leaves
 pub mod Lending

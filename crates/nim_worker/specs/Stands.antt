@@ -1,11 +1,12 @@
 -- What a worker's core stands for: what it was handed and which commands it completed, and the batch that is out.
-use Rattle.std.specs.Prelude.{◌≡◌, ◌≤◌, ◌+◌, ℕ, ◌==◌, Bool, true, false, not, ◌&&◌, List, [], ◌∷◌, ◌++◌, length, map, if◌then◌else◌, Option, None, Some}
+use Rattle.std.specs.Prelude.{◌≡◌, ◌≤◌, ◌+◌, ℕ, ◌==◌, Bool, true, false, not, ◌&&◌, List, [], ◌∷◌, ◌++◌, length, map, if◌then◌else◌, Option, None, Some, All}
 use Rattle.std.specs.List.{flat_map, fold}
 use Rattle.std.specs.Option.{is_some, option_map_or}
 use Rattle.std.specs.Vec.{vec_capacity}
 use Rattle.nim_command.specs.Waits.{Group}
 use Rattle.nim_message.specs.declared.order.ToWorker.{ToWorker}
 use Rattle.nim_message.specs.Orders.{Session, epoch_named}
+use Rattle.nim_order.specs.Progress.{is_one_of}
 use Rattle.nim_plan.specs.Installed.{Has}
 use Rattle.nim_store.specs.Stored.{slot_at}
 use Rattle.nim_history.specs.declared.out.Out.{Out}
@@ -29,10 +30,9 @@ completions places = map Completed places
 abbrev pub after_completions : WorkerState → List ℕ → WorkerState
 after_completions state places = fold after_happening state (completions places)
 
--- What the works of commands at these places were begun for: a frame is received once its Receive is complete.
+-- what the works of commands at these places were begun for
 abbrev pub begun_at : List Group → ℕ → List Begun
-begun_at groups place =
-    option_map_or (λ (asked : Asked). begun_as place asked.command.kind None ∷ []) (asked_at groups place) []
+begun_at groups place = option_map_or (λ (asked : Asked). begun_as place asked.command.kind ∷ []) (asked_at groups place) []
 
 abbrev pub begun_of : List Group → List ℕ → List Begun
 begun_of groups places = flat_map (begun_at groups) places
@@ -61,6 +61,12 @@ pub record IsAtRest (core : WorkerCore) (state : WorkerState) : Type 0 where
 pub record IsAtWork (core : WorkerCore) (works : List Work) (state : WorkerState) : Type 0 where
   pub may : MayAllHappen state (completions (tickets_of works))
   pub chain : AreWorks state.session.shapes state.slots (slot_at core.store) (begun_of state.session.groups (tickets_of works)) works
+
+-- The works of a batch that is being begun are out, of commands that aren't complete.
+pub record IsBeginning (core : WorkerCore) (works : List Work) (state : WorkerState) : Type 0 where
+  pub has : HasState core state
+  pub chain : AreWorks state.session.shapes state.slots (slot_at core.store) (begun_of state.session.groups (tickets_of works)) works
+  pub waiting : All (λ place. is_one_of state.ran place ≡ false) (tickets_of works)
 
 -- a batch has room for the most works
 pub record HasRoom (batch : Batch) : Type 0 where

@@ -21,7 +21,7 @@ pub(crate) struct Admitted {
     pub(crate) queue: BeforeQueue,
     /// How many groups were given, and those of them that have commands which aren't complete, by number.
     pub(crate) given: u64,
-    pub(crate) open: BTreeMap<u64, OpenGroup>,
+    pub(crate) unfinished: BTreeMap<u64, OpenGroup>,
 }
 
 /// A group that isn't complete: what is known of it, whether its end is told, and how many of its commands are left.
@@ -48,7 +48,7 @@ impl Admitted {
         Admitted {
             queue: BeforeQueue::new(alloc),
             given: 0,
-            open: BTreeMap::new(alloc),
+            unfinished: BTreeMap::new(alloc),
         }
     }
 
@@ -69,11 +69,11 @@ impl Admitted {
     fn open_group(&mut self, head: GroupHead, told: bool, left: u64) -> Result<(), NoMemory>
         ensures queue { self.new.queue ≡ self.old.queue }
         ensures given { self.new.given ≡ self.old.given }
-        ensures ok { OnOk result (Opens self.old.open self.old.given (record { head = head; told = told; left = left }) self.new.open) }
-        ensures err { OnErr result (KeepsTable self.old.open self.new.open) }
+        ensures ok { OnOk result (Opens self.old.unfinished self.old.given (record { head = head; told = told; left = left }) self.new.unfinished) }
+        ensures err { OnErr result (KeepsTable self.old.unfinished self.new.unfinished) }
     {
         if left > 0 {
-            self.open.insert(self.given, OpenGroup { head, told, left })?;
+            self.unfinished.insert(self.given, OpenGroup { head, told, left })?;
         }
         Ok(())
     }
@@ -84,11 +84,11 @@ impl Admitted {
         ensures queue { (groups : List group_type) (ran : List ℕ) (next : group_type) → QueueStands self.old.queue groups (is_one_of ran) → next.commands ≡ commands.items
             → OnOk result (QueueStands self.new.queue (groups ++ next ∷ []) (is_one_of ran)) }
         ensures given { OnOk result (self.new.given ≡ self.old.given + 1) }
-        ensures open { OnOk result (self.new.open ≡ self.old.open) }
+        ensures table { OnOk result (self.new.unfinished ≡ self.old.unfinished) }
         ensures err { (groups : List group_type) (ran : List ℕ) → QueueStands self.old.queue groups (is_one_of ran)
             → OnErr result (QueueStands self.new.queue groups (is_one_of ran)) }
         ensures same { OnErr result (self.new.given ≡ self.old.given) }
-        ensures closed { OnErr result (Closes self.old.open self.old.given self.new.open) }
+        ensures closed { OnErr result (Closes self.old.unfinished self.old.given self.new.unfinished) }
     {
         match self.queue.admit(commands) {
             Ok(()) => {
@@ -96,7 +96,7 @@ impl Admitted {
                 Ok(())
             }
             Err(NoMemory) => {
-                self.open.remove(&self.given);
+                self.unfinished.remove(&self.given);
                 Err(NoMemory)
             }
         }
@@ -123,7 +123,7 @@ impl Admitted {
         ensures { (groups : List group_type) (ran : List ℕ) → IsAdmitted self.now groups ran → result ≡ head_at groups ran ticket }
     {
         match self.queue.group(ticket) {
-            Some(number) => head_in(&self.open, number),
+            Some(number) => head_in(&self.unfinished, number),
             None => None,
         }
     }
@@ -138,7 +138,7 @@ impl Admitted {
         let (Some(number), Some(command)) = (self.queue.group(ticket), self.queue.complete(ticket)) else {
             return None;
         };
-        match count_down(&mut self.open, number) {
+        match count_down(&mut self.unfinished, number) {
             Some(group) => Some(Ended {
                 command,
                 head: group.head,
@@ -149,28 +149,28 @@ impl Admitted {
     }
 }
 
-fn head_in(open: &BTreeMap<u64, OpenGroup>, number: u64) -> Option<GroupHead>
-    ensures { result ≡ option_map (λ group. group.head) (get nat_cmp open.now number) }
+fn head_in(unfinished: &BTreeMap<u64, OpenGroup>, number: u64) -> Option<GroupHead>
+    ensures { result ≡ option_map (λ group. group.head) (get nat_cmp unfinished.now number) }
 {
-    match open.get(&number) {
+    match unfinished.get(&number) {
         Some(group) => Some(group.head),
         None => None,
     }
 }
 
 // One command less is left of a group; it goes with the last.
-fn count_down(open: &mut BTreeMap<u64, OpenGroup>, number: u64) -> Option<OpenGroup>
-    ensures group { result ≡ option_map one_less (get nat_cmp open.old number) }
-    ensures table { CountsDown open.old number open.new }
+fn count_down(unfinished: &mut BTreeMap<u64, OpenGroup>, number: u64) -> Option<OpenGroup>
+    ensures group { result ≡ option_map one_less (get nat_cmp unfinished.old number) }
+    ensures table { CountsDown unfinished.old number unfinished.new }
 {
-    let Some(mut group) = open.get(&number).copied() else {
+    let Some(mut group) = unfinished.get(&number).copied() else {
         return None;
     };
     group.left = group.left.saturating_sub(1);
     if group.left == 0 {
-        open.remove(&number);
+        unfinished.remove(&number);
     } else {
-        let _ = open.insert(number, group);
+        let _ = unfinished.insert(number, group);
     }
     Some(group)
 }

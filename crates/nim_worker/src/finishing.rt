@@ -1,24 +1,36 @@
 ghost use Rattle.std.specs.Prelude.{◌≡◌, ◌≤◌, ◌+◌, ◌++◌, ◌∷◌, [], ℕ, true, false, List, None, Some, All, IfOk, IsErr, IsTrue, OnErr, OnOk, length};
-ghost use Rattle.std.specs.Option.{is_some, option_to_list};
+ghost use Rattle.std.specs.FinMap as map;
+ghost use Rattle.std.specs.Option.{is_some, option_and_then, option_map_or, option_to_list};
 ghost use Rattle.std.specs.Vec.{vec_capacity, vec_len};
 ghost use Rattle.nim_job.specs.declared.job.Job.{Job as job_type};
 ghost use Rattle.nim_job.specs.Whole.{is_whole};
 ghost use Rattle.nim_history.specs.declared.out.Out.{Out as out_type};
-ghost use Rattle.nim_history.specs.History.{Happening, WorkerState, completed, state_of};
+ghost use Rattle.nim_command.specs.Waits.{Group as group_type};
+ghost use Rattle.nim_store.specs.declared.key.Key.{Key as key_type};
+ghost use Rattle.nim_store.specs.Stored.{slot_at};
+ghost use Rattle.nim_history.specs.History as history;
+ghost use Rattle.nim_history.specs.History.{Asked, Happening, WorkerState, completed, state_of};
 ghost use Rattle.nim_history.specs.Truth.{IsGoodOut, IsHandedTruth};
 ghost use Rattle.nim_worker.specs.declared.batch.Work.{Work as work_type};
+ghost use Rattle.nim_worker.specs.Admitted.{head_of};
+ghost use Rattle.nim_worker.specs.Chains.{AreWorks};
+ghost use Rattle.nim_worker.specs.Finishing.{HasLeft, through_of};
 ghost use Rattle.nim_worker.specs.Inputs.{AreIdle, IsIdle};
 ghost use Rattle.nim_worker.specs.Stands.{Gave, HasState, IsAtWork, Stands, after_completions, completions_of, outs_at, tickets_of};
+ghost use Rattle.nim_worker.specs.Works.{Begun as begun_type};
 
 use crate::admitted::Ended;
 use crate::complete::complete;
+use crate::head::GroupHead;
 use crate::inputs::Inputs;
 use crate::meets::key_received;
 use crate::room::{MOST_WORKS, Room};
 use crate::{Batch, Work, WorkerCore};
 use nim_base::{NoMemory, Value};
+use nim_command::Kind;
 use nim_history::Out;
 use nim_message::FromWorker;
+use nim_store::Inbox;
 
 impl WorkerCore {
     /// Finishes the batch that is out: performs what wasn't performed, leaves in the slots what its commands leave, in
@@ -116,28 +128,26 @@ impl WorkerCore {
     /// Leaves and gives what a complete command does, with the frame that it receives.
     fn leave(
         &mut self,
-        mut work: Work,
+        work: Work,
         ended: Ended,
         outs: &mut Vec<Out>,
     ) -> Result<Box<Inputs>, NoMemory>
+        ensures rest { self.new ≡ record self.old { store = self.new.store; inbox = self.new.inbox } }
+        ensures left { (state : WorkerState) (asked : Asked) (begun : begun_type) (more : List begun_type) (works : List work_type)
+            → self.old.inbox ≡ state.inbox → ended.command ≡ asked.command → ended.head ≡ head_of asked.group → begun.kind ≡ asked.command.kind
+            → AreWorks self.old.store.shapes state.slots (slot_at self.old.store) (begun ∷ more) (work ∷ works)
+            → OnOk result (HasLeft self.old.store.shapes state asked more works outs.old.items ended.through self.new outs.new.items) }
+        ensures idle { IfOk result (λ inputs. IsIdle inputs.value) }
     {
         let Ended {
             command,
             head,
             through,
         } = ended;
-        work.frame = match key_received(head, command.id, &command.kind) {
-            Some(key) => self.inbox.take(&key),
-            None => None,
-        };
-        let (out, inputs) = complete(self.alloc, head, &mut self.store, work, command)?;
+        let frame = take_frame(&mut self.inbox, head, command.id, &command.kind);
+        let (out, inputs) = complete(self.alloc, head, &mut self.store, work, command, frame)?;
         give(outs, out)?;
-        if through {
-            outs.push(Out::Report(FromWorker::Through {
-                epoch: head.epoch,
-                instance: head.instance,
-            }))?;
-        }
+        tell_through(outs, head, through)?;
         Ok(inputs)
     }
 
@@ -152,6 +162,31 @@ impl WorkerCore {
             self.room = Some(Room { works, inputs });
         }
     }
+}
+
+/// Takes the frame that a command receives out of the inbox, if it receives one and the frame is there.
+fn take_frame(inbox: &mut Inbox, head: GroupHead, number: u32, kind: &Kind) -> Option<Value>
+    ensures value { (group : group_type) → head.epoch ≡ group.epoch → head.instance ≡ group.instance
+        → result ≡ option_and_then (λ (key : key_type). map.get inbox.old key) (history.key_received group number kind.now) }
+    ensures rest { (group : group_type) → head.epoch ≡ group.epoch → head.instance ≡ group.instance
+        → inbox.new ≡ option_map_or (λ (key : key_type). map.remove inbox.old key) (history.key_received group number kind.now) inbox.old }
+{
+    match key_received(head, number, kind) {
+        Some(key) => inbox.take(&key),
+        None => None,
+    }
+}
+
+fn tell_through(outs: &mut Vec<Out>, head: GroupHead, through: bool) -> Result<(), NoMemory>
+    ensures { OnOk result (outs.new.items ≡ outs.old.items ++ through_of head through) }
+{
+    if through {
+        outs.push(Out::Report(FromWorker::Through {
+            epoch: head.epoch,
+            instance: head.instance,
+        }))?;
+    }
+    Ok(())
 }
 
 fn give(outs: &mut Vec<Out>, out: Option<Out>) -> Result<(), NoMemory>
