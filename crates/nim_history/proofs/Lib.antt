@@ -2,6 +2,7 @@ pub mod Completed
 mod Example
 pub mod Found
 pub mod GoesOn
+pub mod InTurn
 pub mod Inbox
 pub mod Law
 pub mod LeftTrue

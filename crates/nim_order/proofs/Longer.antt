@@ -37,7 +37,7 @@ closed_longer commands more done none closed place complete =
       | inr past ↦ absurd (both_ways (done place) (none place past) complete)
     ]
 
-released_longer : (commands more : List Command) (done : ℕ → Bool) (place : ℕ) → IsReleasedAt commands done place → IsReleasedAt (commands ++ more) done place
+pub released_longer : (commands more : List Command) (done : ℕ → Bool) (place : ℕ) → IsReleasedAt commands done place → IsReleasedAt (commands ++ more) done place
 released_longer commands more done place released = record {
   within = omega (arith, released.within, length-append commands more);
   waiting = released.waiting;
@@ -85,7 +85,7 @@ front_covered commands more covered =
     sym (kept_front commands more later earlier (omega arith) (omega arith))
     ∙ all_in_range (is_kept_in_order (commands ++ more) later) 0 later row earlier low high))
 
-members_append : (number : ℕ) (groups more : List Group)
+pub members_append : (number : ℕ) (groups more : List Group)
     → members_from number (groups ++ more) ≡ members_from number groups ++ members_from (number + length groups) more
 members_append number [] more = let same : number ≡ number + 0 = omega arith in ap (λ (n : ℕ). members_from n more) same
 members_append number (group ∷ groups) more =
