@@ -5,6 +5,7 @@ pub mod GoesOn
 pub mod InTurn
 pub mod Inbox
 pub mod Law
+pub mod Left
 pub mod LeftTrue
 pub mod LegalOrders
 pub mod Members
