@@ -85,6 +85,7 @@ front_covered commands more covered =
     sym (kept_front commands more later earlier (omega arith) (omega arith))
     ∙ all_in_range (is_kept_in_order (commands ++ more) later) 0 later row earlier low high))
 
+-- the members of more groups
 pub members_append : (number : ℕ) (groups more : List Group)
     → members_from number (groups ++ more) ≡ members_from number groups ++ members_from (number + length groups) more
 members_append number [] more = let same : number ≡ number + 0 = omega arith in ap (λ (n : ℕ). members_from n more) same
