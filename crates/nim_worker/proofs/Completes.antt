@@ -9,6 +9,7 @@ use Rattle.nim_base.specs.Apply.{apply_of, has_counts}
 use Rattle.nim_base.specs.Value.{Grid}
 use Rattle.nim_command.specs.declared.command.Kind.{Kind}
 use Rattle.nim_command.specs.declared.command.Kind.TheVariants.{Run}
+use Rattle.nim_command.specs.Holds.{version_after}
 use Rattle.nim_store.specs.declared.held.Held.{Held}
 use Rattle.nim_history.specs.Kept.{kept_by, put_results, results_for}
 use Rattle.nim_worker.specs.declared.batch.Work.{Work}
@@ -45,7 +46,7 @@ left_run shapes before frame position func params reads writes = either (has_cou
   either : (b : Bool)
       → left_with shapes frame (Run position func params reads writes)
       (option_map (λ (f : Func). results_for shapes f (if b then params else []) (if b then reads else []) (if b then writes else []) before) (if b then Some func else None)) before
-      ≡ (if b then put_results shapes _ writes (results_for shapes func params reads writes before) before else before)
+      ≡ (if b then put_results shapes (version_after position) writes (results_for shapes func params reads writes before) before else before)
   either true = refl
   either false = refl
 
