@@ -1,4 +1,5 @@
 pub mod Completed
+mod Example
 pub mod Found
 pub mod GoesOn
 pub mod Inbox

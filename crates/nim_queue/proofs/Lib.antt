@@ -1,3 +1,4 @@
+mod Handing
 pub mod Arriving
 pub mod Completing
 pub mod Lists

@@ -1,11 +1,6 @@
-pub mod Begun
+pub mod Beside
+pub mod Chains
 pub mod Completes
-pub mod Finishing
 pub mod GivenBack
-pub mod KeptRight
-pub mod Law
-pub mod LegalOrders
+pub mod KeptBeside
 pub mod Puts
-pub mod Standing
-pub mod TrueRuns
-pub mod TrueSlots

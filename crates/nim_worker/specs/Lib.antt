@@ -1,7 +1,12 @@
+pub mod Admitted
+pub mod Beginning
 pub mod Chains
+pub mod Finishing
 pub mod Inputs
 pub mod Leaves
 pub mod Lending
+pub mod Messages
 pub mod Right
 pub mod Stands
+pub mod Taken
 pub mod Works
