@@ -1,8 +1,6 @@
 -- Works that are out at once: one more at the end, the first completed, each performed, and what they have read.
 use Rattle.std.proofs.Common.{◌≡◌, Bool, true, false, List, [], ◌∷◌, ◌++◌, refl, ap, sym, subst, ◌∙◌, Option}
 use Rattle.std.proofs.Math.Path.{fun_ext}
-use Rattle.std.specs.Prelude.{◌||◌, if◌then◌else◌}
-use Rattle.std.specs.List.{list_any}
 use Rattle.std.proofs.lemmas.Bool.{both_ways, or_from, or_left, or_parts, or_right}
 use Rattle.nim_base.specs.declared.number.Shape.{Shape}
 use Rattle.nim_base.specs.declared.number.Slot.{Slot}
@@ -41,32 +39,31 @@ chain_moved : (shapes : List Shape) (before now before' now' : Slot → Option H
 chain_moved shapes before now before' now' [] [] are same_before same_now others = fun_ext (λ (s : Slot). others s refl)
 chain_moved shapes before now before' now' [] (w ∷ ws) are same_before same_now others = absurd are
 chain_moved shapes before now before' now' (b ∷ bs) [] are same_before same_now others = absurd are
-chain_moved shapes before now before' now' (b ∷ bs) (w ∷ ws) are same_before same_now others =
-    (
-      beside b.kind are.0 before',
-      (
-        work_moved shapes before are.0 before' (beside b.kind are.0 before') b w are.1.0 (λ s touched. same_before s (or_left (does_touch b.kind s) (do_touch bs s) touched))
+chain_moved shapes before now before' now' (b ∷ bs) (w ∷ ws) are same_before same_now others = (
+  beside b.kind are.0 before',
+  (
+    work_moved shapes before are.0 before' (beside b.kind are.0 before') b w are.1.0 (λ s touched. same_before s (or_left (does_touch b.kind s) (do_touch bs s) touched))
         (λ s touched. sym (beside_inside b.kind are.0 before' s touched)) (λ s not. beside_outside b.kind are.0 before' s not),
-        (
-          are.1.1.0,
-          chain_moved shapes are.0 now (beside b.kind are.0 before') now' bs ws are.1.1.1 first
+    (
+      are.1.1.0,
+      chain_moved shapes are.0 now (beside b.kind are.0 before') now' bs ws are.1.1.1 first
           (λ s touched. same_now s (or_right (does_touch b.kind s) (do_touch bs s) touched)) (λ s not. last s not (does_touch b.kind s) refl),
-        ),
-      ),
-    ) where
-      first : (s : Slot) → do_touch bs s ≡ true → are.0 s ≡ beside b.kind are.0 before' s
-      first s touched =
-          let not = not_first b bs s are.1.1.0 touched in
-          sym (leaves_alone shapes before are.0 b w s are.1.0 not)
-          ∙ same_before s (or_right (does_touch b.kind s) (do_touch bs s) touched)
-          ∙ sym (beside_outside b.kind are.0 before' s not)
+    ),
+  ),
+) where
+  first : (s : Slot) → do_touch bs s ≡ true → are.0 s ≡ beside b.kind are.0 before' s
+  first s touched =
+      let not = not_first b bs s are.1.1.0 touched in
+      sym (leaves_alone shapes before are.0 b w s are.1.0 not)
+      ∙ same_before s (or_right (does_touch b.kind s) (do_touch bs s) touched)
+      ∙ sym (beside_outside b.kind are.0 before' s not)
 
-      last : (s : Slot) → do_touch bs s ≡ false → (t : Bool) → does_touch b.kind s ≡ t → beside b.kind are.0 before' s ≡ now' s
-      last s not true is =
-          beside_inside b.kind are.0 before' s is
-          ∙ chain_leaves shapes are.0 now bs ws s are.1.1.1 not
-          ∙ same_now s (or_left (does_touch b.kind s) (do_touch bs s) is)
-      last s not false is = beside_outside b.kind are.0 before' s is ∙ others s (or_from (does_touch b.kind s) (do_touch bs s) is not)
+  last : (s : Slot) → do_touch bs s ≡ false → (t : Bool) → does_touch b.kind s ≡ t → beside b.kind are.0 before' s ≡ now' s
+  last s not true is =
+      beside_inside b.kind are.0 before' s is
+      ∙ chain_leaves shapes are.0 now bs ws s are.1.1.1 not
+      ∙ same_now s (or_left (does_touch b.kind s) (do_touch bs s) is)
+  last s not false is = beside_outside b.kind are.0 before' s is ∙ others s (or_from (does_touch b.kind s) (do_touch bs s) is not)
 
 -- a command that is apart from all is apart from each, the other way round too
 apart_more : (b c : Begun) (bs : List Begun) → IsApart b.kind bs → IsApart c.kind (b ∷ bs) → IsApart b.kind (bs ++ c ∷ [])
@@ -90,17 +87,16 @@ more_works shapes before between now [] [] last work are apart is =
     (now, (subst (λ (f : Slot → Option Held). IsWork shapes f now last work) (sym are) is, ((λ s touched. refl), refl)))
 more_works shapes before between now [] (w ∷ ws) last work are apart is = absurd are
 more_works shapes before between now (b ∷ bs) [] last work are apart is = absurd are
-more_works shapes before between now (b ∷ bs) (w ∷ ws) last work are apart is =
+more_works shapes before between now (b ∷ bs) (w ∷ ws) last work are apart is = (
+  are.0,
+  (
+    are.1.0,
     (
-      are.0,
-      (
-        are.1.0,
-        (
-          apart_more b last bs are.1.1.0 apart,
-          more_works shapes are.0 between now bs ws last work are.1.1.1 (λ s touched. (or_parts (does_touch b.kind s) (do_touch bs s) (apart s touched)).1) is,
-        ),
-      ),
-    )
+      apart_more b last bs are.1.1.0 apart,
+      more_works shapes are.0 between now bs ws last work are.1.1.1 (λ s touched. (or_parts (does_touch b.kind s) (do_touch bs s) (apart s touched)).1) is,
+    ),
+  ),
+)
 
 -- The first of the works is one among the slots as they are now, and once it is completed there the others are out.
 pub record IsFirst (shapes : List Shape) (frame : Option Grid) (before now : Slot → Option Held) (b : Begun) (bs : List Begun) (w : Work) (ws : List Work) : Type 0 where
