@@ -4,6 +4,7 @@ ghost use Rattle.nim_command.specs.Slots as slots_spec;
 ghost use Rattle.nim_command.specs.Waits.{Group as group_type};
 ghost use Rattle.nim_order.specs.Progress.{is_one_of};
 ghost use Rattle.nim_history.specs.History as history;
+ghost use Rattle.nim_history.specs.InTurn.{key_at};
 ghost use Rattle.nim_worker.specs.Admitted.{IsAdmitted};
 ghost use Rattle.nim_worker.specs.Stands.{tickets_of};
 ghost use Rattle.nim_worker.specs.Taken as spec;
@@ -63,7 +64,7 @@ fn is_key(one: &Key, other: &Key) -> bool
 
 /// The key of the frame that the command of a ticket receives, if it receives one.
 pub(crate) fn key_of(admitted: &Admitted, ticket: u64) -> Option<Key>
-    ensures { (groups : List group_type) (ran : List ℕ) → IsAdmitted admitted.now groups ran → is_one_of ran ticket ≡ false → result ≡ spec.key_at groups ticket }
+    ensures { (groups : List group_type) (ran : List ℕ) → IsAdmitted admitted.now groups ran → is_one_of ran ticket ≡ false → result ≡ key_at groups ticket }
 {
     match (admitted.head(ticket), admitted.command(ticket)) {
         (Some(head), Some(command)) => key_received(head, command.id, &command.kind),
