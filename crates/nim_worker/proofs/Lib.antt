@@ -3,4 +3,5 @@ pub mod Chains
 pub mod Completes
 pub mod GivenBack
 pub mod KeptBeside
+pub mod Meeting
 pub mod Puts
