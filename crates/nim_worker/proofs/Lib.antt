@@ -5,5 +5,6 @@ pub mod Finished
 pub mod GivenBack
 pub mod Handed
 pub mod KeptBeside
+pub mod Meeting
 pub mod Puts
 pub mod Walk

@@ -22,7 +22,12 @@ pub(crate) fn meets_any(admitted: &Admitted, works: &[Work], ticket: u64) -> boo
     ensures { (groups : List group_type) (ran : List ℕ) → IsAdmitted admitted.now groups ran → All (λ earlier. is_one_of ran earlier ≡ false) (tickets_of works.now) → is_one_of ran ticket ≡ false
         → result ≡ list_any (λ earlier. spec.do_meet groups earlier ticket) (tickets_of works.now) }
 {
-    works.iter().any(|work| do_meet(admitted, work.ticket, ticket))
+    for work in works {
+        if do_meet(admitted, work.ticket, ticket) {
+            return true;
+        }
+    }
+    false
 }
 
 fn do_meet(admitted: &Admitted, one: u64, other: u64) -> bool
