@@ -1,4 +1,5 @@
 pub mod Beside
+pub mod Begun
 pub mod Chains
 pub mod Completes
 pub mod Finished
@@ -7,4 +8,5 @@ pub mod Handed
 pub mod KeptBeside
 pub mod Meeting
 pub mod Puts
+pub mod Released
 pub mod Walk
