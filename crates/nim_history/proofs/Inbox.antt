@@ -24,7 +24,7 @@ pub record IsTrueAt (job : Job) (key : Key) (grid : Grid) : Type 0 where
 abbrev pub IsTrueInbox : Job → map.FinMap key_cmp Grid → Type 0
 IsTrueInbox job inbox = (key : Key) → IfSome (map.get inbox key) (IsTrueAt job key)
 
-alike_is : (r : Ordering) → is_eq r ≡ true → r ≡ Equal
+pub alike_is : (r : Ordering) → is_eq r ≡ true → r ≡ Equal
 alike_is Less same = absurd cc
 alike_is Equal same = refl
 alike_is Greater same = absurd cc

@@ -22,18 +22,38 @@ use Rattle.nim_plan.specs.Good.{IsGoodFrame}
 use Rattle.nim_plan.specs.Legal.{IsLegalOrder}
 use Rattle.nim_store.specs.Keys.{key_of}
 use Rattle.nim_history.specs.History.{WorkerState, framed, ordered}
+use Rattle.nim_history.specs.InTurn.{is_reset}
 use Rattle.nim_history.proofs.Inbox.{frame_true, retained_true}
 use Rattle.nim_history.proofs.LegalOrders.{IsSound, sound_order}
 use Rattle.nim_history.proofs.Members.{versions}
 use Rattle.nim_history.proofs.Right.{IsRight, nothing}
 
 -- a session with the same groups and more behind them
-abbrev GrowsTo : Session → Session → Type 0
+abbrev pub GrowsTo : Session → Session → Type 0
 GrowsTo session after = (more : List Group) × (after.groups ≡ session.groups ++ more)
 
 grows_if : (b : Bool) (session wider : Session) → GrowsTo session wider → GrowsTo session (if b then wider else session)
 grows_if true session wider grows = grows
 grows_if false session wider grows = ([], sym (append-nil session.groups))
+
+-- so it is after each order but a Reset
+pub order_grows : (session : Session) (order : ToWorker) → is_reset order ≡ false → GrowsTo session (after_order session order)
+order_grows session (Single epoch instance commands) other =
+    let group : Group = single_group epoch instance commands in
+    grows_if (is_current session epoch) session (with_group session group) (group ∷ [], refl)
+order_grows session (InstallTemplate epoch block entries) other =
+    grows_if (is_current session epoch) session (with_half session block entries) ([], sym (append-nil session.groups))
+order_grows session (Instantiate epoch instance block base args versions edits) other =
+    let half : List Entry = edited_by edits (session.halves block) in
+    let group : Group = instance_group epoch instance base args versions half in
+    grows_if (is_current session epoch) session (with_group (with_half session block half) group) (group ∷ [], refl)
+order_grows session (InstallPatch epoch patch copies) other =
+    grows_if (is_current session epoch) session (with_patch session patch copies) ([], sym (append-nil session.groups))
+order_grows session (RunPatch epoch instance patch versions) other =
+    let group : Group = patch_group epoch instance versions (session.patches patch) in
+    grows_if (is_current session epoch) session (with_group session group) (group ∷ [], refl)
+order_grows session (Reset epoch worker workers shapes) other = absurd (both_ways true other refl)
+order_grows session Stop other = ([], sym (append-nil session.groups))
 
 -- more commands behind those that were asked for
 longer_right : (job : Job) (state : WorkerState) (session : Session) → GrowsTo state.session session → IsSound job session
@@ -62,29 +82,25 @@ longer_right job state session grows sound covered right =
 pub ordered_right : (job : Job) (state : WorkerState) (order : ToWorker) → IsLegalOrder job state.session order
     → is_covered (placed_commands (after_order state.session order).groups) ≡ true → IsRight job state → IsRight job (ordered state order)
 ordered_right job state (Single epoch instance commands) legal covered right =
-    let group : Group = single_group epoch instance commands in
-    longer_right job state (after_order state.session (Single epoch instance commands))
-    (grows_if (is_current state.session epoch) state.session (with_group state.session group) (group ∷ [], refl))
-    (sound_order job state.session (Single epoch instance commands) legal right.sound) covered right
+    let order : ToWorker = Single epoch instance commands in
+    longer_right job state (after_order state.session order) (order_grows state.session order refl)
+    (sound_order job state.session order legal right.sound) covered right
 ordered_right job state (InstallTemplate epoch block entries) legal covered right =
-    longer_right job state (after_order state.session (InstallTemplate epoch block entries))
-    (grows_if (is_current state.session epoch) state.session (with_half state.session block entries) ([], sym (append-nil state.session.groups)))
-    (sound_order job state.session (InstallTemplate epoch block entries) legal right.sound) covered right
+    let order : ToWorker = InstallTemplate epoch block entries in
+    longer_right job state (after_order state.session order) (order_grows state.session order refl)
+    (sound_order job state.session order legal right.sound) covered right
 ordered_right job state (Instantiate epoch instance block base args versions edits) legal covered right =
-    let half : List Entry = edited_by edits (state.session.halves block) in
-    let group : Group = instance_group epoch instance base args versions half in
-    longer_right job state (after_order state.session (Instantiate epoch instance block base args versions edits))
-    (grows_if (is_current state.session epoch) state.session (with_group (with_half state.session block half) group) (group ∷ [], refl))
-    (sound_order job state.session (Instantiate epoch instance block base args versions edits) legal right.sound) covered right
+    let order : ToWorker = Instantiate epoch instance block base args versions edits in
+    longer_right job state (after_order state.session order) (order_grows state.session order refl)
+    (sound_order job state.session order legal right.sound) covered right
 ordered_right job state (InstallPatch epoch patch copies) legal covered right =
-    longer_right job state (after_order state.session (InstallPatch epoch patch copies))
-    (grows_if (is_current state.session epoch) state.session (with_patch state.session patch copies) ([], sym (append-nil state.session.groups)))
-    (sound_order job state.session (InstallPatch epoch patch copies) legal right.sound) covered right
+    let order : ToWorker = InstallPatch epoch patch copies in
+    longer_right job state (after_order state.session order) (order_grows state.session order refl)
+    (sound_order job state.session order legal right.sound) covered right
 ordered_right job state (RunPatch epoch instance patch versions) legal covered right =
-    let group : Group = patch_group epoch instance versions (state.session.patches patch) in
-    longer_right job state (after_order state.session (RunPatch epoch instance patch versions))
-    (grows_if (is_current state.session epoch) state.session (with_group state.session group) (group ∷ [], refl))
-    (sound_order job state.session (RunPatch epoch instance patch versions) legal right.sound) covered right
+    let order : ToWorker = RunPatch epoch instance patch versions in
+    longer_right job state (after_order state.session order) (order_grows state.session order refl)
+    (sound_order job state.session order legal right.sound) covered right
 ordered_right job state (Reset epoch worker workers shapes) legal covered right = record {
   sound = sound_order job state.session (Reset epoch worker workers shapes) legal right.sound;
   covered = covered;
@@ -96,6 +112,12 @@ ordered_right job state (Reset epoch worker workers shapes) legal covered right 
   gave = right.gave;
 }
 ordered_right job state Stop legal covered right = right
+
+-- what a worker is then, but after a Reset
+pub ordered_is : (state : WorkerState) (order : ToWorker) → is_reset order ≡ false
+    → ordered state order ≡ record state { session = after_order state.session order }
+ordered_is state (Reset epoch worker workers shapes) other = absurd (both_ways true other refl)
+ordered_is state order other = refl
 
 -- what the session is then
 pub ordered_session : (state : WorkerState) (order : ToWorker) → (ordered state order).session ≡ after_order state.session order

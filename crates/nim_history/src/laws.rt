@@ -1,4 +1,5 @@
 ghost use Rattle.nim_history.specs.GoesOn.{HistoryGoesOn, TruthGoesOn};
+ghost use Rattle.nim_history.specs.InTurn.{InTurn};
 ghost use Rattle.nim_history.specs.Truth.{HistoriesAreTrue};
 
 /// Whatever the order in which a worker completed its commands, as far as their waits allowed it: for every job for which
@@ -13,4 +14,10 @@ pub fn histories_are_true()
 pub fn history_goes_on()
     ensures history { HistoryGoesOn }
     ensures truth { TruthGoesOn }
+{}
+
+/// Commands that are out at once: that they may be completed in turn stays true when more orders and frames come, and
+/// when one more is begun that might be completed now.
+pub fn commands_in_turn()
+    ensures { InTurn }
 {}

@@ -5,5 +5,5 @@
 mod laws;
 mod out;
 
-pub use laws::{histories_are_true, history_goes_on};
+pub use laws::{commands_in_turn, histories_are_true, history_goes_on};
 pub use out::Out;

@@ -39,10 +39,10 @@ pub record IsAdmitted (admitted : Admitted) (groups : List Group) (ran : List �
   pub table : (number : ℕ) → get nat_cmp admitted.unfinished number ≡ open_of groups ran number
 
 -- a group is of these commands, with what is known of it
-pub record IsGroupOf (head : GroupHead) (told : Bool) (commands : List Command) (group : Group) : Type 0 where
-  pub head : head ≡ head_of group
-  pub told : told ≡ is_told group.source
-  pub commands : commands ≡ group.commands
+pub record IsGroupOf (known : GroupHead) (tells : Bool) (asked : List Command) (group : Group) : Type 0 where
+  pub head : known ≡ head_of group
+  pub told : tells ≡ is_told group.source
+  pub commands : group.commands ≡ asked
 
 -- the head of the group that a command is of, while it isn't complete
 abbrev pub head_at : List Group → List ℕ → ℕ → Option GroupHead

@@ -38,13 +38,13 @@ abbrev pub half_asked : Installed → ℕ → Asked → List Entry
 half_asked installed block asked = edited_by asked.edits (halves_of installed block)
 
 -- An instance of a block was asked for: its half is edited, and the commands that it then stands for were admitted.
-pub record IsInstantiated (installed : Installed) (admitted : Admitted) (head : GroupHead) (block : ℕ) (asked : Asked) (after : Installed) (admits : Admitted) : Type 0 where
-  pub has : Has after (with_list block (half_asked installed block asked) (halves_of installed)) (patches_of installed)
-  pub admitted : (groups : List Group) (ran : List ℕ) (next : Group) → IsAdmitted admitted groups ran
-      → IsGroupOf head true (expanded asked.base asked.args asked.versions 0 (half_asked installed block asked)) next
-      → IsAdmitted admits (groups ++ next ∷ []) ran
+pub record IsInstantiated (old : Installed) (waited : Admitted) (head : GroupHead) (block : ℕ) (asked : Asked) (new : Installed) (waits : Admitted) : Type 0 where
+  pub has : Has new (with_list block (half_asked old block asked) (halves_of old)) (patches_of old)
+  pub admitted : (groups : List Group) (ran : List ℕ) (next : Group) → IsAdmitted waited groups ran
+      → IsGroupOf head true (expanded asked.base asked.args asked.versions 0 (half_asked old block asked)) next
+      → IsAdmitted waits (groups ++ next ∷ []) ran
 
 -- what is installed and what was admitted are as they were
-pub record IsKept (installed : Installed) (admitted : Admitted) (after : Installed) (admits : Admitted) : Type 0 where
-  pub has : Has after (halves_of installed) (patches_of installed)
-  pub admitted : (groups : List Group) (ran : List ℕ) → IsAdmitted admitted groups ran → IsAdmitted admits groups ran
+pub record IsKept (old : Installed) (waited : Admitted) (new : Installed) (waits : Admitted) : Type 0 where
+  pub has : Has new (halves_of old) (patches_of old)
+  pub admitted : (groups : List Group) (ran : List ℕ) → IsAdmitted waited groups ran → IsAdmitted waits groups ran

@@ -1,12 +1,7 @@
-ghost use Rattle.std.specs.Prelude.{◌≡◌, true, IfSome, IsOk, OnOk, OnErr};
-ghost use Rattle.std.specs.Borrow.{sem};
+ghost use Rattle.std.specs.Prelude.{IfSome};
+ghost use Rattle.std.proofs.Props.{props};
 ghost use Rattle.nim_base.specs.declared.task.Func.{Func as func_type};
 ghost use Rattle.nim_base.specs.Apply.{HasCounts};
-ghost use Rattle.nim_store.specs.Stored.{slot_at};
-ghost use Rattle.nim_worker.specs.Inputs.{IsIdle};
-ghost use Rattle.nim_worker.specs.Lending.{LendsWorks};
-ghost use Rattle.nim_worker.specs.Works as spec;
-ghost use Rattle.nim_worker.specs.Works.{IsPerformed, IsWork, KeepsWork, begun_as, is_performed};
 
 use crate::inputs::Inputs;
 use nim_base::{Epoch, Func, NoMemory, Object, Position, Value, Version};
@@ -25,7 +20,7 @@ pub struct Work {
     pub(crate) func: Option<Func>,
     pub(crate) inputs: Box<Inputs>,
     pub(crate) results: Option<Vec<Value>>,
-    ghost counted: { IfSome func (λ (f : func_type). HasCounts f inputs.value.params.items inputs.value.places.items inputs.value.shapes.items) },
+    ghost counted: { IfSome func (λ (f : func_type). HasCounts f inputs.value.params.items inputs.value.places.items inputs.value.shapes.items) } by { Prim.hlevel props },
 }
 
 /// Commands that may run at once, each a work of its own.
@@ -38,6 +33,10 @@ pub struct Batch {
 }
 
 impl Batch {
+    ghost use Rattle.std.specs.Prelude.{◌≡◌};
+    ghost use Rattle.std.specs.Borrow.{sem};
+    ghost use Rattle.nim_worker.specs.Lending.{LendsWorks};
+
     /// The epoch of the last Reset before the batch was begun, 0 where there was none.
     pub fn epoch(&self) -> Epoch
         ensures { result ≡ self.now.epoch }
@@ -55,6 +54,12 @@ impl Batch {
 }
 
 impl Work {
+    ghost use Rattle.std.specs.Prelude.{◌≡◌, true, IsOk, OnErr, OnOk};
+    ghost use Rattle.nim_store.specs.Stored.{slot_at};
+    ghost use Rattle.nim_worker.specs.Inputs.{IsIdle};
+    ghost use Rattle.nim_worker.specs.Works as spec;
+    ghost use Rattle.nim_worker.specs.Works.{IsPerformed, IsWork, KeepsWork, begun_as, is_performed};
+
     /// Runs the task of the work, where it is a Run that wasn't run yet: it then has the task's results. All else is
     /// done when the batch is finished; a work with nothing to perform takes no memory.
     pub fn perform(&mut self) -> Result<(), NoMemory>
@@ -119,20 +124,20 @@ impl Work {
         Work {
             alloc,
             ticket,
-            position: position_of(kind),
+            position: Work::position_of(kind),
             func,
             inputs,
             results: None,
         }
     }
-}
 
-// The position of the task that a command runs, if it runs one.
-fn position_of(kind: &Kind) -> Option<Position>
-    ensures { result ≡ spec.position_of kind.now }
-{
-    match kind {
-        Kind::Run { position, .. } => Some(*position),
-        _ => None,
+    // The position of the task that a command runs, if it runs one.
+    fn position_of(kind: &Kind) -> Option<Position>
+        ensures { result ≡ spec.position_of kind.now }
+    {
+        match kind {
+            Kind::Run { position, .. } => Some(*position),
+            _ => None,
+        }
     }
 }

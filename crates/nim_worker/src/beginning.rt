@@ -1,4 +1,4 @@
-ghost use Rattle.std.specs.Prelude.{◌≡◌, ◌≤◌, ◌<◌, ◌+◌, ◌++◌, ◌∷◌, [], ℕ, ⊥, false, true, if◌then◌else◌, nat_lt, List, None, Some, All, IfSome, IsSome, IsTrue, length};
+ghost use Rattle.std.specs.Prelude.{◌≡◌, ◌≤◌, ◌<◌, ◌+◌, ◌++◌, ◌∷◌, [], ℕ, false, true, if◌then◌else◌, nat_lt, List, None, Some, All, IfSome, IsSome, IsTrue, length};
 ghost use Rattle.std.specs.Vec.{vec_capacity, vec_len};
 ghost use Rattle.nim_job.specs.declared.job.Job.{Job as job_type};
 ghost use Rattle.nim_job.specs.Whole.{is_whole};
