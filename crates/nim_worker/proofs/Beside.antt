@@ -1,8 +1,8 @@
 -- What a command does depends on the slots that it touches alone, and leaves the others as they are.
-use Rattle.std.proofs.Common.{◌≡◌, ◌<◌, ℕ, suc, Bool, true, false, List, [], ◌∷◌, length, map, refl, ap, ap₂, sym, subst, ◌∙◌, arith, Option, None, Some, All}
+use Rattle.std.proofs.Common.{◌≡◌, Bool, true, false, List, [], ◌∷◌, length, map, refl, ap, ap₂, sym, subst, ◌∙◌, Option, Some}
 use Rattle.std.proofs.Math.Path.{fun_ext}
-use Rattle.std.specs.Prelude.{◌==◌, ◌||◌, if◌then◌else◌, IfSome}
-use Rattle.std.specs.Option.{is_some, option_map, option_map_or}
+use Rattle.std.specs.Prelude.{◌==◌, if◌then◌else◌, IfSome}
+use Rattle.std.specs.Option.{option_map, option_map_or}
 use Rattle.std.proofs.lemmas.Bool.{both_ways, eq-eqb, eqb-true, or_left, or_right}
 use Rattle.std.proofs.lemmas.List.Elements.{All-head, All-tail}
 use Rattle.nim_base.specs.declared.number.Shape.{Shape}
@@ -12,7 +12,6 @@ use Rattle.nim_base.specs.Apply.{apply_of, has_counts}
 use Rattle.nim_base.specs.Value.{Grid, empty_grid}
 use Rattle.nim_command.specs.declared.command.Kind.{Kind}
 use Rattle.nim_command.specs.declared.command.Kind.TheVariants.{Run}
-use Rattle.nim_command.specs.Holds.{put_at}
 use Rattle.nim_command.specs.Slots.{does_read, does_touch, does_write, is_among, reads_of, writes_of}
 use Rattle.nim_store.specs.declared.held.Held.{Held}
 use Rattle.nim_history.specs.Kept.{content_seen, fitting_shape, held_at, seen}
@@ -76,12 +75,13 @@ given_back_same (t ∷ ts) (v ∷ vs) f g s same = ap (λ (h : Option Held). if 
 given_back_other : (slots : List Slot) (ts : List Taken) (vs : List Grid) (f : Slot → Option Held) (s : Slot) → AreAmong slots ts → is_among slots s ≡ false → given_back ts vs f s ≡ f s
 given_back_other slots [] vs f s among not = refl
 given_back_other slots (t ∷ ts) [] f s among not = refl
-given_back_other slots (t ∷ ts) (v ∷ vs) f s among not = either (s.0 == t.slot.0) refl where
-  either : (b : Bool) → (s.0 == t.slot.0) ≡ b → (if b then held_of t v else given_back ts vs f s) ≡ f s
-  either true same =
-      let first : is_among slots t.slot ≡ true = All-head (λ (t' : Taken). is_among slots t'.slot ≡ true) t ts among in
-      absurd (both_ways (is_among slots s) not (ap (is_among slots) (same_slot s t.slot (eqb-true s.0 t.slot.0 same)) ∙ first))
-  either false other = given_back_other slots ts vs f s (All-tail (λ (t' : Taken). is_among slots t'.slot ≡ true) t ts among) not
+given_back_other slots (t ∷ ts) (v ∷ vs) f s among not =
+    either (s.0 == t.slot.0) refl (given_back_other slots ts vs f s (All-tail (λ (t' : Taken). is_among slots t'.slot ≡ true) t ts among) not) where
+      either : (b : Bool) → (s.0 == t.slot.0) ≡ b → given_back ts vs f s ≡ f s → (if b then held_of t v else given_back ts vs f s) ≡ f s
+      either true same rest =
+          let first : is_among slots t.slot ≡ true = All-head (λ (t' : Taken). is_among slots t'.slot ≡ true) t ts among in
+          absurd (both_ways (is_among slots s) not (ap (is_among slots) (same_slot s t.slot (eqb-true s.0 t.slot.0 same)) ∙ first))
+      either false other rest = rest
 
 -- the results of a command depend on what it touches alone
 results_same : (shapes : List Shape) (kind : Kind) (f g : Slot → Option Held) → Agree kind f g → results_of shapes kind f ≡ results_of shapes kind g
@@ -106,15 +106,14 @@ work_moved shapes before now before' now' begun work is same_before same_now oth
   };
   results = subst (λ (r : Option (List Grid)). IfSome (results_in work) (λ results. r ≡ Some results)) (results_same shapes begun.kind before before' same_before) is.results;
 } where
-  abbrev ts : List Taken
-  ts = work.inputs.value.taken.items
-
-  abbrev vs : List Grid
-  vs = work.inputs.value.values.items
-
-  either : (s : Slot) (b : Bool) → does_touch begun.kind s ≡ b → given_back ts vs now' s ≡ before' s
-  either s true touched = given_back_same ts vs now' now s (sym (same_now s touched)) ∙ ap (λ (f : Slot → Option Held). f s) is.inputs.back ∙ same_before s touched
-  either s false not = given_back_other (reads_taken begun.kind) ts vs now' s is.inputs.among (not_taken_from begun.kind s not) ∙ others s not
+  either : (s : Slot) (b : Bool) → does_touch begun.kind s ≡ b → given_back work.inputs.value.taken.items work.inputs.value.values.items now' s ≡ before' s
+  either s true touched =
+      given_back_same work.inputs.value.taken.items work.inputs.value.values.items now' now s (sym (same_now s touched))
+      ∙ ap (λ (f : Slot → Option Held). f s) is.inputs.back
+      ∙ same_before s touched
+  either s false not =
+      given_back_other (reads_taken begun.kind) work.inputs.value.taken.items work.inputs.value.values.items now' s is.inputs.among (not_taken_from begun.kind s not)
+      ∙ others s not
 
 -- a work that is out left the slots alone that its command doesn't touch
 pub leaves_alone : (shapes : List Shape) (before now : Slot → Option Held) (begun : Begun) (work : Work) (s : Slot) → IsWork shapes before now begun work → does_touch begun.kind s ≡ false

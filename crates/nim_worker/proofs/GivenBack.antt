@@ -1,9 +1,9 @@
 -- What is taken out of slots and given back leaves them as they were.
-use Rattle.std.proofs.Common.{◌≡◌, ℕ, ◌+◌, ◌<◌, ◌≤◌, suc, Bool, true, false, not, List, [], ◌∷◌, ◌++◌, length, map, take, get_or, refl, ap, ap₂, sym, subst, ◌∙◌, arith, Option, None, Some, All}
+use Rattle.std.proofs.Common.{◌≡◌, ℕ, ◌+◌, ◌<◌, ◌≤◌, zero, suc, Bool, true, false, not, List, [], ◌∷◌, ◌++◌, length, map, take, get_or, refl, ap, ap₂, sym, subst, ◌∙◌, arith, Option, None, Some, All}
 use Rattle.std.specs.Prelude.{◌==◌, if◌then◌else◌}
 use Rattle.std.specs.List.{position_or_len}
 use Rattle.std.specs.Option.{option_map_or}
-use Rattle.std.proofs.lemmas.Bool.{eqb-true}
+use Rattle.std.proofs.lemmas.Bool.{eq-eqb, eqb-true, or_left, or_right}
 use Rattle.std.proofs.lemmas.List.{get_or_append_left, map-append, map_more, length-append}
 use Rattle.std.proofs.lemmas.List.Elements.{All-cons, All-nil}
 use Rattle.nim_base.specs.declared.number.Object.{Object}
@@ -11,6 +11,7 @@ use Rattle.nim_base.specs.declared.number.Slot.{Slot}
 use Rattle.nim_base.specs.Functions.{reads_of}
 use Rattle.nim_base.specs.Value.{Grid, empty_grid}
 use Rattle.nim_command.specs.Holds.{put_at}
+use Rattle.nim_command.specs.Slots.{is_among}
 use Rattle.nim_store.specs.declared.held.Held.{Held}
 use Rattle.nim_worker.specs.declared.inputs.Taken.{Taken}
 use Rattle.nim_worker.specs.Inputs.{AreSeen, Continues, content_of, given_back, held_of, is_from}
@@ -125,3 +126,9 @@ fits_more vs others (p ∷ places) place goes_on fit within =
 pub pushed_map : {X Y : Type 0} (f : X → Y) (xs : List X) (i : ℕ) (d : X) (ys : List Y) (y : Y) → i < length xs → ys ≡ map f (take i xs) → y ≡ f (get_or xs i d)
     → ys ++ y ∷ [] ≡ map f (take (i + 1) xs)
 pushed_map {X} {Y} f xs i d ys y within so_far is = ap₂ (λ (all : List Y) (last : Y). all ++ last ∷ []) so_far is ∙ sym (map_more f xs i d within)
+
+-- a slot of a list is among its slots
+pub among_at : (slots : List Slot) (i : ℕ) (d : Slot) → i < length slots → is_among slots (get_or slots i d) ≡ true
+among_at [] i d within = absurd (omega (arith, within))
+among_at (slot ∷ slots) zero d within = or_left (slot.0 == slot.0) (is_among slots slot) (eq-eqb slot.0 slot.0 refl)
+among_at (slot ∷ slots) (suc i) d within = or_right (slot.0 == (get_or slots i d).0) (is_among slots (get_or slots i d)) (among_at slots i d (omega (arith, within)))

@@ -1,6 +1,6 @@
 -- What a command leaves and gives depends on the slots that it touches alone, and it leaves the others as they are.
 use Rattle.std.proofs.Common.{◌≡◌, ℕ, Bool, true, false, ℤ, List, [], ◌∷◌, length, map, refl, ap, ap₂, sym, ◌∙◌, Option, None, Some}
-use Rattle.std.specs.Prelude.{◌==◌, ◌||◌, if◌then◌else◌}
+use Rattle.std.specs.Prelude.{◌==◌, if◌then◌else◌}
 use Rattle.std.specs.Option.{is_some, option_map_or}
 use Rattle.std.proofs.lemmas.Bool.{both_ways, eq-eqb, eqb-true, or_left, or_parts}
 use Rattle.nim_base.specs.declared.number.Object.{Object}
@@ -13,13 +13,13 @@ use Rattle.nim_command.specs.declared.command.Kind.{Kind}
 use Rattle.nim_command.specs.declared.command.Kind.TheVariants.{Create, Load, Send, Receive, Copy, Run, Fetch}
 use Rattle.nim_command.specs.Created.{created}
 use Rattle.nim_command.specs.Holds.{put_at, version_after}
-use Rattle.nim_command.specs.Slots.{does_read, does_touch, does_write, is_among, reads_of, writes_of}
+use Rattle.nim_command.specs.Slots.{does_read, does_touch, does_write, is_among}
 use Rattle.nim_command.specs.Waits.{Group}
 use Rattle.nim_message.specs.declared.report.FromWorker.TheVariants.{Ran, Value}
 use Rattle.nim_store.specs.declared.held.Held.{Held}
 use Rattle.nim_history.specs.declared.out.Out.{Out}
-use Rattle.nim_history.specs.Kept.{content_seen, fitting_shape, frame_of, held_at, is_single, kept_by, own_outs, put_results, put_shaped, results_for, seen, shape_of}
-use Rattle.nim_worker.proofs.Beside.{Agree, contents_same, touch_read, touch_write, values_same}
+use Rattle.nim_history.specs.Kept.{fitting_shape, frame_of, held_at, is_single, kept_by, own_outs, put_results, put_shaped, results_for, shape_of}
+use Rattle.nim_worker.proofs.Beside.{Agree, contents_same, touch_read, values_same}
 
 -- what is put into another slot leaves a slot as it is
 put_other : (slots : List Slot) (slot s : Slot) (h : Option Held) (f : Slot → Option Held) → is_among (slot ∷ slots) s ≡ false → put_at slot h f s ≡ f s

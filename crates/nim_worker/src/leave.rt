@@ -100,7 +100,13 @@ fn held_at(slot: Slot, version: Version, value: Value) -> Held
 }
 
 // Makes the initial value of a slot's object, where the object has a shape.
-fn create(alloc: Global, store: &mut Store, slot: Slot, iota: bool, number: i64) -> Result<(), NoMemory>
+fn create(
+    alloc: Global,
+    store: &mut Store,
+    slot: Slot,
+    iota: bool,
+    number: i64,
+) -> Result<(), NoMemory>
     ensures slots { OnOk result (slot_at store.new
         ≡ spec.put_shaped store.old.shapes slot (spec.held_at slot 0 (created (fitting_shape store.old.shapes slot) iota number)) (slot_at store.old)) }
     ensures shapes { store.new.shapes ≡ store.old.shapes }
@@ -117,7 +123,12 @@ fn create(alloc: Global, store: &mut Store, slot: Slot, iota: bool, number: i64)
 }
 
 // Puts the value of a frame into a slot, where there is a frame.
-fn receive(store: &mut Store, slot: Slot, version: Version, frame: Option<Value>) -> Result<(), NoMemory>
+fn receive(
+    store: &mut Store,
+    slot: Slot,
+    version: Version,
+    frame: Option<Value>,
+) -> Result<(), NoMemory>
     ensures slots { OnOk result (slot_at store.new
         ≡ option_map_or (λ (value : Grid). put_at slot (Some (spec.held_at slot version value)) (slot_at store.old)) frame (slot_at store.old)) }
     ensures shapes { store.new.shapes ≡ store.old.shapes }
@@ -199,7 +210,13 @@ fn copied(alloc: Global, store: &Store, slot: Slot) -> Result<Held, NoMemory>
 }
 
 // What a Fetch reports: what the slot has.
-fn fetch(alloc: Global, head: GroupHead, store: &Store, slot: Slot, ticket: u32) -> Result<Out, NoMemory>
+fn fetch(
+    alloc: Global,
+    head: GroupHead,
+    store: &Store,
+    slot: Slot,
+    ticket: u32,
+) -> Result<Out, NoMemory>
     ensures { (group : group_type) → IsHeadOf head group
         → IfOk result (λ out. out ∷ [] ≡ own_outs group (fetch_type slot ticket) (slot_at store.now)) }
 {

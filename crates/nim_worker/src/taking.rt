@@ -55,7 +55,13 @@ impl Inputs {
                 writes,
                 ..
             } if func.has_counts(params.len(), reads.len(), writes.len()) => {
-                self.take(alloc, store, params.as_slice(), reads.as_slice(), writes.as_slice());
+                self.take(
+                    alloc,
+                    store,
+                    params.as_slice(),
+                    reads.as_slice(),
+                    writes.as_slice(),
+                );
                 Some(*func)
             }
             _ => None,
@@ -63,7 +69,14 @@ impl Inputs {
     }
 
     // Takes what a task reads out of its slots.
-    fn take(&mut self, alloc: Global, store: &mut Store, params: &[i64], reads: &[Slot], writes: &[Slot])
+    fn take(
+        &mut self,
+        alloc: Global,
+        store: &mut Store,
+        params: &[i64],
+        reads: &[Slot],
+        writes: &[Slot],
+    )
         requires idle { IsIdle self.old }
         requires params { length params.now ≤ 3 }
         requires reads { length reads.now ≤ 8 }

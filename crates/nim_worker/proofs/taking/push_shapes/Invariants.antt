@@ -7,7 +7,7 @@ use Rattle.nim_worker.proofs.taking.push_shapes.Given as goal
 -- the shapes of the first slots
 abbrev pub invariant-loop-slot : goal.invariant-loop-slot
 invariant-loop-slot l = record {
-  shapes : l.fitting.items ≡ map (fitting_shape l.shapes) (take l.slot-index l.writes);
+  shapes : l.fitting.items ≡ map (fitting_shape l.store.shapes) (take l.slot-index l.writes);
   wide : All (λ (shape : Shape). 1 ≤ shape.width) l.fitting.items;
   room : 2 ≤ vec_capacity l.fitting;
 }

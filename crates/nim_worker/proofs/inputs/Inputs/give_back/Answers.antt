@@ -20,6 +20,8 @@ loop-value-preserved-in-Continue-1 c =
           ∙ sym (given_back-snoc ts vs c.in-Some-pop.from c.in-Some.value f paired)
           ∙ ap₂ (λ (all : List Taken) (values : List Grid). given_back all values f) (sym c.in-Some-pop.ensures.items) (sym c.in-Some.ensures.items)
           ∙ inv.back;
+      stays = c.set.ensures.shapes ∙ inv.stays;
+      params = inv.params;
       paired = paired;
       places = inv.places;
       contents = inv.contents;

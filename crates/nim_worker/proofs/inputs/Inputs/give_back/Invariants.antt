@@ -8,6 +8,8 @@ use Rattle.nim_worker.proofs.inputs.Inputs.give_back.Given as goal
 abbrev pub invariant-loop-value : goal.invariant-loop-value
 invariant-loop-value l = record {
   back : given_back l.self.taken.items l.self.values.items (slot_at l.store) ≡ given_back l.fn.self.taken.items l.fn.self.values.items (slot_at l.fn.store);
+  stays : l.store.shapes ≡ l.fn.store.shapes;
+  params : l.self.params.items ≡ [];
   paired : length l.self.taken.items ≡ length l.self.values.items;
   places : l.self.places.items ≡ [];
   contents : l.self.contents.items ≡ [];

@@ -3,7 +3,7 @@ use Rattle.nim_base.specs.declared.number.Slot.{Slot}
 use Rattle.nim_store.specs.declared.held.Held.{Held}
 use Rattle.nim_store.specs.Stored.{slot_at}
 use Rattle.nim_history.specs.Kept.{content_seen, seen}
-use Rattle.nim_worker.proofs.GivenBack.{fits_more, pushed_map, reads_of-push}
+use Rattle.nim_worker.proofs.GivenBack.{among_at, fits_more, pushed_map, reads_of-push}
 use Rattle.nim_worker.proofs.inputs.Inputs.take.Goals as goal
 
 pub loop-slot-preserved : goal.loop-slot-preserved
@@ -15,6 +15,9 @@ loop-slot-preserved c =
     let slot : Slot = get_or c.args.reads.now c.loop-slot.slot-index first in
     record {
       back = read.back ∙ inv.back;
+      among = read.among c.args.reads.now (among_at c.args.reads.now c.loop-slot.slot-index first c.loop-slot-test.true) inv.among;
+      stays = read.shapes ∙ inv.stays;
+      params = inv.params;
       values = rw c.push_reserved.ensures.items
           (reads_of-push _ _ _ _ read.more inv.fit
           ∙ pushed_map (λ (slot : Slot). (seen before slot).value) c.args.reads.now c.loop-slot.slot-index first _ _ c.loop-slot-test.true inv.values
