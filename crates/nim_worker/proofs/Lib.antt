@@ -4,5 +4,6 @@ pub mod Completes
 pub mod GivenBack
 pub mod Handed
 pub mod KeptBeside
+pub mod Left
 pub mod Opened
 pub mod Puts
