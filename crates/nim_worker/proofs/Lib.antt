@@ -6,7 +6,9 @@ pub mod Finished
 pub mod GivenBack
 pub mod Handed
 pub mod KeptBeside
+pub mod Left
 pub mod Meeting
+pub mod Opened
 pub mod Puts
 pub mod Released
 pub mod Walk
