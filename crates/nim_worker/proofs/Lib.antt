@@ -1,7 +1,9 @@
+pub mod Begun
 pub mod Beside
 pub mod Chains
 pub mod Completes
 pub mod Finished
+pub mod FirstDone
 pub mod GivenBack
 pub mod Handed
 pub mod KeptBeside
@@ -9,4 +11,5 @@ pub mod Left
 pub mod Meeting
 pub mod Opened
 pub mod Puts
+pub mod Released
 pub mod Walk
