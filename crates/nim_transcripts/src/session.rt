@@ -4,6 +4,7 @@ use crate::funcs::{apply_line, counts_line, has_counts};
 use crate::orders::{frame, push_frame, push_report, reset, single};
 use crate::plans::{holds_line, rank_line};
 use crate::shown::{push_answer, push_contents, push_number};
+use crate::templates::{copies, instance, patch, template};
 use crate::texts::tokens_line;
 use crate::values::{cell_line, fit_line, made_line, text_line};
 use crate::words::{number, parts};
@@ -105,13 +106,6 @@ impl Session {
         out: &mut String,
     ) -> Result<(), LineFault> {
         match word {
-            "reset" => self.order(reset(alloc, text)?),
-            "single" => self.order(single(alloc, text)?),
-            "stop" => self.order(ToWorker::Stop),
-            "data" => {
-                self.core.on_data(frame(alloc, text)?.copy()?)?;
-                Ok(())
-            }
             "list" => {
                 self.list = commands(alloc, text)?;
                 Ok(())
@@ -120,6 +114,29 @@ impl Session {
             "covered" => push_answer(out, covered(alloc, self.list.as_slice())?),
             "rank" => {
                 self.rank = Some(rank_line(alloc, self.rank, text, out)?);
+                Ok(())
+            }
+            _ => self.answer_order(alloc, word, text, out),
+        }
+    }
+
+    fn answer_order(
+        &mut self,
+        alloc: Global,
+        word: &str,
+        text: &str,
+        out: &mut String,
+    ) -> Result<(), LineFault> {
+        match word {
+            "reset" => self.order(reset(alloc, text)?),
+            "single" => self.order(single(alloc, text)?),
+            "template" => self.order(template(alloc, text)?),
+            "instance" => self.order(instance(alloc, text)?),
+            "copies" => self.order(copies(alloc, text)?),
+            "patch" => self.order(patch(alloc, text)?),
+            "stop" => self.order(ToWorker::Stop),
+            "data" => {
+                self.core.on_data(frame(alloc, text)?.copy()?)?;
                 Ok(())
             }
             _ => self.answer_work(alloc, word, text, out),
