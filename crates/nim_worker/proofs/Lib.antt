@@ -1,3 +1,4 @@
+pub mod Begun
 pub mod Beside
 pub mod Chains
 pub mod Completes
@@ -7,6 +8,8 @@ pub mod Handed
 pub mod KeptBeside
 pub mod Left
 pub mod Meeting
+pub mod OneTaken
 pub mod Opened
 pub mod Puts
+pub mod Released
 pub mod Walk
