@@ -1,9 +1,9 @@
 -- One more command is taken into a batch that is being begun.
 use Rattle.std.proofs.Common.{◌≡◌, ℕ, Bool, true, false, List, [], ◌∷◌, ◌++◌, map, refl, ap, ap₂, sym, subst, ◌∙◌, Option, None, Some, All}
-use Rattle.std.specs.Prelude.{◌==◌, ◌||◌, if◌then◌else◌}
-use Rattle.std.specs.List.{flat_map, list_any}
-use Rattle.std.specs.Option.{option_map_or}
-use Rattle.std.proofs.lemmas.Bool.{both_ways, eqb-true, or_from, or_parts}
+use Rattle.std.specs.Prelude.{◌==◌, ◌&&◌, ◌||◌, not, if◌then◌else◌, IfSome}
+use Rattle.std.specs.List.{flat_map, list_all, list_any}
+use Rattle.std.specs.Option.{option_map, option_map_or}
+use Rattle.std.proofs.lemmas.Bool.{and_from, and_left, and_right, both_ways, eqb-true, or_from, or_parts}
 use Rattle.std.proofs.lemmas.List.{map-append}
 use Rattle.std.proofs.lemmas.List.Concat.{flat_map-append}
 use Rattle.std.proofs.lemmas.List.Elements.{All-push}
@@ -11,20 +11,22 @@ use Rattle.nim_base.specs.declared.number.Shape.{Shape}
 use Rattle.nim_base.specs.declared.number.Slot.{Slot}
 use Rattle.nim_command.specs.declared.command.Kind.{Kind}
 use Rattle.nim_command.specs.Slots.{does_touch, is_among, reads_of, writes_of}
-use Rattle.nim_command.specs.Waits.{Group}
+use Rattle.nim_command.specs.Waits.{Group, members_of, waits_of}
 use Rattle.nim_order.specs.Progress.{is_one_of}
+use Rattle.nim_queue.specs.Stands.{command_of, is_released}
 use Rattle.nim_plan.specs.Installed.{Has}
-use Rattle.nim_store.specs.Stored.{slot_at}
-use Rattle.nim_history.specs.History.{Asked, WorkerState, asked_at}
+use Rattle.nim_store.specs.Stored.{Stored, slot_at}
+use Rattle.nim_history.specs.History.{Asked, WorkerState, asked_at, has_frame}
 use Rattle.nim_worker.specs.declared.batch.Work.{Work}
 use Rattle.nim_worker.specs.declared.worker.WorkerCore.{WorkerCore}
 use Rattle.nim_worker.specs.Admitted.{IsAdmitted}
-use Rattle.nim_worker.specs.Beginning.{IsBegun}
+use Rattle.nim_worker.specs.Beginning.{IsBegun, MayBeBegun}
 use Rattle.nim_worker.specs.Chains.{AreWorks, IsApart, do_touch}
 use Rattle.nim_worker.specs.Stands.{HasState, IsBeginning, begun_at, begun_of, tickets_of}
-use Rattle.nim_worker.specs.Taken.{do_meet, do_share, have_one_frame, touch_one_slot}
+use Rattle.nim_worker.specs.Taken.{do_meet, do_share, have_one_frame, is_taken, touch_one_slot}
 use Rattle.nim_worker.specs.Works.{Begun, IsWork, begun_as}
 use Rattle.nim_worker.proofs.Chains.{more_works}
+use Rattle.nim_worker.proofs.Meeting.{command_asked}
 use Rattle.nim_worker.proofs.Puts.{same_slot}
 
 -- where a command touches none of some slots, a slot that it touches isn't one of them
@@ -110,3 +112,52 @@ one_taken old new works more state ticket asked begins same shapes found waiting
   begun = ap (begun_of state.session.groups) tickets
       ∙ flat_map-append (begun_at state.session.groups) (tickets_of works) (ticket ∷ [])
       ∙ ap (λ (o : Option Asked). begun_of state.session.groups (tickets_of works) ++ (option_map_or (λ (a : Asked). begun_as ticket a.command.kind ∷ []) o [] ++ [])) found
+
+pub not_ran : (groups : List Group) (ran : List ℕ) (place : ℕ) → is_released groups (is_one_of ran) place ≡ true → is_one_of ran place ≡ false
+not_ran groups ran place released = either (is_one_of ran place) refl where
+  either : (b : Bool) → is_one_of ran place ≡ b → b ≡ false
+  either true is = absurd (both_ways (is_released groups (is_one_of ran) place) (ap (λ (b : Bool). not b && list_all (is_one_of ran) (waits_of (members_of groups) place)) is) released)
+  either false is = refl
+
+-- A released command that meets none of the others is taken where it may be completed; where there is none nothing changes.
+pub maybe_taken : (old new : WorkerCore) (works more : List Work) (state : WorkerState) (ticket : ℕ) → IsBeginning old works state
+    → new ≡ record old { store = new.store } → new.store.shapes ≡ old.store.shapes → is_released state.session.groups (is_one_of state.ran) ticket ≡ true
+    → IfSome (asked_at state.session.groups ticket) (λ asked. true ≡ has_frame state asked)
+    → list_any (λ earlier. do_meet state.session.groups earlier ticket) (tickets_of works) ≡ false
+    → MayBeBegun old.store works ticket new.store more (command_of state.session.groups (is_one_of state.ran) ticket)
+    → (tickets_of more ≡ (if is_taken state (tickets_of works) ticket then tickets_of works ++ ticket ∷ [] else tickets_of works)) × IsBeginning new more state
+maybe_taken old new works more state ticket begins same shapes released framed none b =
+    either (asked_at state.session.groups ticket) refl framed
+    (subst (MayBeBegun old.store works ticket new.store more) (command_asked state.session.groups state.ran ticket waiting) b) where
+      waiting : is_one_of state.ran ticket ≡ false
+      waiting = not_ran state.session.groups state.ran ticket released
+
+      either : (o : Option Asked) → asked_at state.session.groups ticket ≡ o → IfSome o (λ asked. true ≡ has_frame state asked)
+          → MayBeBegun old.store works ticket new.store more (option_map (λ (asked : Asked). asked.command) o)
+          → (tickets_of more ≡ (if is_taken state (tickets_of works) ticket then tickets_of works ++ ticket ∷ [] else tickets_of works)) × IsBeginning new more state
+      either None missing framed b = (
+        ap tickets_of b.1
+        ∙ sym (ap (λ (t : Bool). if t then tickets_of works ++ ticket ∷ [] else tickets_of works)
+        (ap (λ (o : Option Asked). (is_released state.session.groups (is_one_of state.ran) ticket && option_map_or (has_frame state) o false)
+        && not (list_any (λ earlier. do_meet state.session.groups earlier ticket) (tickets_of works))) missing
+        ∙ and_left (is_released state.session.groups (is_one_of state.ran) ticket && false) (not (list_any (λ earlier. do_meet state.session.groups earlier ticket) (tickets_of works)))
+        (and_right (is_released state.session.groups (is_one_of state.ran) ticket) false refl))),
+        record {
+          has = state_stays old new state same shapes begins.has;
+          chain = subst (λ (all : List Work). AreWorks state.session.shapes state.slots (slot_at new.store) (begun_of state.session.groups (tickets_of all)) all) (sym b.1)
+              (subst (λ (stored : Stored). AreWorks state.session.shapes state.slots (slot_at stored) (begun_of state.session.groups (tickets_of works)) works) (sym b.0) begins.chain);
+          waiting = subst (λ (all : List Work). All (λ place. is_one_of state.ran place ≡ false) (tickets_of all)) (sym b.1) begins.waiting;
+        },
+      )
+      either (Some asked) found framed b =
+          let taken = one_taken old new works more state ticket asked begins same shapes found waiting none b in
+          (
+            taken.0
+            ∙ sym (ap (λ (t : Bool). if t then tickets_of works ++ ticket ∷ [] else tickets_of works)
+            (ap (λ (o : Option Asked). (is_released state.session.groups (is_one_of state.ran) ticket && option_map_or (has_frame state) o false)
+            && not (list_any (λ earlier. do_meet state.session.groups earlier ticket) (tickets_of works))) found
+            ∙ and_from (is_released state.session.groups (is_one_of state.ran) ticket && has_frame state asked)
+            (not (list_any (λ earlier. do_meet state.session.groups earlier ticket) (tickets_of works)))
+            (and_from (is_released state.session.groups (is_one_of state.ran) ticket) (has_frame state asked) released (sym framed)) (ap not none))),
+            taken.1,
+          )
