@@ -1,5 +1,6 @@
 pub mod Begun
 pub mod Beside
+pub mod Begun
 pub mod Chains
 pub mod Completes
 pub mod Finished
