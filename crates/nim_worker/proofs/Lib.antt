@@ -1,6 +1,5 @@
 pub mod Begun
 pub mod Beside
-pub mod Begun
 pub mod Chains
 pub mod Completes
 pub mod Finished
@@ -8,6 +7,7 @@ pub mod GivenBack
 pub mod Handed
 pub mod KeptBeside
 pub mod Left
+pub mod Lent
 pub mod Meeting
 pub mod OneTaken
 pub mod Opened
