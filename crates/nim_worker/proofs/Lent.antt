@@ -20,7 +20,8 @@ use Rattle.nim_worker.proofs.Chains.{works_kept}
 same_tickets : (shapes : List Shape) (before now : Slot → Option Held) (begun : List Begun) (olds news : List Work)
     → AreWorks shapes before now begun olds → AreWorks shapes before now begun news → tickets_of olds ≡ tickets_of news
 same_tickets shapes before now begun olds news = either before before begun olds news where
-  either : (f g : Slot → Option Held) (bs : List Begun) (ws vs : List Work) → AreWorks shapes f now bs ws → AreWorks shapes g now bs vs → tickets_of ws ≡ tickets_of vs
+  either : (f g : Slot → Option Held) (bs : List Begun) (ws vs : List Work) → AreWorks shapes f now bs ws → AreWorks shapes g now bs vs
+      → tickets_of ws ≡ tickets_of vs
   either f g [] [] [] first second = refl
   either f g [] [] (v ∷ vs) first second = absurd second
   either f g [] (w ∷ ws) vs first second = absurd first

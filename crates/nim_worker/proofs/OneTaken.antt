@@ -46,7 +46,8 @@ not_shared one other s not touched =
     or_from (is_among (reads_of one) s) (is_among (writes_of one) s) (not_among other (reads_of one) s parts.0 touched) (not_among other (writes_of one) s parts.1 touched)
 
 -- what a command touches, one that it doesn't meet doesn't
-one_apart : (groups : List Group) (one place : ℕ) (asked : Asked) (s : Slot) → asked_at groups place ≡ Some asked → do_meet groups one place ≡ false → does_touch asked.command.kind s ≡ true
+one_apart : (groups : List Group) (one place : ℕ) (asked : Asked) (s : Slot) → asked_at groups place ≡ Some asked → do_meet groups one place ≡ false
+    → does_touch asked.command.kind s ≡ true
     → do_touch (begun_at groups one) s ≡ false
 one_apart groups one place asked s found not touched = either (asked_at groups one) shares where
   shares : option_map_or (λ (a : Asked). do_share a.command.kind asked.command.kind) (asked_at groups one) false ≡ false
@@ -65,7 +66,8 @@ do_touch-append (x ∷ xs) ys s first second =
     or_from (does_touch x.kind s) (do_touch (xs ++ ys) s) parts.0 (do_touch-append xs ys s parts.1 second)
 
 -- a command that meets none of the others is apart from them
-all_apart : (groups : List Group) (places : List ℕ) (place : ℕ) (asked : Asked) → asked_at groups place ≡ Some asked → list_any (λ earlier. do_meet groups earlier place) places ≡ false
+all_apart : (groups : List Group) (places : List ℕ) (place : ℕ) (asked : Asked) → asked_at groups place ≡ Some asked
+    → list_any (λ earlier. do_meet groups earlier place) places ≡ false
     → IsApart asked.command.kind (begun_of groups places)
 all_apart groups [] place asked found none s touched = refl
 all_apart groups (one ∷ places) place asked found none s touched =
@@ -90,7 +92,8 @@ state_stays old new state same shapes has = record {
 -- one more work is out, of a command that meets none of the others
 pub one_taken : (old new : WorkerCore) (works more : List Work) (state : WorkerState) (ticket : ℕ) (asked : Asked) → IsBeginning old works state
     → new ≡ record old { store = new.store } → new.store.shapes ≡ old.store.shapes → asked_at state.session.groups ticket ≡ Some asked → is_one_of state.ran ticket ≡ false
-    → list_any (λ earlier. do_meet state.session.groups earlier ticket) (tickets_of works) ≡ false → IsBegun old.store works ticket new.store more asked.command
+    → list_any (λ earlier. do_meet state.session.groups earlier ticket) (tickets_of works) ≡ false
+    → IsBegun old.store works ticket new.store more asked.command
     → (tickets_of more ≡ tickets_of works ++ ticket ∷ []) × IsBeginning new more state
 one_taken old new works more state ticket asked begins same shapes found waiting none b = (
   tickets,
