@@ -1,6 +1,5 @@
 pub mod Begun
 pub mod Beside
-pub mod Begun
 pub mod Chains
 pub mod Completes
 pub mod Finished
@@ -9,7 +8,9 @@ pub mod GivenBack
 pub mod Handed
 pub mod KeptBeside
 pub mod Left
+pub mod Lent
 pub mod Meeting
+pub mod OneTaken
 pub mod Opened
 pub mod Puts
 pub mod Released
