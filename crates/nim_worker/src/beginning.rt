@@ -8,7 +8,7 @@ ghost use Rattle.nim_queue.specs.Stands.{command_of, is_after, is_released, read
 ghost use Rattle.nim_order.specs.Progress.{is_one_of};
 ghost use Rattle.nim_command.specs.Waits.{Group as group_type};
 ghost use Rattle.nim_worker.specs.Admitted.{IsAdmitted};
-ghost use Rattle.nim_worker.specs.Beginning.{IsBegun};
+ghost use Rattle.nim_worker.specs.Beginning.{MayBeBegun};
 ghost use Rattle.nim_worker.specs.Inputs.{AreIdle};
 ghost use Rattle.nim_worker.specs.Right.{ReadsRight};
 ghost use Rattle.nim_worker.specs.Stands.{HasRoom, HasState, IsBeginning, Stands, tickets_of};
@@ -162,7 +162,7 @@ fn begin_work(
     requires enough { 1 ≤ vec_len spare.old }
     requires idle { AreIdle spare.old.items }
     ensures work { (groups : List group_type) (ran : List ℕ) → IsAdmitted admitted.now groups ran
-        → IfSome (command_of groups (is_one_of ran) ticket) (IsBegun store.old works.old.items ticket store.new works.new.items) }
+        → MayBeBegun store.old works.old.items ticket store.new works.new.items (command_of groups (is_one_of ran) ticket) }
     ensures shapes { store.new.shapes ≡ store.old.shapes }
     ensures idle { AreIdle spare.new.items }
     ensures count { vec_len works.new + vec_len spare.new ≡ vec_len works.old + vec_len spare.old }
