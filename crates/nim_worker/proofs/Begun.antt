@@ -135,8 +135,8 @@ run_right job before (Run at func params reads writes) work is read right positi
     (λ task there parts.
     let counts = ap (λ (b : Bool). if b then reads else []) parts.0 in
     (
-      read.contents ∙ ap (map (content_seen before)) counts ∙ parts.1.0,
-      read.values ∙ ap (map (λ slot. (seen before slot).value)) counts ∙ parts.1.1,
+      read.contents ∙ ap (map (content_seen before)) counts ∙ parts.1,
+      read.values ∙ ap (map (λ slot. (seen before slot).value)) counts ∙ parts.2,
     ))
 run_right job before kind work is read right position named = absurd cc
 

@@ -21,8 +21,7 @@ pub struct Work {
     pub(crate) func: Option<Func>,
     pub(crate) inputs: Box<Inputs>,
     pub(crate) results: Option<Vec<Value>>,
-    ghost counted: { IfSome func
-        (λ (f : func_type). HasCounts f inputs.value.params.items inputs.value.places.items inputs.value.shapes.items) } by { Prim.hlevel props },
+    ghost counted: { IfSome func (λ (f : func_type). HasCounts f inputs.value.params.items inputs.value.places.items inputs.value.shapes.items) } by { Prim.hlevel props },
 }
 
 /// Commands that may run at once, each a work of its own.
@@ -120,8 +119,7 @@ impl Work {
         store: &mut Store,
     ) -> Work
         requires { IsIdle inputs.value }
-        ensures work { IsWork store.old.shapes (slot_at store.old) (slot_at store.new)
-            (begun_as ticket kind.now) result }
+        ensures work { IsWork store.old.shapes (slot_at store.old) (slot_at store.new) (begun_as ticket kind.now) result }
         ensures shapes { store.new.shapes ≡ store.old.shapes }
     {
         let func = inputs.take_for(alloc, kind, store);
