@@ -1,6 +1,6 @@
 -- The first work that is out is complete.
 use Rattle.std.proofs.Common.{◌≡◌, ℕ, suc, zero, ◌<◌, Bool, true, false, List, [], ◌∷◌, ◌++◌, length, refl, ap, ap₂, sym, subst, ◌∙◌, arith, Option, None, Some}
-use Rattle.std.specs.Prelude.{◌==◌, ◌&&◌, OnOk, Result, Ok, Err}
+use Rattle.std.specs.Prelude.{◌==◌, ◌&&◌, IfOk, OnOk, Result, Ok, Err}
 use Rattle.std.specs.Option.{option_map, option_map_or}
 use Rattle.std.proofs.lemmas.Bool.{ne_eqb}
 use Rattle.std.proofs.lemmas.Option.{same_Some}
@@ -27,6 +27,10 @@ use Rattle.nim_worker.proofs.Finished.{IsFirstOut}
 pub on_ok : {T E P Q : Type 0} (r : Result T E) → (P → Q) → OnOk r P → OnOk r Q
 on_ok (Ok x) follows is = follows is
 on_ok (Err e) follows is = tt
+
+pub both_ok : {T E S : Type 0} {P Q : T → Type 0} (r : Result T E) → (S → (x : T) → P x → Q x) → OnOk r S → IfOk r P → IfOk r Q
+both_ok (Ok x) follows stands is = follows stands x is
+both_ok (Err e) follows stands is = tt
 
 -- what is known of a command that has become complete
 abbrev pub ended_as : List Group → List ℕ → ℕ → Asked → Ended

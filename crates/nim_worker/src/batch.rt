@@ -2,6 +2,7 @@ ghost use Rattle.std.specs.Prelude.{IfSome};
 ghost use Rattle.std.proofs.Props.{props};
 ghost use Rattle.nim_base.specs.declared.task.Func.{Func as func_type};
 ghost use Rattle.nim_base.specs.Apply.{HasCounts};
+ghost use Rattle.nim_worker.specs.Inputs.{AreIdle};
 
 use crate::inputs::Inputs;
 use nim_base::{Epoch, Func, NoMemory, Object, Position, Value, Version};
@@ -20,8 +21,7 @@ pub struct Work {
     pub(crate) func: Option<Func>,
     pub(crate) inputs: Box<Inputs>,
     pub(crate) results: Option<Vec<Value>>,
-    ghost counted: { IfSome func
-        (λ (f : func_type). HasCounts f inputs.value.params.items inputs.value.places.items inputs.value.shapes.items) } by { Prim.hlevel props },
+    ghost counted: { IfSome func (λ (f : func_type). HasCounts f inputs.value.params.items inputs.value.places.items inputs.value.shapes.items) } by { Prim.hlevel props },
 }
 
 /// Commands that may run at once, each a work of its own.
@@ -31,6 +31,7 @@ pub struct Batch {
     pub(crate) works: Vec<Work>,
     /// Inputs that none of the works has.
     pub(crate) spare: Vec<Box<Inputs>>,
+    ghost idle: { AreIdle spare.items },
 }
 
 impl Batch {
@@ -118,8 +119,7 @@ impl Work {
         store: &mut Store,
     ) -> Work
         requires { IsIdle inputs.value }
-        ensures work { IsWork store.old.shapes (slot_at store.old) (slot_at store.new)
-            (begun_as ticket kind.now) result }
+        ensures work { IsWork store.old.shapes (slot_at store.old) (slot_at store.new) (begun_as ticket kind.now) result }
         ensures shapes { store.new.shapes ≡ store.old.shapes }
     {
         let func = inputs.take_for(alloc, kind, store);

@@ -53,7 +53,6 @@ impl WorkerCore {
     fn empty_batch(&self) -> Batch
         ensures epoch { result.epoch ≡ self.now.epoch }
         ensures works { result.works.items ≡ [] }
-        ensures spare { result.spare.items ≡ [] }
     {
         Batch {
             epoch: self.epoch,
@@ -69,7 +68,6 @@ impl WorkerCore {
         ensures rest { self.new ≡ record self.old { store = self.new.store } }
         ensures begins { (state : WorkerState) → IsBeginning self.old [] state → IsBeginning self.new result.works.items state }
         ensures taken { (state : WorkerState) → IsBeginning self.old [] state → tickets_of result.works.items ≡ taken_of state most }
-        ensures idle { AreIdle result.spare.items }
         ensures room { HasRoom result }
     {
         let Room {
