@@ -20,7 +20,7 @@ or_nothing true = refl
 or_nothing false = refl
 
 -- one more place that has run
-one_more : (past : List ℕ) (place : ℕ) → GainsPlace (is_one_of past) place (is_one_of (past ++ place ∷ []))
+pub one_more : (past : List ℕ) (place : ℕ) → GainsPlace (is_one_of past) place (is_one_of (past ++ place ∷ []))
 one_more past place other =
     list_any-append (λ (p : ℕ). p == other) past (place ∷ []) ∙ ap (λ (b : Bool). is_one_of past other || b) (or_nothing (place == other))
 

@@ -1,5 +1,5 @@
 -- The halves and the patches that a worker was given.
-use Rattle.std.specs.Prelude.{◌≡◌, ℕ, List, [], unwrap_or}
+use Rattle.std.specs.Prelude.{◌≡◌, ℕ, List, [], IsSome, unwrap_or}
 use Rattle.std.specs.BTreeMap.{get}
 use Rattle.std.specs.Ordering.{nat_cmp}
 use Rattle.nim_command.specs.declared.edit.PatchPart.{PatchPart}
@@ -18,3 +18,7 @@ patches_of installed = λ patch. unwrap_or (get nat_cmp installed.patches patch)
 pub record Has (installed : Installed) (by_block : ℕ → List Entry) (by_patch : ℕ → List PatchPart) : Type 0 where
   pub halves : halves_of installed ≡ by_block
   pub patches : patches_of installed ≡ by_patch
+
+-- there is a place for the half of a block
+abbrev pub HasPlace : Installed → ℕ → Type 0
+HasPlace installed block = IsSome (get nat_cmp installed.halves block)

@@ -2,7 +2,7 @@ ghost use Rattle.std.specs.Prelude.{◌≡◌, ℕ, IfOk, OnOk, OnErr};
 ghost use Rattle.nim_command.specs.Edits.{edited_by};
 ghost use Rattle.nim_command.specs.Expansion as expansion;
 ghost use Rattle.nim_message.specs.Orders.{none_yet, with_list};
-ghost use Rattle.nim_plan.specs.Installed.{Has, halves_of, patches_of};
+ghost use Rattle.nim_plan.specs.Installed.{Has, HasPlace, halves_of, patches_of};
 
 use nim_base::{Copied, NoMemory, Position, Seq, Version};
 use nim_command::{Command, Edit, Entry, Half, PatchPart, patch_commands};
@@ -61,10 +61,45 @@ impl Installed {
         ensures commands { IfOk result (λ commands. commands.items ≡ expansion.expanded base args.now versions.now 0 (edited_by edits.now (halves_of self.old block))) }
         ensures err { OnErr result (Has self.new (halves_of self.old) (patches_of self.old)) }
     {
-        let half = self.edited(block, edits)?;
-        let commands = half.commands(base, args, versions)?;
+        let (half, commands) = self.instance(block, base, args, versions, edits)?;
         self.halves.insert(block, half)?;
         Ok(commands)
+    }
+
+    /// The half of a block as edits leave it, and the commands that it then stands for; nothing is edited yet.
+    pub fn instance(
+        &self,
+        block: u8,
+        base: Position,
+        args: &[i64],
+        versions: &[Version],
+        edits: &[Edit],
+    ) -> Result<(Half, Vec<Command>), NoMemory>
+        ensures half { IfOk result (λ made. made.0 ≡ edited_by edits.now (halves_of self.now block)) }
+        ensures commands { IfOk result (λ made. made.1.items ≡ expansion.expanded base args.now versions.now 0 (edited_by edits.now (halves_of self.now block))) }
+    {
+        let half = self.edited(block, edits)?;
+        let commands = half.commands(base, args, versions)?;
+        Ok((half, commands))
+    }
+
+    /// Makes a place for the half of a block, so that `replace` needs no memory.
+    pub fn make_place(&mut self, block: u8) -> Result<(), NoMemory>
+        ensures has { Has self.new (halves_of self.old) (patches_of self.old) }
+        ensures place { OnOk result (HasPlace self.new block) }
+    {
+        if !self.halves.contains_key(&block) {
+            self.halves.insert(block, Half::empty(self.alloc))?;
+        }
+        Ok(())
+    }
+
+    /// The half of a block, in the place that there is; takes no memory.
+    pub fn replace(&mut self, block: u8, half: Half)
+        requires { HasPlace self.old block }
+        ensures { Has self.new (with_list block half (halves_of self.old)) (patches_of self.old) }
+    {
+        let _ = self.halves.insert(block, half);
     }
 
     /// The commands of a patch.

@@ -37,6 +37,11 @@ abbrev pub command_of : List Group → (ℕ → Bool) → ℕ → Option Command
 command_of groups done ticket =
     if done ticket then None else option_map (λ (m : Member). m.command) (slice_get (members_of groups) ticket)
 
+-- which of the groups, from 0 on, the command of a ticket is of while it isn't complete
+abbrev pub group_of : List Group → (ℕ → Bool) → ℕ → Option ℕ
+group_of groups done ticket =
+    if done ticket then None else option_map (λ (m : Member). m.group) (slice_get (members_of groups) ticket)
+
 -- What is complete once the command of a ticket is. A ticket that was never given changes nothing.
 abbrev pub done_with : List Group → (ℕ → Bool) → ℕ → ℕ → Bool
 done_with groups done ticket =
@@ -72,6 +77,10 @@ waiting_from members done place (m ∷ rest) =
 -- all commands that aren't complete, in the order given
 abbrev pub waiting_of : List Member → (ℕ → Bool) → List Waiting
 waiting_of members done = waiting_from members done 0 members
+
+-- how many commands of a queue aren't complete
+abbrev pub waiting_count : BeforeQueue → ℕ
+waiting_count queue = length queue.waiting.items
 
 -- The queue was given these groups, and just these of their commands are complete, each by its place in the order
 -- given, which is its ticket. It keeps nothing of them but their number.

@@ -1,14 +1,14 @@
-ghost use Rattle.std.specs.Prelude.{◌≡◌, ℕ, ◌+◌, ◌≤◌, ◌<◌, ◌^◌, ◌++◌, ◌∷◌, [], Bool, List, length, IfSome, OnOk, OnErr};
+ghost use Rattle.std.specs.Prelude.{◌≡◌, ℕ, ◌+◌, ◌≤◌, ◌<◌, ◌^◌, ◌++◌, ◌∷◌, [], Bool, true, List, length, IfSome, OnOk, OnErr};
 ghost use Rattle.std.specs.Vec.{vec_capacity, vec_len};
 ghost use Rattle.std.specs.Option.{option_copied};
 ghost use Rattle.nim_command.specs.Waits.{Group as group_type, placed_commands};
 ghost use Rattle.nim_order.specs.Progress.{IsReleasedAt};
 ghost use Rattle.nim_queue.specs.Arrived.{joined};
-ghost use Rattle.nim_queue.specs.Stands.{Stands, command_of, done_with, nothing_done, ready_of};
+ghost use Rattle.nim_queue.specs.Stands.{Stands, command_of, done_with, group_of, is_after, nothing_done, ready_of};
 
 use crate::arrivals::{Arrivals, arrive, hide_all};
 use crate::complete::free_all;
-use crate::search::{command_at, first_free};
+use crate::search::{command_at, first_free, group_at};
 use crate::waiting::Waiting;
 use nim_base::NoMemory;
 use nim_command::Command;
@@ -63,6 +63,7 @@ impl BeforeQueue {
         ensures first { (groups : List group_type) (done : ℕ → Bool) → Stands self.now groups done → result ≡ ready_of groups done after }
         ensures released { (groups : List group_type) (done : ℕ → Bool) → Stands self.now groups done
             → IfSome result (λ ticket. IsReleasedAt (placed_commands groups) done ticket) }
+        ensures later { IfSome result (λ ticket. is_after after ticket ≡ true) }
     {
         first_free(self.waiting.as_slice(), after)
     }
@@ -74,13 +75,23 @@ impl BeforeQueue {
         command_at(self.waiting.as_slice(), ticket)
     }
 
-    /// The command of a ticket is complete, and leaves. A ticket that was never given changes nothing. Takes no memory.
-    pub fn complete(&mut self, ticket: u64)
-        ensures { (groups : List group_type) (done : ℕ → Bool) → Stands self.old groups done → Stands self.new groups (done_with groups done ticket) }
+    /// Which of the groups given, from 0 on, the command of a ticket is of, while it isn't complete; takes no memory.
+    pub fn group(&self, ticket: u64) -> Option<u64>
+        ensures { (groups : List group_type) (done : ℕ → Bool) → Stands self.now groups done → result ≡ group_of groups done ticket }
+    {
+        group_at(self.waiting.as_slice(), ticket)
+    }
+
+    /// The command of a ticket is complete, and is handed back, where it wasn't complete before. A ticket that was never
+    /// given changes nothing. Takes no memory.
+    pub fn complete(&mut self, ticket: u64) -> Option<Command>
+        ensures stands { (groups : List group_type) (done : ℕ → Bool) → Stands self.old groups done → Stands self.new groups (done_with groups done ticket) }
+        ensures command { (groups : List group_type) (done : ℕ → Bool) → Stands self.old groups done → result ≡ command_of groups done ticket }
     {
         if ticket < self.given {
-            free_all(&mut self.waiting, ticket);
+            return free_all(self.alloc, &mut self.waiting, ticket);
         }
+        None
     }
 
     /// Takes in what has arrived, for which there is room.

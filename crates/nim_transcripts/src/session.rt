@@ -2,7 +2,7 @@ use crate::commands::{commands, object_line, slots_line};
 use crate::fault::LineFault;
 use crate::funcs::{apply_line, counts_line, has_counts};
 use crate::halves::{edit_line, expand_line, half, patch_line};
-use crate::orders::{length_line, order, push_report};
+use crate::orders::{frame, length_line, order, push_frame, push_report};
 use crate::plans::{holds_line, rank_line};
 use crate::shown::{push_answer, push_contents, push_number};
 use crate::texts::tokens_line;
@@ -150,8 +150,12 @@ impl Session {
                 *self = Session::new(alloc, Worker(number::<u16>(text)?));
                 push_number(alloc, out, i64::from(self.core.worker().0))
             }
+            "data" => {
+                self.core.on_data(frame(alloc, text)?.copy()?)?;
+                Ok(())
+            }
             "busy" => push_answer(out, self.core.busy()),
-            "begin" => self.begin(alloc, out),
+            "begin" => self.begin(alloc, most_of(text)?, out),
             "perform" => self.perform(),
             "finish" => self.finish(alloc, out),
             "reports" => self.reports(alloc, out),
@@ -159,12 +163,15 @@ impl Session {
         }
     }
 
-    // `begin`: the epoch of the batch, and of each work the position and what it reads.
-    fn begin(&mut self, alloc: Global, out: &mut String) -> Result<(), LineFault> {
+    // `begin MOST`: the epoch of the batch, and of each work the position and what it reads.
+    fn begin(&mut self, alloc: Global, most: u16, out: &mut String) -> Result<(), LineFault> {
         if self.core.busy() {
             return Err(LineFault::Form("a batch is out"));
         }
-        let mut batch = self.core.begin(1);
+        if most == 0 || most > 16 {
+            return Err(LineFault::Form("a batch has 1 to 16 works"));
+        }
+        let mut batch = self.core.begin(most);
         let epoch = batch.epoch();
         out.push_str(format!(in alloc; "epoch {epoch}\n")?.as_str())?;
         for work in batch.works() {
@@ -190,19 +197,21 @@ impl Session {
         Ok(())
     }
 
-    // `finish`: what the batch reports.
+    // `finish`: what the batch gives.
     fn finish(&mut self, alloc: Global, out: &mut String) -> Result<(), LineFault> {
         let Some(batch) = self.batch.take() else {
             return Err(LineFault::Form("no batch is out"));
         };
         for given in self.core.finish(batch)? {
-            let Out::Report(report) = given;
-            push_report(alloc, out, &report.copy()?)?;
+            match given {
+                Out::Report(report) => push_report(alloc, out, &report.copy()?)?,
+                Out::Data(peer, frame) => push_frame(alloc, out, peer, &frame.copy()?)?,
+            }
         }
         Ok(())
     }
 
-    // `reports`: what is reported until no command is released.
+    // `reports`: what is given until no command may be completed.
     fn reports(&mut self, alloc: Global, out: &mut String) -> Result<(), LineFault> {
         for _ in 0..100u32 {
             if self.core.busy() {
@@ -218,4 +227,12 @@ impl Session {
         }
         Err(LineFault::Form("there are more reports"))
     }
+}
+
+// How many commands a batch may have, one where nothing is said.
+fn most_of(text: &str) -> Result<u16, LineFault> {
+    if text.is_empty() {
+        return Ok(1);
+    }
+    number::<u16>(text)
 }

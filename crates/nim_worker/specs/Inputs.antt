@@ -1,22 +1,18 @@
 -- What a Run takes out of the slots while its batch is out.
-use Rattle.std.specs.Prelude.{◌≡◌, ℕ, ◌==◌, List, [], ◌∷◌, ◌++◌, Bool, map, Option, None, slice_index_or}
+use Rattle.std.specs.Prelude.{◌≡◌, ℕ, ◌==◌, ℤ, List, [], ◌∷◌, ◌++◌, Bool, true, map, Option, All, Box}
 use Rattle.std.specs.Option.{option_map, option_map_or}
+use Rattle.std.specs.declared.alloc.Global.{Global}
 use Rattle.nim_base.specs.declared.number.Object.{Object}
 use Rattle.nim_base.specs.declared.number.Shape.{Shape}
 use Rattle.nim_base.specs.declared.number.Slot.{Slot}
 use Rattle.nim_base.specs.Functions.{reads_of}
 use Rattle.nim_base.specs.Value.{Grid, empty_grid}
 use Rattle.nim_command.specs.Holds.{put_at}
-use Rattle.nim_command.specs.Slots.{object_of}
-use Rattle.nim_worker.specs.declared.held.Held.{Held}
+use Rattle.nim_command.specs.Slots.{is_among, object_of}
+use Rattle.nim_store.specs.declared.held.Held.{Held}
+use Rattle.nim_history.specs.Kept.{content_seen, fitting_shape, seen}
 use Rattle.nim_worker.specs.declared.inputs.Inputs.{Inputs}
 use Rattle.nim_worker.specs.declared.inputs.Taken.{Taken}
-use Rattle.nim_worker.specs.declared.slots.Slots.{Slots}
-use Rattle.nim_worker.specs.Kept.{content_seen, fitting_shape, seen}
-
--- what a slot has
-abbrev pub slot_at : Slots → Slot → Option Held
-slot_at slots slot = slice_index_or slots.slots.items slot.0 None
 
 -- what was taken out of a slot: nothing, or a content with its value
 abbrev pub held_of : Taken → Grid → Option Held
@@ -45,17 +41,29 @@ AreSeen _ _ = Unit {0}
 abbrev pub Continues : {X : Type 0} → List X → List X → Type 0
 Continues {X} before after = (more : List X) × (after ≡ before ++ more)
 
+-- all that was taken was taken from these slots
+abbrev pub AreAmong : List Slot → List Taken → Type 0
+AreAmong slots taken = All (λ (t : Taken). is_among slots t.slot ≡ true) taken
+
 -- nothing was taken
 pub record IsIdle (inputs : Inputs) : Type 0 where
+  pub params : inputs.params.items ≡ []
   pub taken : inputs.taken.items ≡ []
   pub values : inputs.values.items ≡ []
   pub places : inputs.places.items ≡ []
   pub contents : inputs.contents.items ≡ []
   pub shapes : inputs.shapes.items ≡ []
 
--- The inputs of a task that reads and writes these slots, taken out of slots that had this before and have that now.
-pub record AreInputs (all : List Shape) (reads writes : List Slot) (before now : Slot → Option Held) (inputs : Inputs) : Type 0 where
+-- nothing was taken by any of these
+abbrev pub AreIdle : List (Box Inputs Global) → Type 0
+AreIdle all = All (λ (inputs : Box Inputs Global). IsIdle inputs.value) all
+
+-- The inputs of a task with these parameters that reads and writes these slots, taken out of slots that had this before
+-- and have that now.
+pub record AreInputs (all : List Shape) (numbers : List ℤ) (reads writes : List Slot) (before now : Slot → Option Held) (inputs : Inputs) : Type 0 where
+  pub params : inputs.params.items ≡ numbers
   pub back : given_back inputs.taken.items inputs.values.items now ≡ before
+  pub among : AreAmong reads inputs.taken.items
   pub values : reads_of inputs.values.items inputs.places.items ≡ map (λ slot. (seen before slot).value) reads
   pub contents : inputs.contents.items ≡ map (content_seen before) reads
   pub shapes : inputs.shapes.items ≡ map (fitting_shape all) writes

@@ -1,7 +1,14 @@
+pub mod Admitted
+pub mod Beginning
+pub mod Chains
+pub mod Finishing
 pub mod Inputs
-pub mod Kept
 pub mod Leaves
+pub mod Left
 pub mod Lending
+pub mod Lent
+pub mod Messages
 pub mod Right
 pub mod Stands
+pub mod Taken
 pub mod Works

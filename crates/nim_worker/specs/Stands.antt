@@ -1,93 +1,108 @@
--- Which orders a worker's core stands for, and how many of their commands are complete.
-use Rattle.std.specs.Prelude.{◌≡◌, ℕ, ◌+◌, ◌≤◌, ◌<◌, ◌==◌, Bool, true, false, not, ◌&&◌, List, [], ◌∷◌, ◌++◌, length, map, drop, if◌then◌else◌, Option, None, Some, slice_get, IfSome, IsSomeAnd}
+-- What a worker's core stands for: what it was handed and which commands it completed, and the batch that is out.
+use Rattle.std.specs.Prelude.{◌≡◌, ◌≤◌, ◌+◌, ℕ, ◌==◌, Bool, true, false, not, ◌&&◌, List, [], ◌∷◌, ◌++◌, length, map, if◌then◌else◌, Option, None, Some, All}
+use Rattle.std.specs.List.{flat_map, fold}
 use Rattle.std.specs.Option.{is_some, option_map_or}
-use Rattle.nim_base.specs.declared.number.Shape.{Shape}
-use Rattle.nim_command.specs.declared.command.Command.{Command}
-use Rattle.nim_command.specs.declared.command.Kind.{Kind}
-use Rattle.nim_command.specs.declared.command.Kind.TheVariants.{Send, Receive}
-use Rattle.nim_command.specs.Waits.{commands_of}
+use Rattle.std.specs.Vec.{vec_capacity}
+use Rattle.nim_command.specs.Waits.{Group}
 use Rattle.nim_message.specs.declared.order.ToWorker.{ToWorker}
-use Rattle.nim_message.specs.declared.report.FromWorker.{FromWorker}
-use Rattle.nim_message.specs.Orders.{epoch_named, session_of}
+use Rattle.nim_message.specs.Orders.{Session, epoch_named}
+use Rattle.nim_order.specs.Progress.{is_one_of}
+use Rattle.nim_plan.specs.Installed.{Has}
+use Rattle.nim_store.specs.Stored.{slot_at}
+use Rattle.nim_history.specs.declared.out.Out.{Out}
+use Rattle.nim_history.specs.History.{Asked, Happening, Completed, IsHistory, MayAllHappen, WorkerState, after_happening, asked_at, outs_of, state_of}
 use Rattle.nim_worker.specs.declared.batch.Batch.{Batch}
 use Rattle.nim_worker.specs.declared.batch.Work.{Work}
-use Rattle.nim_worker.specs.declared.worker.Out.{Out}
 use Rattle.nim_worker.specs.declared.worker.WorkerCore.{WorkerCore}
-use Rattle.nim_worker.specs.Inputs.{slot_at}
-use Rattle.nim_worker.specs.Kept.{kept, reports_of}
-use Rattle.nim_worker.specs.Works.{IsWork}
+use Rattle.nim_worker.specs.Admitted.{IsAdmitted}
+use Rattle.nim_worker.specs.Chains.{AreWorks}
+use Rattle.nim_worker.specs.Works.{Begun, begun_as}
 
--- whether a command may be released so far
-abbrev pub may_run : Kind → Bool
-may_run (Send slot peer entry) = false
-may_run (Receive slot version) = false
-may_run _ = true
+-- what works were begun for, by their tickets, and what happens when they are complete, in order
+abbrev pub tickets_of : List Work → List ℕ
+tickets_of works = map (λ (w : Work). w.ticket) works
 
--- the first so many commands are of kinds that are released
-abbrev pub AllRun : List Command → ℕ → Type 0
-AllRun commands done = (k : ℕ) → k < done → IfSome (slice_get commands k) (λ command. may_run command.kind ≡ true)
+abbrev pub completions : List ℕ → List Happening
+completions places = map Completed places
 
--- No command is out: the slots are what the complete commands leave, and the others wait.
-pub record IsAtRest (core : WorkerCore) (shapes : List Shape) (commands : List Command) (done : ℕ) : Type 0 where
-  pub slots : slot_at core.slots ≡ kept shapes commands done
-  pub waiting : core.waiting.items ≡ drop done commands
+-- a worker once the commands at these places are complete too, one after another
+abbrev pub after_completions : WorkerState → List ℕ → WorkerState
+after_completions state places = fold after_happening state (completions places)
+
+-- what the works of commands at these places were begun for
+abbrev pub begun_at : List Group → ℕ → List Begun
+begun_at groups place = option_map_or (λ (asked : Asked). begun_as place asked.command.kind ∷ []) (asked_at groups place) []
+
+abbrev pub begun_of : List Group → List ℕ → List Begun
+begun_of groups places = flat_map (begun_at groups) places
+
+-- The core has what a session has.
+pub record HasSession (core : WorkerCore) (session : Session) : Type 0 where
+  pub begun : core.begun ≡ session.begun
+  pub epoch : core.epoch ≡ session.epoch
+  pub shapes : core.store.shapes ≡ session.shapes
+  pub installed : Has core.installed session.halves session.patches
+
+-- The core has what a worker has, but for its slots.
+pub record HasState (core : WorkerCore) (state : WorkerState) : Type 0 where
+  pub failed : core.failed ≡ false
+  pub session : HasSession core state.session
+  pub admitted : IsAdmitted core.admitted state.session.groups state.ran
+  pub inbox : core.inbox ≡ state.inbox
+
+-- No work is out: the slots are the worker's, and from the first Reset on there is room for a batch.
+pub record IsAtRest (core : WorkerCore) (state : WorkerState) : Type 0 where
+  pub slots : slot_at core.store ≡ state.slots
   pub room : core.begun ≡ true → is_some core.room ≡ true
 
--- The next command is out, as this one work of the batch.
-pub record IsAtWork (core : WorkerCore) (begun : Work) (shapes : List Shape) (commands : List Command) (done : ℕ) : Type 0 where
-  pub work : IsSomeAnd (slice_get commands done) (λ command. (may_run command.kind ≡ true) × IsWork shapes (kept shapes commands done) (slot_at core.slots) command begun)
-  pub waiting : core.waiting.items ≡ drop (done + 1) commands
+-- These works are out: their commands may be complete, one after another, and their inputs were taken out of the
+-- worker's slots.
+pub record IsAtWork (core : WorkerCore) (works : List Work) (state : WorkerState) : Type 0 where
+  pub may : MayAllHappen state (completions (tickets_of works))
+  pub chain : AreWorks state.session.shapes state.slots (slot_at core.store) (begun_of state.session.groups (tickets_of works)) works
 
--- A batch that is out: one that was begun before the last Reset is dropped, and one may be empty.
-abbrev pub IsOut : WorkerCore → Bool → List Work → List Shape → List Command → ℕ → Type 0
-IsOut core true works shapes commands done = IsAtRest core shapes commands done
-IsOut core false [] shapes commands done = IsAtRest core shapes commands done
-IsOut core false (work ∷ []) shapes commands done = IsAtWork core work shapes commands done
-IsOut core false (work ∷ (other ∷ works)) shapes commands done = ⊥
+-- The works of a batch that is being begun are out, of commands that aren't complete.
+pub record IsBeginning (core : WorkerCore) (works : List Work) (state : WorkerState) : Type 0 where
+  pub has : HasState core state
+  pub chain : AreWorks state.session.shapes state.slots (slot_at core.store) (begun_of state.session.groups (tickets_of works)) works
+  pub waiting : All (λ place. is_one_of state.ran place ≡ false) (tickets_of works)
 
-abbrev pub MayBeOut : WorkerCore → Option Batch → List Shape → List Command → ℕ → Type 0
-MayBeOut core None shapes commands done = (core.stale ≡ false) × IsAtRest core shapes commands done
-MayBeOut core (Some batch) shapes commands done = IsOut core core.stale batch.works.items shapes commands done
+-- a batch has room for the most works
+pub record HasRoom (batch : Batch) : Type 0 where
+  pub works : 16 ≤ vec_capacity batch.works
+  pub inputs : 16 ≤ length batch.works.items + length batch.spare.items
 
--- the commands that the orders ask for since their last Reset
-abbrev pub asked_for : List ToWorker → List Command
-asked_for orders = commands_of (session_of orders).groups
+-- A batch that is out: one that was begun before the last Reset is dropped.
+abbrev pub IsOut : WorkerCore → Bool → Batch → WorkerState → Type 0
+IsOut core true batch state = IsAtRest core state
+IsOut core false batch state = IsAtWork core batch.works.items state × (core.begun ≡ true → HasRoom batch)
 
--- The core was given these orders, so many of their commands since the last Reset are complete, and this batch is
--- out. A core that has failed stands for nothing.
-pub record Stands (core : WorkerCore) (batch : Option Batch) (orders : List ToWorker) (done : ℕ) : Type 0 where
-  pub failed : core.failed ≡ false
-  pub begun : core.begun ≡ (session_of orders).begun
-  pub epoch : core.epoch ≡ (session_of orders).epoch
-  pub shapes : core.shapes.items ≡ (session_of orders).shapes
-  pub within : done ≤ length (asked_for orders)
-  pub ran : AllRun (asked_for orders) done
+abbrev pub MayBeOut : WorkerCore → Option Batch → WorkerState → Type 0
+MayBeOut core None state = (core.stale ≡ false) × IsAtRest core state
+MayBeOut core (Some batch) state = IsOut core core.stale batch state
+
+-- The core has come to what a worker has come to, with this batch out. A core that has failed has come to nothing.
+pub record StandsAt (core : WorkerCore) (batch : Option Batch) (state : WorkerState) : Type 0 where
+  pub has : HasState core state
   pub busy : core.busy ≡ is_some batch
-  pub out : MayBeOut core batch (session_of orders).shapes (asked_for orders) done
+  pub out : MayBeOut core batch state
 
--- how many commands a batch completes
-abbrev pub completes : WorkerCore → Batch → ℕ
-completes core batch = if core.stale then 0 else length batch.works.items
+-- All this has happened at the core, and this batch is out.
+pub record Stands (core : WorkerCore) (batch : Option Batch) (happened : List Happening) : Type 0 where
+  pub history : IsHistory happened
+  pub at : StandsAt core batch (state_of happened)
 
--- the next command is there and may be released
-abbrev pub IsReleased : List ToWorker → ℕ → Type 0
-IsReleased orders done = IsSomeAnd (slice_get (asked_for orders) done) (λ command. may_run command.kind ≡ true)
+-- what happens when a batch is finished: nothing where it was begun before the last Reset
+abbrev pub completions_of : WorkerCore → Batch → List Happening
+completions_of core batch = if core.stale then [] else completions (tickets_of batch.works.items)
 
--- the reports among what a worker gives
-abbrev pub report_in : Out → FromWorker
-report_in (Out.Report report) = report
+-- what is given when the command at a place is completed
+abbrev pub outs_at : WorkerState → ℕ → List Out
+outs_at state place = option_map_or (outs_of state place) (asked_at state.session.groups place) []
 
-abbrev pub reports_in : List Out → List FromWorker
-reports_in outs = map report_in outs
-
--- what the first so many commands of orders report
-abbrev pub reported : List ToWorker → ℕ → List FromWorker
-reported orders done = reports_of (session_of orders).epoch (session_of orders).shapes (asked_for orders) done
-
--- A Reset begins with no command complete.
-abbrev pub done_after : ToWorker → ℕ → ℕ
-done_after (ToWorker.Reset epoch worker workers shapes) done = 0
-done_after order done = done
+-- what a worker gave from one state to another
+abbrev pub Gave : WorkerState → List Out → WorkerState → Type 0
+Gave before outs after = after.gave ≡ before.gave ++ outs
 
 -- whether an order of this epoch counts
 abbrev pub is_current : WorkerCore → ℕ → Bool
@@ -97,35 +112,3 @@ is_current core epoch = core.begun && (epoch == core.epoch)
 abbrev pub is_passed : WorkerCore → ToWorker → Bool
 is_passed core (ToWorker.Reset epoch worker workers shapes) = false
 is_passed core order = not (option_map_or (is_current core) (epoch_named order) false)
-
--- whether the first waiting command may be released, and there is room for it
-abbrev pub is_released : WorkerCore → Bool
-is_released core = is_some core.room
-    && option_map_or (λ (command : Command). may_run command.kind) (slice_get core.waiting.items 0) false
-
--- a core after a Reset
-pub record IsReset (old : WorkerCore) (number : ℕ) (all : List Shape) (new : WorkerCore) : Type 0 where
-  pub begun : new.begun ≡ true
-  pub epoch : new.epoch ≡ number
-  pub shapes : new.shapes.items ≡ all
-  pub slots : slot_at new.slots ≡ λ slot. None
-  pub waiting : new.waiting.items ≡ []
-  pub room : is_some new.room ≡ true
-  pub busy : new.busy ≡ old.busy
-  pub stale : new.stale ≡ old.busy
-  pub failed : new.failed ≡ old.failed
-
--- a core once more commands wait
-pub record IsAdmitted (old : WorkerCore) (commands : List Command) (new : WorkerCore) : Type 0 where
-  pub waiting : new.waiting.items ≡ old.waiting.items ++ commands
-  pub rest : new ≡ record old { waiting = new.waiting }
-
--- a core once its first waiting command is out as the one work of a batch
-pub record IsBegun (old : WorkerCore) (works : List Work) (new : WorkerCore) : Type 0 where
-  pub command : Command
-  pub work : Work
-  pub one : works ≡ work ∷ []
-  pub first : old.waiting.items ≡ command ∷ new.waiting.items
-  pub may : may_run command.kind ≡ true
-  pub is : IsWork old.shapes.items (slot_at old.slots) (slot_at new.slots) command work
-  pub rest : new ≡ record old { waiting = new.waiting; room = new.room; slots = new.slots }

@@ -1,28 +1,27 @@
-ghost use Rattle.std.specs.Prelude.{List, Option, ◌≡◌, ◌<◌, OnOk, OnErr};
-ghost use Rattle.std.specs.Vec.{vec_capacity, vec_len};
-ghost use Rattle.std.specs.Borrow.{sem};
-ghost use Rattle.nim_base.specs.declared.number.Shape.{Shape as shape_type};
-ghost use Rattle.nim_base.specs.declared.number.Slot.{Slot as slot_number};
-ghost use Rattle.nim_command.specs.declared.command.Command.{Command as command_type};
-ghost use Rattle.nim_worker.specs.declared.held.Held.{Held as held_type};
-ghost use Rattle.nim_worker.specs.Inputs.{IsIdle, slot_at};
-ghost use Rattle.nim_worker.specs.Lending.{LendsWorks};
-ghost use Rattle.nim_worker.specs.Works.{IsPerformed, IsWork, position_of};
+ghost use Rattle.std.specs.Prelude.{IfSome};
+ghost use Rattle.std.proofs.Props.{props};
+ghost use Rattle.nim_base.specs.declared.task.Func.{Func as func_type};
+ghost use Rattle.nim_base.specs.Apply.{HasCounts};
+ghost use Rattle.nim_worker.specs.Inputs.{AreIdle};
 
 use crate::inputs::Inputs;
-use crate::slots::Slots;
-use nim_base::{Epoch, NoMemory, Object, Position, Shape, Value, Version};
-use nim_command::{Command, Kind};
+use nim_base::{Epoch, Func, NoMemory, Object, Position, Value, Version};
+use nim_command::Kind;
 use nim_funcs::apply;
+use nim_store::Store;
 use std::alloc::Global;
 
 /// A command that a worker was released to run, with the values that it reads.
 #[derive(Drop)]
 pub struct Work {
     pub(crate) alloc: Global,
-    pub(crate) command: Command,
+    pub(crate) ticket: u64,
+    pub(crate) position: Option<Position>,
+    /// The function of a Run whose counts are that function's; all else has nothing to perform.
+    pub(crate) func: Option<Func>,
     pub(crate) inputs: Box<Inputs>,
     pub(crate) results: Option<Vec<Value>>,
+    ghost counted: { IfSome func (λ (f : func_type). HasCounts f inputs.value.params.items inputs.value.places.items inputs.value.shapes.items) } by { Prim.hlevel props },
 }
 
 /// Commands that may run at once, each a work of its own.
@@ -30,9 +29,16 @@ pub struct Work {
 pub struct Batch {
     pub(crate) epoch: Epoch,
     pub(crate) works: Vec<Work>,
+    /// Inputs that none of the works has.
+    pub(crate) spare: Vec<Box<Inputs>>,
+    ghost idle: { AreIdle spare.items },
 }
 
 impl Batch {
+    ghost use Rattle.std.specs.Prelude.{◌≡◌};
+    ghost use Rattle.std.specs.Borrow.{sem};
+    ghost use Rattle.nim_worker.specs.Lending.{LendsWorks};
+
     /// The epoch of the last Reset before the batch was begun, 0 where there was none.
     pub fn epoch(&self) -> Epoch
         ensures { result ≡ self.now.epoch }
@@ -50,72 +56,50 @@ impl Batch {
 }
 
 impl Work {
+    ghost use Rattle.std.specs.Prelude.{◌≡◌, true, IsOk, OnErr, OnOk};
+    ghost use Rattle.nim_store.specs.Stored.{slot_at};
+    ghost use Rattle.nim_worker.specs.Inputs.{IsIdle};
+    ghost use Rattle.nim_worker.specs.Works as spec;
+    ghost use Rattle.nim_worker.specs.Works.{IsPerformed, IsWork, KeepsWork, begun_as, is_performed};
+
     /// Runs the task of the work, where it is a Run that wasn't run yet: it then has the task's results. All else is
-    /// done when the batch is finished.
+    /// done when the batch is finished; a work with nothing to perform takes no memory.
     pub fn perform(&mut self) -> Result<(), NoMemory>
         ensures ok { OnOk result (IsPerformed self.old self.new) }
         ensures err { OnErr result (self.new ≡ self.old) }
-        ensures keeps { (shapes : List shape_type) (before now : slot_number → Option held_type) (command : command_type)
-            → IsWork shapes before now command self.old → IsWork shapes before now command self.new }
+        ensures keeps { KeepsWork self.old self.new }
+        ensures done { OnOk result (is_performed self.new ≡ true) }
+        ensures again { is_performed self.old ≡ true → IsOk result × (self.new ≡ self.old) }
     {
         if self.results.is_none() {
-            if let Kind::Run { func, params, .. } = &self.command.kind {
+            if let Some(func) = self.func {
                 let inputs = &*self.inputs;
-                if func.has_counts(params.len(), inputs.places.len(), inputs.shapes.len()) {
-                    let results = apply(
-                        self.alloc,
-                        *func,
-                        params.as_slice(),
-                        inputs.values.as_slice(),
-                        inputs.places.as_slice(),
-                        inputs.shapes.as_slice(),
-                    )?;
-                    self.results = Some(results);
-                }
+                let results = apply(
+                    self.alloc,
+                    func,
+                    inputs.params.as_slice(),
+                    inputs.values.as_slice(),
+                    inputs.places.as_slice(),
+                    inputs.shapes.as_slice(),
+                )?;
+                self.results = Some(results);
             }
         }
         Ok(())
     }
 
-    /// The work of a command: a Run whose counts are its function's takes the values that it reads.
-    pub(crate) fn new(
-        alloc: Global,
-        command: Command,
-        mut inputs: Box<Inputs>,
-        slots: &mut Slots,
-        shapes: &[Shape],
-    ) -> Work
-        requires { IsIdle inputs.value }
-        ensures { IsWork shapes.now (slot_at slots.old) (slot_at slots.new) command result }
+    /// The place of the work's command in the order given, from 0 since the last Reset.
+    pub fn ticket(&self) -> u64
+        ensures { result ≡ self.now.ticket }
     {
-        match &command.kind {
-            Kind::Run {
-                func,
-                params,
-                reads,
-                writes,
-                ..
-            } if func.has_counts(params.len(), reads.len(), writes.len()) => {
-                inputs.take(alloc, slots, shapes, reads.as_slice(), writes.as_slice());
-            }
-            _ => {}
-        }
-        Work {
-            alloc,
-            command,
-            inputs,
-            results: None,
-        }
+        self.ticket
     }
 
     /// The position of the task that the work runs; nothing where the work is no Run.
     pub fn run(&self) -> Option<Position>
-        ensures { result ≡ position_of self.now.command.kind }
+        ensures { result ≡ self.now.position }
     {
-        match &self.command.kind {
-            Kind::Run { position, .. } => Some(*position),
-            _ => None,
-        }
+        self.position
     }
 
     /// For a Run whose counts are its function's, the object and version that each of its slots had when the batch
@@ -124,5 +108,38 @@ impl Work {
         ensures { result.now ≡ self.now.inputs.value.contents.items }
     {
         self.inputs.contents.as_slice()
+    }
+
+    /// The work of a command: a Run whose counts are its function's takes the values that it reads. Takes no memory.
+    pub(crate) fn new(
+        alloc: Global,
+        ticket: u64,
+        kind: &Kind,
+        mut inputs: Box<Inputs>,
+        store: &mut Store,
+    ) -> Work
+        requires { IsIdle inputs.value }
+        ensures work { IsWork store.old.shapes (slot_at store.old) (slot_at store.new) (begun_as ticket kind.now) result }
+        ensures shapes { store.new.shapes ≡ store.old.shapes }
+    {
+        let func = inputs.take_for(alloc, kind, store);
+        Work {
+            alloc,
+            ticket,
+            position: Work::position_of(kind),
+            func,
+            inputs,
+            results: None,
+        }
+    }
+
+    // The position of the task that a command runs, if it runs one.
+    fn position_of(kind: &Kind) -> Option<Position>
+        ensures { result ≡ spec.position_of kind.now }
+    {
+        match kind {
+            Kind::Run { position, .. } => Some(*position),
+            _ => None,
+        }
     }
 }

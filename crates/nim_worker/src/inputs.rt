@@ -11,10 +11,11 @@ pub(crate) struct Taken {
     pub(crate) content: Option<(Object, Version)>,
 }
 
-/// What a Run needs: the values that it reads, taken out of their slots, and the shapes that it writes. There is room
-/// for the counts of every function.
+/// What a Run needs: its parameters, the values that it reads, taken out of their slots, and the shapes that it
+/// writes. There is room for the counts of every function.
 #[derive(Drop)]
 pub(crate) struct Inputs {
+    pub(crate) params: Vec<i64>,
     /// The slots that were emptied, each once.
     pub(crate) taken: Vec<Taken>,
     /// What each of them had; an empty one a value without rows.
@@ -25,7 +26,8 @@ pub(crate) struct Inputs {
     pub(crate) contents: Vec<(Object, Version)>,
     /// The shape of each result.
     pub(crate) shapes: Vec<Shape>,
-    ghost room: { (8 ≤ vec_capacity taken) × (8 ≤ vec_capacity values) × (8 ≤ vec_capacity places) × (8 ≤ vec_capacity contents) × (2 ≤ vec_capacity shapes) },
+    ghost room: { (3 ≤ vec_capacity params) × (8 ≤ vec_capacity taken) × (8 ≤ vec_capacity values)
+        × (8 ≤ vec_capacity places) × (8 ≤ vec_capacity contents) × (2 ≤ vec_capacity shapes) },
     ghost paired: { length taken.items ≡ length values.items },
     ghost places_fit: { All (λ place. place < length values.items) places.items },
     ghost wide: { All (λ (shape : shape_type). 1 ≤ shape.width) shapes.items },

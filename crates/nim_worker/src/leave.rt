@@ -1,38 +1,46 @@
-ghost use Rattle.std.specs.Prelude.{◌≡◌, [], ◌∷◌, IfOk, OnOk};
-ghost use Rattle.std.specs.Option.{option_map, option_to_list};
-ghost use Rattle.nim_command.specs.declared.command.Kind.TheVariants.{Fetch as fetch_type};
+ghost use Rattle.std.specs.Prelude.{◌≡◌, ◌∷◌, [], if◌then◌else◌, IfOk, OnOk, Some};
+ghost use Rattle.std.specs.Option.{option_map, option_map_or, option_to_list};
+ghost use Rattle.nim_base.specs.Value.{Grid};
+ghost use Rattle.nim_command.specs.declared.command.Kind.TheVariants.{Fetch as fetch_type, Send as send_type};
 ghost use Rattle.nim_command.specs.Created.{created};
 ghost use Rattle.nim_command.specs.Holds.{put_at, version_after};
-ghost use Rattle.nim_worker.specs.Inputs.{slot_at};
-ghost use Rattle.nim_worker.specs.Kept as spec;
-ghost use Rattle.nim_worker.specs.Kept.{fitting_shape, put_shaped, report_of};
-ghost use Rattle.nim_worker.specs.Leaves.{left_with, told_with};
+ghost use Rattle.nim_command.specs.Waits.{Group as group_type};
+ghost use Rattle.nim_store.specs.Stored.{slot_at};
+ghost use Rattle.nim_message.specs.declared.report.FromWorker.TheVariants.{Ran};
+ghost use Rattle.nim_history.specs.declared.out.Out.TheVariants.{Report};
+ghost use Rattle.nim_history.specs.Kept as spec;
+ghost use Rattle.nim_history.specs.Kept.{fitting_shape, own_outs, seen};
+ghost use Rattle.nim_worker.specs.Leaves.{IsHeadOf, left_with, told_with};
 
-use crate::Held;
-use crate::slots::Slots;
+use crate::head::GroupHead;
 use crate::taking::shape_of;
-use nim_base::{Copied, Epoch, NoMemory, Object, Position, Seq, Shape, Slot, Value, Version};
+use nim_base::{Copied, NoMemory, Object, Position, Seq, Slot, Value, Version, Worker};
 use nim_command::{Kind, object_of};
-use nim_message::FromWorker;
+use nim_history::Out;
+use nim_message::{Data, FromWorker};
+use nim_store::{Held, Store};
 use std::alloc::Global;
 
-/// Leaves in the slots what a command leaves, a Run its results, and gives what the command reports.
+/// Leaves in the slots what a command leaves, a Receive the value of its frame and a Run its results, and gives what
+/// the command gives of its own.
 pub(crate) fn leave(
     alloc: Global,
-    epoch: Epoch,
-    shapes: &[Shape],
-    slots: &mut Slots,
+    head: GroupHead,
+    store: &mut Store,
     kind: Kind,
+    frame: Option<Value>,
     contents: Vec<(Object, Version)>,
     results: Option<Vec<Value>>,
-) -> Result<Option<FromWorker>, NoMemory>
-    ensures slots { OnOk result (slot_at slots.new
-        ≡ left_with shapes.now kind (option_map (λ values. values.items) results) (slot_at slots.old)) }
-    ensures report { IfOk result (λ report. option_to_list report ≡ told_with epoch kind contents.items (slot_at slots.old)) }
+) -> Result<Option<Out>, NoMemory>
+    ensures slots { OnOk result (slot_at store.new
+        ≡ left_with store.old.shapes frame kind (option_map (λ values. values.items) results) (slot_at store.old)) }
+    ensures out { (group : group_type) → IsHeadOf head group
+        → IfOk result (λ out. option_to_list out ≡ told_with group kind contents.items (slot_at store.old)) }
+    ensures shapes { store.new.shapes ≡ store.old.shapes }
 {
     match kind {
         Kind::Create { slot, iota, number } => {
-            create(alloc, shapes, slots, slot, iota, number)?;
+            create(alloc, store, slot, iota, number)?;
             Ok(None)
         }
         Kind::Load {
@@ -40,11 +48,16 @@ pub(crate) fn leave(
             version,
             value,
         } => {
-            slots.set(slot, Some(held_at(slot, version, value)))?;
+            store.put(slot, held_at(slot, version, value))?;
+            Ok(None)
+        }
+        Kind::Send { slot, peer, entry } => Ok(Some(send(alloc, head, store, slot, peer, entry)?)),
+        Kind::Receive { slot, version } => {
+            receive(store, slot, version, frame)?;
             Ok(None)
         }
         Kind::Copy { from, to } => {
-            copy(slots, from, to)?;
+            copy(store, from, to)?;
             Ok(None)
         }
         Kind::Run {
@@ -53,16 +66,25 @@ pub(crate) fn leave(
             ..
         } => {
             if let Some(results) = results {
-                put_results(shapes, slots, position, writes.as_slice(), results)?;
+                put_results(store, position, writes.as_slice(), results)?;
             }
-            Ok(Some(FromWorker::Ran {
-                epoch,
-                position,
-                reads: Seq::from_vec(contents),
-            }))
+            Ok(ran(head, position, contents))
         }
-        Kind::Fetch { slot, ticket } => Ok(Some(fetch(alloc, epoch, slots, slot, ticket)?)),
-        Kind::Send { .. } | Kind::Receive { .. } => Ok(None),
+        Kind::Fetch { slot, ticket } => Ok(Some(fetch(alloc, head, store, slot, ticket)?)),
+    }
+}
+
+/// Puts this into a slot, or empties it.
+pub(crate) fn set(store: &mut Store, slot: Slot, held: Option<Held>) -> Result<(), NoMemory>
+    ensures ok { OnOk result (slot_at store.new ≡ put_at slot held (slot_at store.old)) }
+    ensures shapes { store.new.shapes ≡ store.old.shapes }
+{
+    match held {
+        Some(held) => store.put(slot, held),
+        None => {
+            store.take(slot);
+            Ok(())
+        }
     }
 }
 
@@ -80,16 +102,17 @@ fn held_at(slot: Slot, version: Version, value: Value) -> Held
 // Makes the initial value of a slot's object, where the object has a shape.
 fn create(
     alloc: Global,
-    shapes: &[Shape],
-    slots: &mut Slots,
+    store: &mut Store,
     slot: Slot,
     iota: bool,
     number: i64,
 ) -> Result<(), NoMemory>
-    ensures { OnOk result (slot_at slots.new
-        ≡ put_shaped shapes.now slot (spec.held_at slot 0 (created (fitting_shape shapes.now slot) iota number)) (slot_at slots.old)) }
+    ensures slots { OnOk result (slot_at store.new
+        ≡ spec.put_shaped store.old.shapes slot
+        (spec.held_at slot 0 (created (fitting_shape store.old.shapes slot) iota number)) (slot_at store.old)) }
+    ensures shapes { store.new.shapes ≡ store.old.shapes }
 {
-    let Some(shape) = shape_of(shapes, slot) else {
+    let Some(shape) = shape_of(store, slot) else {
         return Ok(());
     };
     let value = if iota {
@@ -97,30 +120,49 @@ fn create(
     } else {
         Value::filled(alloc, shape, number)?
     };
-    slots.set(slot, Some(held_at(slot, 0, value)))
+    store.put(slot, held_at(slot, 0, value))
+}
+
+// Puts the value of a frame into a slot, where there is a frame.
+fn receive(
+    store: &mut Store,
+    slot: Slot,
+    version: Version,
+    frame: Option<Value>,
+) -> Result<(), NoMemory>
+    ensures slots { OnOk result (slot_at store.new
+        ≡ option_map_or (λ (value : Grid). put_at slot (Some (spec.held_at slot version value)) (slot_at store.old)) frame
+        (slot_at store.old)) }
+    ensures shapes { store.new.shapes ≡ store.old.shapes }
+{
+    match frame {
+        Some(value) => store.put(slot, held_at(slot, version, value)),
+        None => Ok(()),
+    }
 }
 
 // Copies what a slot has into another one.
-fn copy(slots: &mut Slots, from: Slot, to: Slot) -> Result<(), NoMemory>
-    ensures { OnOk result (slot_at slots.new ≡ put_at to (slot_at slots.old from) (slot_at slots.old)) }
+fn copy(store: &mut Store, from: Slot, to: Slot) -> Result<(), NoMemory>
+    ensures slots { OnOk result (slot_at store.new ≡ put_at to (slot_at store.old from) (slot_at store.old)) }
+    ensures shapes { store.new.shapes ≡ store.old.shapes }
 {
-    let copied = match slots.get(from) {
+    let copied = match store.held(from) {
         Some(held) => Some(held.copy()?),
         None => None,
     };
-    slots.set(to, copied)
+    set(store, to, copied)
 }
 
 // Puts the results of a task into the slots that have a shape, one after another.
 fn put_results(
-    shapes: &[Shape],
-    slots: &mut Slots,
+    store: &mut Store,
     position: Position,
     writes: &[Slot],
     mut results: Vec<Value>,
 ) -> Result<(), NoMemory>
-    ensures { OnOk result (slot_at slots.new
-        ≡ spec.put_results shapes.now (version_after position) writes.now results.items (slot_at slots.old)) }
+    ensures slots { OnOk result (slot_at store.new
+        ≡ spec.put_results store.old.shapes (version_after position) writes.now results.items (slot_at store.old)) }
+    ensures shapes { store.new.shapes ≡ store.old.shapes }
 {
     let version = position.saturating_add(1);
     for slot in writes {
@@ -128,40 +170,91 @@ fn put_results(
             return Ok(());
         }
         let value = results.remove(0);
-        put_shaped(shapes, slots, *slot, held_at(*slot, version, value))?;
+        put_shaped(store, *slot, held_at(*slot, version, value))?;
     }
     Ok(())
 }
 
 // Puts a value into a slot, where the slot's object has a shape.
-fn put_shaped(shapes: &[Shape], slots: &mut Slots, slot: Slot, held: Held) -> Result<(), NoMemory>
-    ensures { OnOk result (slot_at slots.new ≡ spec.put_shaped shapes.now slot held (slot_at slots.old)) }
+fn put_shaped(store: &mut Store, slot: Slot, held: Held) -> Result<(), NoMemory>
+    ensures slots { OnOk result (slot_at store.new
+        ≡ spec.put_shaped store.old.shapes slot held (slot_at store.old)) }
+    ensures shapes { store.new.shapes ≡ store.old.shapes }
 {
-    if shape_of(shapes, slot).is_some() {
-        return slots.set(slot, Some(held));
+    if shape_of(store, slot).is_some() {
+        return store.put(slot, held);
     }
     Ok(())
 }
 
-// What a Fetch reports: what the slot has, copied.
+// What a Run tells: what it read, where it came as a Single.
+fn ran(head: GroupHead, position: Position, contents: Vec<(Object, Version)>) -> Option<Out>
+    ensures { option_to_list result ≡ (if head.single then Report (Ran head.epoch position contents.items) ∷ [] else []) }
+{
+    if head.single {
+        Some(Out::Report(FromWorker::Ran {
+            epoch: head.epoch,
+            position,
+            reads: Seq::from_vec(contents),
+        }))
+    } else {
+        None
+    }
+}
+
+// What a slot has, copied; an empty one is seen without rows.
+fn copied(alloc: Global, store: &Store, slot: Slot) -> Result<Held, NoMemory>
+    ensures { IfOk result (λ held. held ≡ seen (slot_at store.now) slot) }
+{
+    match store.held(slot) {
+        Some(held) => held.copy(),
+        None => Ok(held_at(slot, 0, Value::new(alloc, 1))),
+    }
+}
+
+// What a Fetch reports: what the slot has.
 fn fetch(
     alloc: Global,
-    epoch: Epoch,
-    slots: &Slots,
+    head: GroupHead,
+    store: &Store,
     slot: Slot,
     ticket: u32,
-) -> Result<FromWorker, NoMemory>
-    ensures { IfOk result (λ report. report ∷ [] ≡ report_of epoch (fetch_type slot ticket) (slot_at slots.now)) }
+) -> Result<Out, NoMemory>
+    ensures { (group : group_type) → IsHeadOf head group
+        → IfOk result (λ out. out ∷ [] ≡ own_outs group (fetch_type slot ticket) (slot_at store.now)) }
 {
-    let held = match slots.get(slot) {
-        Some(held) => held.copy()?,
-        None => held_at(slot, 0, Value::new(alloc, 1)),
-    };
-    Ok(FromWorker::Value {
-        epoch,
+    let held = copied(alloc, store, slot)?;
+    Ok(Out::Report(FromWorker::Value {
+        epoch: head.epoch,
         ticket,
         object: held.object,
         version: held.version,
         value: held.value,
-    })
+    }))
+}
+
+// What a Send sends: what the slot has.
+fn send(
+    alloc: Global,
+    head: GroupHead,
+    store: &Store,
+    slot: Slot,
+    peer: Worker,
+    entry: u32,
+) -> Result<Out, NoMemory>
+    ensures { (group : group_type) → IsHeadOf head group
+        → IfOk result (λ out. out ∷ [] ≡ own_outs group (send_type slot peer entry) (slot_at store.now)) }
+{
+    let held = copied(alloc, store, slot)?;
+    Ok(Out::Data(
+        peer,
+        Data {
+            epoch: head.epoch,
+            instance: head.instance,
+            entry,
+            object: held.object,
+            version: held.version,
+            value: held.value,
+        },
+    ))
 }

@@ -1,20 +1,23 @@
 use Rattle.std.proofs.Common.{get_or, ap, arith, ◌∙◌, Option}
 use Rattle.nim_base.specs.declared.number.Slot.{Slot}
-use Rattle.nim_worker.specs.declared.held.Held.{Held}
-use Rattle.nim_worker.specs.Inputs.{slot_at}
-use Rattle.nim_worker.specs.Kept.{content_seen, seen}
-use Rattle.nim_worker.proofs.GivenBack.{fits_more, pushed_map, reads_of-push}
+use Rattle.nim_store.specs.declared.held.Held.{Held}
+use Rattle.nim_store.specs.Stored.{slot_at}
+use Rattle.nim_history.specs.Kept.{content_seen, seen}
+use Rattle.nim_worker.proofs.GivenBack.{among_at, fits_more, pushed_map, reads_of-push}
 use Rattle.nim_worker.proofs.inputs.Inputs.take.Goals as goal
 
 pub loop-slot-preserved : goal.loop-slot-preserved
 loop-slot-preserved c =
     let inv = c.loop-slot.invariant in
     let read = c.take_read-place.ensures in
-    let before = slot_at c.args.slots.now in
+    let before = slot_at c.args.store.now in
     let first : Slot = record { 0 = 0 } in
     let slot : Slot = get_or c.args.reads.now c.loop-slot.slot-index first in
     record {
       back = read.back ∙ inv.back;
+      among = read.among c.args.reads.now (among_at c.args.reads.now c.loop-slot.slot-index first c.loop-slot-test.true) inv.among;
+      stays = read.shapes ∙ inv.stays;
+      params = inv.params;
       values = rw c.push_reserved.ensures.items
           (reads_of-push _ _ _ _ read.more inv.fit
           ∙ pushed_map (λ (slot : Slot). (seen before slot).value) c.args.reads.now c.loop-slot.slot-index first _ _ c.loop-slot-test.true inv.values

@@ -1,17 +1,21 @@
-use Rattle.std.proofs.Common.{◌≡◌, ◌<◌, ◌≤◌, ℕ, [], length, map, take, All}
+use Rattle.std.proofs.Common.{◌≡◌, ◌<◌, ◌≤◌, ℕ, List, [], length, map, take, All}
 use Rattle.std.specs.Vec.{vec_capacity}
 use Rattle.nim_base.specs.declared.number.Slot.{Slot}
 use Rattle.nim_base.specs.Functions.{reads_of}
-use Rattle.nim_worker.specs.Inputs.{AreSeen, given_back, slot_at}
-use Rattle.nim_worker.specs.Kept.{content_seen, seen}
+use Rattle.nim_store.specs.Stored.{slot_at}
+use Rattle.nim_history.specs.Kept.{content_seen, seen}
+use Rattle.nim_worker.specs.Inputs.{AreAmong, AreSeen, given_back}
 use Rattle.nim_worker.proofs.inputs.Inputs.take.Given as goal
 
 -- what is taken is what the slots had, and the first reads have their places in it
 abbrev pub invariant-loop-slot : goal.invariant-loop-slot
 invariant-loop-slot l = record {
-  back : given_back l.self.taken.items l.self.values.items (slot_at l.slots) ≡ slot_at l.fn.slots;
-  values : reads_of l.self.values.items l.self.places.items ≡ map (λ (slot : Slot). (seen (slot_at l.fn.slots) slot).value) (take l.slot-index l.reads);
-  contents : l.self.contents.items ≡ map (content_seen (slot_at l.fn.slots)) (take l.slot-index l.reads);
+  back : given_back l.self.taken.items l.self.values.items (slot_at l.store) ≡ slot_at l.fn.store;
+  among : AreAmong l.reads l.self.taken.items;
+  stays : l.store.shapes ≡ l.fn.store.shapes;
+  params : l.self.params.items ≡ l.params;
+  values : reads_of l.self.values.items l.self.places.items ≡ map (λ (slot : Slot). (seen (slot_at l.fn.store) slot).value) (take l.slot-index l.reads);
+  contents : l.self.contents.items ≡ map (content_seen (slot_at l.fn.store)) (take l.slot-index l.reads);
   paired : length l.self.taken.items ≡ length l.self.values.items;
   shapes : l.self.shapes.items ≡ [];
   few : length l.self.taken.items ≤ l.slot-index;

@@ -1,40 +1,55 @@
-use Rattle.std.proofs.Common.{◌≡◌, ◌∙◌, ap, sym, subst, arith, length, List, ◌≤◌, All}
-use Rattle.std.proofs.lemmas.List.Elements.{All-nil}
-use Rattle.std.specs.Prelude.{None}
-use Rattle.nim_worker.specs.declared.batch.Work.{Work}
+use Rattle.std.proofs.Common.{◌≡◌, ◌∙◌, true, List, [], Option, None, ap, sym}
+use Rattle.nim_history.specs.History.{Happening, state_of}
+use Rattle.nim_worker.specs.declared.room.Room.{Room}
 use Rattle.nim_worker.specs.declared.worker.WorkerCore.{WorkerCore}
-use Rattle.nim_worker.specs.Stands.{IsBegun, IsReleased, Stands}
-use Rattle.nim_worker.specs.Right.{ReadsRight}
-use Rattle.nim_worker.proofs.Begun.{reads_begun}
-use Rattle.nim_worker.proofs.Standing.{begins_empty, begins_work, begun_released, nothing_released}
+use Rattle.nim_worker.specs.Stands.{IsBeginning, Stands, tickets_of}
+use Rattle.nim_worker.proofs.Begun.{begins_none, none_begun, reads_begun, stands_begun}
+use Rattle.nim_worker.proofs.Released.{none_may}
 use Rattle.nim_worker.proofs.worker.WorkerCore.begin.Goals as goal
-use Rattle.nim_worker.proofs.worker.WorkerCore.begin.Goals.{then-is_released, else-is_released}
 
-pub returns-clause-stands : goal.returns-clause-stands
-returns-clause-stands c = λ orders done stands. elim c.if-is_released.branch [
-  | then-is_released w ↦
-      begins_work c.args.self.now c.if-is_released.self _ orders done stands
-      (subst (λ (k : WorkerCore). IsBegun c.args.self.now c.if-is_released.works.items k) (sym w.self-is)
-      (subst (λ (works : List Work). IsBegun c.args.self.now works w.release-works.new.self) (ap (λ works. works.items) (sym w.works-is)) w.release-works.ensures))
-  | else-is_released w ↦
-      begins_empty c.if-is_released.self _ orders done (subst (λ (k : WorkerCore). Stands k None orders done) (sym w.self-is) stands) (ap (λ works. works.items) w.works-is ∙ w.new-works.ensures.items)
-]
+-- no work is out of a core whose room was taken
+room_taken : (core : WorkerCore) (room : Option Room) (history : List Happening) → Stands core None history → IsBeginning (record core { room = room; busy = true }) [] (state_of history)
+room_taken core room history stands =
+    let has = stands.at.has in
+    begins_none (record core { room = room; busy = true }) (state_of history)
+    (record {
+      failed = has.failed;
+      session = record { begun = has.session.begun; epoch = has.session.epoch; shapes = has.session.shapes; installed = has.session.installed };
+      admitted = has.admitted;
+      inbox = has.inbox;
+    })
+    stands.at.out.1.slots
 
-pub returns-clause-released : goal.returns-clause-released
-returns-clause-released c = λ orders done stands. elim c.if-is_released.branch [
-  | then-is_released w ↦
-      subst (λ (works : List Work). ((IsReleased orders done → length works ≡ 1) × (length works ≡ 1 → IsReleased orders done)) × (length works ≤ 1)) (ap (λ works. works.items) (sym w.works-is))
-      (begun_released c.args.self.now w.release-works.new.self w.release-works.result.items orders done stands w.release-works.ensures)
-  | else-is_released w ↦
-      let none : length c.if-is_released.works.items ≡ 0 = ap (λ works. length works.items) w.works-is ∙ ap length w.new-works.ensures.items in
-      (((λ is. absurd (nothing_released c.args.self.now orders done stands (sym w.if-is_released.ensures) is)), (λ one. absurd (omega (arith, one, none)))), omega (arith, none))
-]
+pub returns-in-Some-clause-stands : goal.returns-in-Some-clause-stands
+returns-in-Some-clause-stands c = λ history stands.
+    let rest = c.fill.ensures.rest in
+    let begins = room_taken c.args.self.now c.take.new.self history stands in
+    stands_begun c.args.self.now c.fill.new.self c.fill.result history c.args.most stands
+    (record {
+      failed = ap (λ (core : WorkerCore). core.failed) rest;
+      begun = ap (λ (core : WorkerCore). core.begun) rest;
+      stale = ap (λ (core : WorkerCore). core.stale) rest;
+      busy = ap (λ (core : WorkerCore). core.busy) rest;
+    })
+    (c.fill.ensures.begins (state_of history) begins) (c.fill.ensures.taken (state_of history) begins) (λ begun. c.fill.ensures.room)
 
-pub returns-clause-reads : goal.returns-clause-reads
-returns-clause-reads c = λ job orders done whole legal stands. elim c.if-is_released.branch [
-  | then-is_released w ↦
-      subst (λ (works : List Work). All (ReadsRight job) works) (ap (λ works. works.items) (sym w.works-is))
-      (reads_begun job c.args.self.now w.release-works.new.self w.release-works.result.items orders done whole legal stands w.release-works.ensures)
-  | else-is_released w ↦
-      subst (λ (works : List Work). All (ReadsRight job) works) (sym (ap (λ works. works.items) w.works-is ∙ w.new-works.ensures.items)) (All-nil (ReadsRight job))
-]
+pub returns-in-Some-clause-empty : goal.returns-in-Some-clause-empty
+returns-in-Some-clause-empty c = λ history stands none.
+    none_may (state_of history) c.args.most c.requires.least
+    (sym (c.fill.ensures.taken (state_of history) (room_taken c.args.self.now c.take.new.self history stands)) ∙ ap tickets_of none)
+
+pub returns-in-Some-clause-reads : goal.returns-in-Some-clause-reads
+returns-in-Some-clause-reads c = λ job history whole handed stands.
+    let begins = room_taken c.args.self.now c.take.new.self history stands in
+    reads_begun job c.fill.new.self c.fill.result.works.items history c.args.most whole handed stands.history (c.fill.ensures.begins (state_of history) begins)
+    (c.fill.ensures.taken (state_of history) begins)
+
+pub returns-in-None-clause-taken : goal.returns-in-None-clause-taken
+returns-in-None-clause-taken c = λ history stands.
+    let room : c.args.self.now.room ≡ None = sym c.take.ensures.value ∙ c.in-None.is in
+    ap tickets_of c.empty_batch-in-None.ensures.works ∙ none_begun c.args.self.now history c.args.most stands room
+
+pub returns-in-None-clause-empty : goal.returns-in-None-clause-empty
+returns-in-None-clause-empty c = λ history stands none.
+    let room : c.args.self.now.room ≡ None = sym c.take.ensures.value ∙ c.in-None.is in
+    none_may (state_of history) c.args.most c.requires.least (sym (none_begun c.args.self.now history c.args.most stands room))

@@ -1,27 +1,49 @@
-use Rattle.std.proofs.Common.{◌≡◌, ◌∙◌, List, sym, subst, refl}
-use Rattle.nim_base.specs.declared.number.Shape.{Shape}
-use Rattle.nim_worker.specs.Inputs.{slot_at}
-use Rattle.nim_worker.specs.Kept.{kept_by}
-use Rattle.nim_worker.specs.Works.{IsWork}
-use Rattle.nim_worker.proofs.Finishing.{reported_finished, stands_finished}
+use Rattle.std.proofs.Common.{◌≡◌, ◌∙◌, List, [], Option, ap, sym, subst, arith, false}
+use Rattle.nim_history.specs.History.{WorkerState, state_of}
+use Rattle.nim_worker.specs.declared.batch.Work.{Work}
+use Rattle.nim_worker.specs.declared.room.Room.{Room}
+use Rattle.nim_worker.specs.declared.worker.WorkerCore.{WorkerCore}
+use Rattle.nim_worker.specs.Stands.{HasState, IsAtWork, IsOut, after_completions, tickets_of}
+use Rattle.nim_worker.proofs.Finished.{stands_finished}
 use Rattle.nim_worker.proofs.worker.WorkerCore.end.Goals as goal
-use Rattle.nim_worker.proofs.worker.WorkerCore.end.Goals.{in-Some-report+in_ok-push, in_default-report}
+
+-- what a core has doesn't depend on whether a batch is out, or on the room that there is
+has_busy : (core : WorkerCore) (state : WorkerState) → HasState core state → HasState (record core { busy = false }) state
+has_busy core state has = record {
+  failed = has.failed;
+  session = record { begun = has.session.begun; epoch = has.session.epoch; shapes = has.session.shapes; installed = has.session.installed };
+  admitted = has.admitted;
+  inbox = has.inbox;
+}
+
+has_room : (core : WorkerCore) (room : Option Room) (state : WorkerState) → HasState core state → HasState (record core { room = room }) state
+has_room core room state has = record {
+  failed = has.failed;
+  session = record { begun = has.session.begun; epoch = has.session.epoch; shapes = has.session.shapes; installed = has.session.installed };
+  admitted = has.admitted;
+  inbox = has.inbox;
+}
 
 pub returns-clause-stands : goal.returns-clause-stands
-returns-clause-stands c = λ orders done stands.
-    stands_finished c.args.self.now c.args.batch c.pop.new.self.items c.in-Some.work c.complete.new.slots _ orders done c.if-self.false c.in-Some.ensures.items
-    (λ before command is.
-    subst (λ (shapes : List Shape). slot_at c.complete.new.slots ≡ kept_by shapes command.kind before) c.deref.ensures.value
-    (c.in_ok-report.ensures.slots before command (subst (λ (shapes : List Shape). IsWork shapes before (slot_at c.args.self.now.slots) command c.in-Some.work) (sym c.deref.ensures.value) is)))
-    refl stands
-
-pub returns-clause-reports : goal.returns-clause-reports
-returns-clause-reports c = λ orders done stands.
-    reported_finished c.args.self.now c.args.batch c.pop.new.self.items c.in-Some.work c.match-report.outs.items orders done c.if-self.false c.in-Some.ensures.items
-    (λ before command is. elim c.match-report.branch [
-      | in-Some-report+in_ok-push w ↦
-          rw (w.outs-is, w.in_ok-push.ensures.items, c.new-outs.ensures.items, w.in-Some-report.is) refl
-      | in_default-report w ↦
-          rw (w.outs-is, c.new-outs.ensures.items, w.in_default-report.is) refl
-    ] ∙ c.in_ok-report.ensures.report before command (subst (λ (shapes : List Shape). IsWork shapes before (slot_at c.args.self.now.slots) command c.in-Some.work) (sym c.deref.ensures.value) is))
-    stands
+returns-clause-stands c = λ history stands.
+    let old = c.args.self.now in
+    let works = c.args.batch.works.items in
+    let state = state_of history in
+    let ok = c.in_ok-outs.ensures in
+    let rest = c.put_back.ensures.rest in
+    let out = subst (λ s. IsOut old s c.args.batch state) c.if-self.false stands.at.out in
+    let has = has_busy old state stands.at.has in
+    let at : IsAtWork (record old { busy = false }) works state = record { may = out.0.may; chain = out.0.chain } in
+    let after = after_completions state (tickets_of works) in
+    let work = ok.work state has at in
+    stands_finished old c.put_back.new.self c.args.batch history c.in_ok-outs.outs.items stands c.if-self.false
+    (record {
+      has = subst (λ (core : WorkerCore). HasState core after) (sym rest) (has_room c.complete_all.new.self c.put_back.new.self.room after (ok.at state has at));
+      work = subst (λ (core : WorkerCore). IsAtWork core [] after) (sym rest) (record { may = work.may; chain = work.chain });
+      gave = ok.outs state has at;
+    })
+    (ap (λ (core : WorkerCore). core.busy) rest ∙ ok.busy)
+    (ap (λ (core : WorkerCore). core.stale) rest ∙ ok.stale ∙ c.if-self.false)
+    (λ begun.
+    let room = out.1 (sym ok.begun ∙ sym (ap (λ (core : WorkerCore). core.begun) rest) ∙ begun) in
+    c.put_back.ensures.room (omega (arith, ok.room, room.works)) (omega (arith, ok.count, room.inputs, c.args.batch.works.ok.0, c.args.batch.spare.ok.0)))

@@ -1,9 +1,8 @@
-use Rattle.std.proofs.Common.{◌+◌}
-use Rattle.nim_worker.specs.Stands.{completes}
-use Rattle.nim_worker.proofs.Begun.{good_finished}
+use Rattle.nim_worker.proofs.Finished.{outs_good}
+use Rattle.nim_worker.proofs.FirstDone.{both_ok}
 use Rattle.nim_worker.proofs.worker.WorkerCore.finish.Goals as goal
 
 pub returns-clause-good : goal.returns-clause-good
-returns-clause-good c = λ job orders done whole legal stands.
-    good_finished job c.end-finished.new.self orders done (done + completes c.args.self.now c.args.batch) c.end-finished.result whole legal
-    (c.end-finished.ensures.stands orders done stands) (c.end-finished.ensures.reports orders done stands)
+returns-clause-good c = λ job history whole handed stands.
+    both_ok c.end-finished.result (λ after outs gave. outs_good job c.args.self.now c.end-finished.new.self c.args.batch history outs.items whole handed after gave)
+    (c.end-finished.ensures.stands history stands) (c.end-finished.ensures.outs history stands)

@@ -1,0 +1,5 @@
+pub mod GoesOn
+pub mod History
+pub mod InTurn
+pub mod Kept
+pub mod Truth
