@@ -3,7 +3,7 @@ use crate::funcs::func;
 use crate::shown::push_slots;
 use crate::values::value;
 use crate::words::{halves, number, numbers, parts, slots, words};
-use nim_base::{Copied, Seq, Slot, Worker};
+use nim_base::{Copied, Short, Slot, Worker};
 use nim_command::{Command, Kind, object_of, reads, writes};
 use std::alloc::Global;
 
@@ -63,7 +63,7 @@ fn run(
     params: &[&str],
     slots_of: &str,
 ) -> Result<Kind, LineFault> {
-    let mut all = Vec::new(alloc);
+    let mut all = Short::new(alloc);
     for param in params {
         all.push(number::<i64>(param)?)?;
     }
@@ -71,9 +71,9 @@ fn run(
     Ok(Kind::Run {
         position: number::<u64>(position)?,
         func: func(name)?,
-        params: Seq::from_vec(all),
-        reads: Seq::from_vec(slots(alloc, from)?),
-        writes: Seq::from_vec(slots(alloc, to)?),
+        params: all,
+        reads: Short::from_slice(alloc, &slots(alloc, from)?)?,
+        writes: Short::from_slice(alloc, &slots(alloc, to)?)?,
     })
 }
 
@@ -84,7 +84,7 @@ pub fn command(alloc: Global, text: &str) -> Result<Command, LineFault> {
     Ok(Command {
         id: number::<u32>(id)?,
         kind: kind(alloc, told)?,
-        before: Seq::from_vec(numbers::<u32>(alloc, before)?),
+        before: Short::from_slice(alloc, &numbers::<u32>(alloc, before)?)?,
     })
 }
 

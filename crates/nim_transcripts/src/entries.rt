@@ -2,7 +2,7 @@ use crate::commands::slot;
 use crate::fault::LineFault;
 use crate::funcs::func;
 use crate::words::{halves, number, numbers, parts, slots, words};
-use nim_base::{Object, Param, Seq, Worker};
+use nim_base::{Object, Param, Seq, Short, Worker};
 use nim_command::{Edit, Entry, EntryKind, PatchPart, Spec};
 use std::alloc::Global;
 
@@ -14,7 +14,7 @@ pub fn entry(alloc: Global, text: &str) -> Result<Entry, LineFault> {
     Ok(Entry {
         id: number::<u32>(id)?,
         kind: entry_kind(alloc, told)?,
-        before: Seq::from_vec(numbers::<u32>(alloc, before)?),
+        before: Short::from_slice(alloc, &numbers::<u32>(alloc, before)?)?,
     })
 }
 
@@ -61,9 +61,9 @@ fn entry_run(
     let (from, to) = halves(slots_of, "->")?;
     Ok(EntryKind::Run {
         func: func(name)?,
-        params: Seq::from_vec(params(alloc, given)?),
-        reads: Seq::from_vec(slots(alloc, from)?),
-        writes: Seq::from_vec(slots(alloc, to)?),
+        params: Short::from_slice(alloc, &params(alloc, given)?)?,
+        reads: Short::from_slice(alloc, &slots(alloc, from)?)?,
+        writes: Short::from_slice(alloc, &slots(alloc, to)?)?,
     })
 }
 

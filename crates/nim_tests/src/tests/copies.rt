@@ -1,4 +1,4 @@
-use nim_base::{Copied, Func, Name, Object, Param, Seq, Shape, Slot, Task, TaskForm, Value};
+use nim_base::{Copied, Func, Name, Object, Param, Seq, Shape, Short, Slot, Task, TaskForm, Value};
 use nim_message::FromWorker;
 use nim_store::Held;
 use std::alloc::Global;
@@ -42,6 +42,17 @@ fn small_things_are_copied(rt: HostRuntime) -> Result<(), Fail> {
     let shape = Shape { width: 2, rows: 0 };
     assert_eq!(rt; shape.copy()?, shape);
     assert_eq!(rt; Name::from_str(rt.alloc(), "x1")?.copy()?.as_str(), "x1");
+    Ok(())
+}
+
+#[test]
+fn a_short_list_grows_past_its_place(rt: HostRuntime) -> Result<(), Fail> {
+    let mut list: Short<u32, 2> = Short::new(rt.alloc());
+    for number in 4..7u32 {
+        list.push(number)?;
+    }
+    assert_eq!(rt; list.copy()?.as_slice(), [4, 5, 6].as_slice());
+    assert_eq!(rt; list.len(), 3);
     Ok(())
 }
 

@@ -1,6 +1,6 @@
 ghost use Rattle.std.specs.Prelude.{◌<◌, slice_get, IsSomeAnd, IsTrue};
 
-use nim_base::{Func, NoMemory, Object, Seq, Shape, Slot, Task, Value, Worker};
+use nim_base::{Func, NoMemory, Object, Seq, Shape, Short, Slot, Task, Value, Worker};
 use nim_command::{Command, Kind, WorkerTemplate};
 use nim_message::Data;
 use nim_patch::{PatchCache, build_patch, failing};
@@ -41,7 +41,7 @@ fn filled(alloc: Global, id: u32, slot: u16) -> Command {
             iota: false,
             number: 3,
         },
-        before: Seq::new(alloc),
+        before: Short::new(alloc),
     }
 }
 
