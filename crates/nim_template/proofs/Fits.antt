@@ -1,0 +1,36 @@
+-- The first object that a form writes.
+use Rattle.std.proofs.Common.{◌≡◌, ℕ, zero, suc, ◌<◌, Bool, true, List, [], ◌∷◌, length, get_or, slice_get, ap, arith, ◌∙◌}
+use Rattle.std.specs.Prelude.{IsSomeAnd, nat_le, nat_lt, ◌&&◌}
+use Rattle.std.specs.List.{list_all}
+use Rattle.std.proofs.lemmas.Bool.{false≢true, ltb-true}
+use Rattle.nim_base.specs.declared.number.Object.{Object}
+use Rattle.nim_base.specs.declared.task.TaskForm.{TaskForm}
+use Rattle.nim_place.proofs.Places.{both_true}
+use Rattle.nim_template.specs.Fits.{are_below, is_fit}
+
+-- there is a first object, and it is below the number of objects
+abbrev IsFirstBelow : ℕ → List Object → Type 0
+IsFirstBelow objects all = IsSomeAnd (slice_get all 0) (λ (object : Object). object.0 < objects)
+
+first_below : (objects : ℕ) (all : List Object) → nat_le 1 (length all) ≡ true → are_below objects all ≡ true → IsFirstBelow objects all
+first_below objects [] some below = absurd (false≢true some)
+first_below objects (first ∷ rest) some below = ltb-true first.0 objects (both_true (nat_lt first.0 objects) (are_below objects rest) below).0
+
+first_written : (objects : ℕ) (form : TaskForm) → is_fit objects form ≡ true → IsFirstBelow objects form.writes
+first_written objects form fit =
+    let some : Bool = nat_le 1 (length form.writes) in
+    let few : Bool = nat_le (length form.writes) 2 in
+    let reads : Bool = nat_le (length form.reads) 8 in
+    let below : Bool = are_below objects form.writes in
+    let front = (both_true (((some && few) && reads) && below) (are_below objects form.reads) fit).0 in
+    let counts = both_true ((some && few) && reads) below front in
+    first_below objects form.writes (both_true some few (both_true (some && few) reads counts.0).0).0 counts.1
+
+-- the first object that one of the forms writes
+pub first_of : (objects : ℕ) (forms : List TaskForm) (at : ℕ) (form : TaskForm) → list_all (is_fit objects) forms ≡ true → at < length forms
+    → form ≡ get_or forms at form → IsFirstBelow objects form.writes
+first_of objects [] at form all within is = absurd (omega arith)
+first_of objects (f ∷ fs) zero form all within is =
+    first_written objects form (ap (is_fit objects) is ∙ (both_true (is_fit objects f) (list_all (is_fit objects) fs) all).0)
+first_of objects (f ∷ fs) (suc at) form all within is =
+    first_of objects fs at form (both_true (is_fit objects f) (list_all (is_fit objects) fs) all).1 (omega (arith, within)) is

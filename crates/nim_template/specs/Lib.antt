@@ -1,0 +1,4 @@
+pub mod Built
+pub mod Closing
+pub mod Fits
+pub mod Walk
