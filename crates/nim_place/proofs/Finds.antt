@@ -74,7 +74,7 @@ does_move versions owner past (next ∷ reads) object from held lacks first read
           shown (source_of versions owner past next)
           (later (list_any-append (λ (o : Object). o.0 == object.0) past (next ∷ []) ∙ both_false (is_one_of past object) ((next.0 == object.0) || false) first (ap (λ (b : Bool). b || false) other)) here)
 
-current_held : (latest : ℕ) (held : Option ℕ) → option_map_or (λ (version : ℕ). version == latest) held false ≡ true → held ≡ Some latest
+pub current_held : (latest : ℕ) (held : Option ℕ) → option_map_or (λ (version : ℕ). version == latest) held false ≡ true → held ≡ Some latest
 current_held latest None is = absurd (false≢true is)
 current_held latest (Some version) is = ap Some (eqb-true version latest is)
 

@@ -18,21 +18,21 @@ pub record AreLike (before after : Versions) : Type 0 where
   pub workers : after.workers ≡ before.workers
   pub objects : after.objects ≡ before.objects
 
-like_then : (a b c : Versions) → AreLike a b → AreLike b c → AreLike a c
+pub like_then : (a b c : Versions) → AreLike a b → AreLike b c → AreLike a c
 like_then a b c first second = record { workers = second.workers ∙ first.workers; objects = second.objects ∙ first.objects }
 
-like_same : (a : Versions) → AreLike a a
+pub like_same : (a : Versions) → AreLike a a
 like_same a = record { workers = refl; objects = refl }
 
 like_put : (worker : Worker) (version : ℕ) (versions : Versions) (slot : Slot) → AreLike versions (with_version worker version versions slot)
 like_put worker version versions slot = either (is_kept versions worker slot) where
   either : (b : Bool) → AreLike versions
       (if b
-       then record versions {
-         held = slice_set versions.held (worker.0 * versions.objects + slot.0) (Some version);
-         latest = slice_set versions.latest slot.0 (max (slice_index_or versions.latest slot.0 0) version);
-       }
-       else versions)
+      then record versions {
+        held = slice_set versions.held (worker.0 * versions.objects + slot.0) (Some version);
+        latest = slice_set versions.latest slot.0 (max (slice_index_or versions.latest slot.0 0) version);
+      }
+      else versions)
   either true = record { workers = refl; objects = refl }
   either false = record { workers = refl; objects = refl }
 
@@ -49,16 +49,16 @@ like_commands (c ∷ commands) versions =
     let next : Versions = after_kind c.0 versions c.1.kind in
     like_then versions next (after_commands next commands) (like_put_all c.0 (version_of c.1.kind) (puts_of c.1.kind) versions) (like_commands commands next)
 
-like_need : (worker : Worker) (walk : Walk) (object : Object) → AreLike walk.offsets (with_need worker walk object).offsets
+pub like_need : (worker : Worker) (walk : Walk) (object : Object) → AreLike walk.offsets (with_need worker walk object).offsets
 like_need worker walk object = either (latest_of walk.offsets object == 0) where
   either : (b : Bool) → AreLike walk.offsets
       (if b
-       then (let next : Walk = record { offsets = with_offset worker object 0 walk.offsets; needed = with_offset worker object 0 walk.needed; entries = walk.entries } in next)
-       else walk).offsets
+      then (let next : Walk = record { offsets = with_offset worker object 0 walk.offsets; needed = with_offset worker object 0 walk.needed; entries = walk.entries } in next)
+      else walk).offsets
   either true = like_put worker 0 walk.offsets (record { 0 = object.0 })
   either false = like_same walk.offsets
 
-like_needs : (worker : Worker) (reads : List Object) (walk : Walk) → AreLike walk.offsets (fold (with_need worker) walk reads).offsets
+pub like_needs : (worker : Worker) (reads : List Object) (walk : Walk) → AreLike walk.offsets (fold (with_need worker) walk reads).offsets
 like_needs worker [] walk = like_same walk.offsets
 like_needs worker (object ∷ reads) walk =
     let next : Walk = with_need worker walk object in

@@ -1,3 +1,4 @@
+pub mod Again
 pub mod Built
 pub mod Closing
 pub mod Fits

@@ -1,5 +1,6 @@
 ghost use Rattle.std.specs.Prelude.{◌≡◌, ◌≤◌, true, length, map, IfOk};
 ghost use Rattle.std.specs.List.{list_all, list_any};
+ghost use Rattle.nim_template.specs.Again.{HoldAgain};
 ghost use Rattle.nim_template.specs.Built as spec;
 ghost use Rattle.nim_template.specs.Fits.{is_fit};
 ghost use Rattle.nim_template.specs.Walk as walks;
@@ -28,7 +29,8 @@ pub fn build_halves(
     requires live { list_any (λ flag. flag) live.now ≡ true }
     requires many { length template.now.forms ≤ 1024 }
     requires fit { list_all (is_fit objects) template.now.forms ≡ true }
-    ensures { IfOk result (λ built. built ≡ spec.built place.now objects live.now template.now) }
+    ensures built { IfOk result (λ built. built ≡ spec.built place.now objects live.now template.now) }
+    ensures again { IfOk result (λ built. HoldAgain (length live.now) objects built) }
 {
     let forms = template.forms.as_slice();
     let homes = homes_of(alloc, forms, place, objects, live)?;

@@ -76,11 +76,10 @@ fn push_effect(
 {
     let (worker, object) = slot;
     let main = Slot(object.0);
-    match offsets.held(worker, main) {
-        Some(offset) if offset != 0 => {
+    if let Some(offset) = offsets.held(worker, main) {
+        if offset != 0 {
             effect.push((worker, main, offset_for(offset)))?;
         }
-        _ => {}
     }
     Ok(())
 }

@@ -1,6 +1,5 @@
 ghost use Rattle.std.specs.Prelude.{◌≡◌, ◌<◌, ◌≤◌, [], true, length, slice_get, IfOk, OnOk, IsSomeAnd};
 ghost use Rattle.std.specs.List.{fold, list_all, list_any};
-ghost use Rattle.nim_command.specs.declared.command.Command.{Command as command_type};
 ghost use Rattle.nim_command.specs.declared.command.Kind.{Kind as kind_type};
 ghost use Rattle.nim_command.specs.Numbers.{main_slot};
 ghost use Rattle.nim_template.specs.Fits.{is_fit};
@@ -75,8 +74,8 @@ impl Walk {
         ensures { OnOk result (self.new ≡ spec.after_form place.now live.now number self.old form.now) }
     {
         let task = task_for(alloc, form)?;
-        let home = home_of(place, form, self.offsets.objects(), live);
-        self.need_all(alloc, home, form.reads.as_slice());
+        let owner = home_of(place, form, self.offsets.objects(), live);
+        self.need_all(alloc, owner, form.reads.as_slice());
         let position = Position::from(number);
         let commands = schedule_task(
             alloc,
