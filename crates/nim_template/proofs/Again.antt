@@ -1,7 +1,7 @@
 -- What a block needs at entry holds again behind its effect.
-use Rattle.std.proofs.Common.{◌≡◌, ℕ, zero, suc, ◌+◌, ◌<◌, ◌≤◌, Bool, true, false, List, [], ◌∷◌, length, refl, ap, ap₂, sym, subst, ◌∙◌, arith, Option, None, Some, inl}
-use Rattle.std.specs.Prelude.{◌-◌, ◌*◌, ◌^◌, ◌==◌, ◌&&◌, if◌then◌else◌, min, nat_lt, replicate, slice_get, slice_index_or}
-use Rattle.std.specs.List.{filter, fold, list_any}
+use Rattle.std.proofs.Common.{◌≡◌, ℕ, zero, suc, ◌+◌, ◌<◌, ◌≤◌, Bool, true, false, List, [], ◌∷◌, length, refl, ap, ap₂, sym, ◌∙◌, arith, Option, None, Some, inl}
+use Rattle.std.specs.Prelude.{◌*◌, ◌==◌, ◌&&◌, if◌then◌else◌, nat_lt, replicate, slice_get, slice_index_or}
+use Rattle.std.specs.List.{fold, list_any}
 use Rattle.std.specs.Option.{is_some, option_map_or}
 use Rattle.std.proofs.lemmas.Bool.{eqb-false, eqb-true, false≢true, ltb-true}
 use Rattle.nim_base.specs.declared.number.Object.{Object}
@@ -15,16 +15,16 @@ use Rattle.nim_place.proofs.Finds.{current_held}
 use Rattle.nim_place.proofs.Live.{ahead_within}
 use Rattle.nim_place.proofs.Places.{both_true}
 use Rattle.nim_place.proofs.Puts.{IsWhole, kept_bounds}
-use Rattle.nim_template.specs.declared.recorder.ControllerTemplate.{ControllerTemplate}
+use Rattle.nim_template.specs.declared.template.ControllerTemplate.{ControllerTemplate}
 use Rattle.nim_template.specs.declared.walk.Walk.{Walk}
 use Rattle.nim_template.specs.Again.{HoldAgain, IsBefore, are_current}
 use Rattle.nim_template.specs.Built.{all_slots, built, effect_of, end_of, needs_of}
 use Rattle.nim_template.specs.Closing.{closed}
-use Rattle.nim_template.specs.Walk.{home_of, offset_for, start}
+use Rattle.nim_template.specs.Walk.{home_of, start}
 use Rattle.nim_template.proofs.Closes.{AreCurrent, AreNeeds, Closes, closes, current_of, needs_after}
-use Rattle.nim_template.proofs.Effects.{IsDone, IsOf, IsTarget, counted, done_comes, done_stays, kept_none, slot_there, some_kept}
+use Rattle.nim_template.proofs.Effects.{IsDone, IsOf, counted, done_comes, done_stays, kept_none, slot_there, some_kept}
 use Rattle.nim_template.proofs.Offsets.{IsKept}
-use Rattle.nim_template.proofs.Walks.{IsWalked, IsWalkedTo, has_any, walk_kept}
+use Rattle.nim_template.proofs.Walks.{IsWalked, IsWalkedTo, walk_kept}
 
 -- ---- one main slot
 
@@ -109,31 +109,34 @@ length_replicate : {X : Type 0} (n : ℕ) (x : X) → length (replicate n x) ≡
 length_replicate zero x = refl
 length_replicate (suc n) x = omega (arith, length_replicate n x)
 
+unheld : (b : Bool) (o : Option ℕ) → o ≡ None → (if b then o else None) ≡ None
+unheld true o is = is
+unheld false o is = refl
+
 nothing_held : (workers objects : ℕ) (worker : Worker) (object : Object) → held_at (no_versions workers objects) worker (main_slot object) ≡ None
-nothing_held workers objects worker object = either (is_kept (no_versions workers objects) worker (main_slot object)) where
-  either : (b : Bool)
-      → (if b then slice_index_or (replicate (objects * workers) None) (place_of (no_versions workers objects) worker (main_slot object)) None else None) ≡ None
-  either true = replicate_or (objects * workers) (place_of (no_versions workers objects) worker (main_slot object)) None
-  either false = refl
+nothing_held workers objects worker object =
+    let place : ℕ = place_of (no_versions workers objects) worker (main_slot object) in
+    unheld (is_kept (no_versions workers objects) worker (main_slot object)) (slice_index_or (replicate (objects * workers) None) place None)
+    (replicate_or (objects * workers) place None)
 
 start_walked : (workers objects : ℕ) → IsWalked 0 (start workers objects)
 start_walked workers objects =
     let whole : IsWhole (no_versions workers objects) = record {
       slots = length_replicate (objects * workers) None;
-      all = length_replicate objects 0;
+      all = length_replicate {X = ℕ} objects 0;
     } in
     record {
       kept = record {
         whole = whole;
-        latest = λ object there. let none = replicate_or objects object.0 0 in omega (arith, none);
+        latest = λ object there. let none = replicate_or {X = ℕ} objects object.0 0 in omega (arith, none);
         held = λ worker object offset below there is.
-            absurd (false≢true (ap (is_some {A = ℕ}) (sym (nothing_held workers objects worker object) ∙ is)));
-        there = λ object there. inl (replicate_or objects object.0 0);
+            absurd (false≢true (ap (λ (o : Option ℕ). is_some o) (sym (nothing_held workers objects worker object) ∙ is)));
+        there = λ object there. inl (replicate_or {X = ℕ} objects object.0 0);
       };
       whole = whole;
       workers = refl;
       objects = refl;
-      some = λ worker object below there has. absurd (false≢true (sym (ap (is_some {A = ℕ}) (nothing_held workers objects worker object)) ∙ has));
+      some = λ worker object below there has. absurd (false≢true (sym (ap (λ (o : Option ℕ). is_some o) (nothing_held workers objects worker object)) ∙ has));
     }
 
 home_within : (place : Placement) (live : List Bool) → list_any (λ (flag : Bool). flag) live ≡ true → (objects : ℕ) (form : TaskForm)
@@ -164,7 +167,7 @@ needs_are most walk (slot ∷ slots) is = either (is_current walk.needed slot.1 
       let bounds = kept_bounds walk.needed slot.0 (main_slot slot.1) (some_kept walk.needed slot.0 (main_slot slot.1) (latest_of walk.needed slot.1) holds) in
       let below : slot.0.0 < walk.offsets.workers = omega (arith, is.workers, bounds.0) in
       let there : slot.1.0 < walk.offsets.objects = omega (arith, is.objects, bounds.1) in
-      (below, there, is.some slot.0 slot.1 below there (ap (is_some {A = ℕ}) holds), rest)
+      (below, there, is.some slot.0 slot.1 below there (ap (λ (o : Option ℕ). is_some o) holds), rest)
 
 -- where the preconditions hold before an instance, they hold behind its effect
 pub built_again : (place : Placement) (objects : ℕ) (live : List Bool) (template : ControllerTemplate) → list_any (λ (flag : Bool). flag) live ≡ true

@@ -1,9 +1,8 @@
 -- Behind the closing copies each main slot that is needed has the latest offset.
 use Rattle.std.proofs.Common.{◌≡◌, ℕ, zero, suc, ◌+◌, ◌<◌, ◌≤◌, Bool, true, false, List, [], ◌∷◌, refl, ap, ap₂, sym, ◌∙◌, arith, Option, None, Some, inl, inr}
-use Rattle.std.specs.Prelude.{◌==◌, ◌&&◌, ◌||◌, if◌then◌else◌, max}
-use Rattle.std.specs.List.{fold}
+use Rattle.std.specs.Prelude.{◌==◌, ◌&&◌, ◌||◌, if◌then◌else◌}
 use Rattle.std.specs.Option.{is_some, option_map_or}
-use Rattle.std.proofs.lemmas.Bool.{eq-eqb, eqb-true, false≢true}
+use Rattle.std.proofs.lemmas.Bool.{eq-eqb, false≢true}
 use Rattle.nim_base.specs.declared.number.Object.{Object}
 use Rattle.nim_base.specs.declared.number.Slot.{Slot}
 use Rattle.nim_base.specs.declared.number.Worker.{Worker}
@@ -14,7 +13,7 @@ use Rattle.nim_place.proofs.Finds.{current_held}
 use Rattle.nim_place.proofs.Puts.{IsPut, kept_for, put_all}
 use Rattle.nim_template.specs.Closing.{closed, closed_for, received_from}
 use Rattle.nim_template.specs.Walk.{with_offset}
-use Rattle.nim_template.proofs.Offsets.{IsKept, IsThere}
+use Rattle.nim_template.proofs.Offsets.{IsKept}
 use Rattle.nim_template.proofs.Walks.{IsAfter, after_none, after_then, has_any, only_object, put_after, same_latest}
 
 -- what has the latest offset is current

@@ -1,7 +1,7 @@
 -- What an effect leaves, slot by slot: what is current in the offsets is current in the versions.
-use Rattle.std.proofs.Common.{◌≡◌, ℕ, zero, suc, ◌+◌, ◌<◌, ◌≤◌, Bool, true, false, List, [], ◌∷◌, ◌++◌, map, refl, ap, ap₂, sym, subst, ◌∙◌, arith, Option, None, Some}
-use Rattle.std.specs.Prelude.{◌-◌, ◌^◌, ◌==◌, ◌&&◌, ◌||◌, if◌then◌else◌, max, min, slice_index_or}
-use Rattle.std.specs.List.{flat_map, fold, list_all, list_any, range_with_len}
+use Rattle.std.proofs.Common.{◌≡◌, ℕ, zero, suc, ◌+◌, ◌<◌, ◌≤◌, Bool, true, false, List, [], ◌∷◌, map, refl, ap, ap₂, sym, subst, ◌∙◌, arith, Option, None, Some}
+use Rattle.std.specs.Prelude.{◌==◌, ◌&&◌, ◌||◌, if◌then◌else◌, max, slice_index_or}
+use Rattle.std.specs.List.{flat_map, fold, list_any, range_with_len}
 use Rattle.std.specs.Option.{is_some}
 use Rattle.std.proofs.lemmas.Bool.{eq-eqb, eqb-false, eqb-true, false≢true}
 use Rattle.std.proofs.lemmas.List.Folds.{list_any-append}
@@ -11,7 +11,7 @@ use Rattle.nim_base.specs.declared.number.Slot.{Slot}
 use Rattle.nim_base.specs.declared.number.Worker.{Worker}
 use Rattle.nim_command.specs.Numbers.{counted_from, main_slot}
 use Rattle.nim_command.specs.Slots.{is_among}
-use Rattle.nim_place.specs.Versions.{Versions, held_at, is_current, is_kept, latest_of, place_of, with_kept, with_version, with_written}
+use Rattle.nim_place.specs.Versions.{Versions, held_at, is_kept, latest_of, place_of, with_kept, with_version, with_written}
 use Rattle.nim_place.proofs.Moves.{or_left, or_right}
 use Rattle.nim_place.proofs.Places.{both_true}
 use Rattle.nim_place.proofs.Puts.{IsPut, IsWhole, kept_bounds, kept_for, put_all, whole_after}
@@ -70,7 +70,7 @@ some_kept offsets worker slot offset is = either (is_kept offsets worker slot) r
   either : (b : Bool) → is_kept offsets worker slot ≡ b
       → (if b then slice_index_or offsets.held (place_of offsets worker slot) None else None) ≡ Some offset → is_kept offsets worker slot ≡ true
   either true kept found = kept
-  either false kept found = absurd (false≢true (ap (is_some {A = ℕ}) found))
+  either false kept found = absurd (false≢true (ap (λ (o : Option ℕ). is_some o) found))
 
 still_more : (offset : ℕ) → (offset == 0) ≡ false → (offset_for offset == 0) ≡ false
 still_more offset more = either (offset_for offset == 0) refl where

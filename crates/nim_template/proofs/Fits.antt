@@ -1,5 +1,5 @@
 -- The first object that a form writes.
-use Rattle.std.proofs.Common.{◌≡◌, ℕ, zero, suc, ◌<◌, Bool, true, List, [], ◌∷◌, length, get_or, slice_get, ap, arith, ◌∙◌}
+use Rattle.std.proofs.Common.{◌≡◌, ℕ, zero, suc, ◌<◌, Bool, true, List, [], ◌∷◌, length, get_or, slice_get, ap, arith, subst, sym, ◌∙◌}
 use Rattle.std.specs.Prelude.{IsSomeAnd, nat_le, nat_lt, ◌&&◌}
 use Rattle.std.specs.List.{list_all}
 use Rattle.std.proofs.lemmas.Bool.{false≢true, ltb-true}
@@ -9,7 +9,7 @@ use Rattle.nim_place.proofs.Places.{both_true}
 use Rattle.nim_template.specs.Fits.{are_below, is_fit}
 
 -- there is a first object, and it is below the number of objects
-abbrev IsFirstBelow : ℕ → List Object → Type 0
+abbrev pub IsFirstBelow : ℕ → List Object → Type 0
 IsFirstBelow objects all = IsSomeAnd (slice_get all 0) (λ (object : Object). object.0 < objects)
 
 first_below : (objects : ℕ) (all : List Object) → nat_le 1 (length all) ≡ true → are_below objects all ≡ true → IsFirstBelow objects all
@@ -34,3 +34,7 @@ first_of objects (f ∷ fs) zero form all within is =
     first_written objects form (ap (is_fit objects) is ∙ (both_true (is_fit objects f) (list_all (is_fit objects) fs) all).0)
 first_of objects (f ∷ fs) (suc at) form all within is =
     first_of objects fs at form (both_true (is_fit objects f) (list_all (is_fit objects) fs) all).1 (omega (arith, within)) is
+
+-- the same of as many objects
+pub first_within : (objects more : ℕ) (all : List Object) → more ≡ objects → IsFirstBelow objects all → IsFirstBelow more all
+first_within objects more all same below = subst (λ (n : ℕ). IsFirstBelow n all) (sym same) below

@@ -1,6 +1,6 @@
 -- What the maps of a walk keep: no offset is above the latest one, and the latest one is there, or nothing is written.
-use Rattle.std.proofs.Common.{◌≡◌, ℕ, zero, suc, ◌+◌, ◌<◌, ◌≤◌, Bool, true, false, List, [], ◌∷◌, ◌++◌, map, refl, ap, ap₂, sym, subst, ◌∙◌, arith, Option, None, Some, inl, inr}
-use Rattle.std.specs.Prelude.{◌-◌, ◌^◌, ◌==◌, ◌&&◌, ◌||◌, if◌then◌else◌, max, min}
+use Rattle.std.proofs.Common.{◌≡◌, ℕ, ◌<◌, ◌≤◌, Bool, true, false, List, refl, ap, ap₂, sym, ◌∙◌, arith, Option, Some, inl, inr}
+use Rattle.std.specs.Prelude.{◌==◌, ◌&&◌, if◌then◌else◌, max, ◌⊎◌}
 use Rattle.std.specs.List.{fold}
 use Rattle.std.proofs.lemmas.Bool.{eq-eqb}
 use Rattle.nim_base.specs.declared.number.Object.{Object}
@@ -8,7 +8,7 @@ use Rattle.nim_base.specs.declared.number.Slot.{Slot}
 use Rattle.nim_base.specs.declared.number.Worker.{Worker}
 use Rattle.nim_command.specs.Numbers.{main_slot}
 use Rattle.nim_command.specs.Slots.{is_among}
-use Rattle.nim_place.specs.Versions.{Versions, held_at, is_current, is_kept, latest_of, with_version}
+use Rattle.nim_place.specs.Versions.{Versions, held_at, latest_of, with_version}
 use Rattle.nim_place.proofs.Puts.{IsPut, IsWhole, kept_for, put_all, whole_after}
 
 -- a worker whose main slot of an object has its latest offset

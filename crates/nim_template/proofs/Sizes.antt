@@ -1,6 +1,6 @@
 -- What a walk does leaves the numbers of workers and objects as they are.
 use Rattle.std.proofs.Common.{◌≡◌, ℕ, Bool, true, false, List, [], ◌∷◌, refl, subst, sym, ◌∙◌}
-use Rattle.std.specs.Prelude.{◌==◌, if◌then◌else◌, max, Option, Some, slice_index_or, slice_set}
+use Rattle.std.specs.Prelude.{◌+◌, ◌*◌, ◌==◌, if◌then◌else◌, max, Some, slice_index_or, slice_set}
 use Rattle.std.specs.List.{fold}
 use Rattle.nim_base.specs.declared.number.Object.{Object}
 use Rattle.nim_base.specs.declared.number.Slot.{Slot}

@@ -1,9 +1,9 @@
 -- What a walk keeps: its maps stay as they have to be, and what is needed at entry has some offset.
-use Rattle.std.proofs.Common.{◌≡◌, ℕ, zero, suc, ◌+◌, ◌<◌, ◌≤◌, Bool, true, false, List, [], ◌∷◌, ◌++◌, length, map, get_or, refl, ap, ap₂, sym, subst, ◌∙◌, arith, Option, None, Some}
-use Rattle.std.specs.Prelude.{◌-◌, ◌^◌, ◌==◌, ◌&&◌, ◌||◌, if◌then◌else◌, max, min, nat_lt}
-use Rattle.std.specs.List.{flat_map, fold}
+use Rattle.std.proofs.Common.{◌≡◌, ℕ, ◌+◌, ◌<◌, ◌≤◌, Bool, true, false, List, [], ◌∷◌, ◌++◌, length, map, refl, ap, sym, subst, ◌∙◌, arith, Option, Some}
+use Rattle.std.specs.Prelude.{◌^◌, ◌==◌, ◌&&◌, ◌||◌, if◌then◌else◌, max, nat_lt}
+use Rattle.std.specs.List.{fold}
 use Rattle.std.specs.Option.{is_some}
-use Rattle.std.proofs.lemmas.Bool.{eqb-true, false≢true, ltb-true, ltb-false}
+use Rattle.std.proofs.lemmas.Bool.{eqb-true, ltb-true, ltb-false}
 use Rattle.std.proofs.lemmas.List.{get_or_past}
 use Rattle.std.proofs.lemmas.List.Sums.{fold-append}
 use Rattle.nim_base.specs.declared.number.Object.{Object}
@@ -11,14 +11,12 @@ use Rattle.nim_base.specs.declared.number.Slot.{Slot}
 use Rattle.nim_base.specs.declared.number.Worker.{Worker}
 use Rattle.nim_base.specs.declared.task.TaskForm.{TaskForm}
 use Rattle.nim_command.specs.declared.command.Command.{Command}
-use Rattle.nim_command.specs.declared.command.Kind.{Kind}
 use Rattle.nim_command.specs.Holds.{version_after}
 use Rattle.nim_command.specs.Numbers.{main_slot}
 use Rattle.nim_command.specs.Slots.{is_among}
 use Rattle.nim_place.specs.declared.placement.Placement.{Placement}
-use Rattle.nim_place.specs.declared.schedule.Moved.{Moved}
 use Rattle.nim_place.specs.Schedule.{copies_of, moves, run_of, scheduled}
-use Rattle.nim_place.specs.Versions.{Versions, after_commands, after_kind, held_at, latest_of, puts_of, version_of, with_version}
+use Rattle.nim_place.specs.Versions.{Versions, after_commands, after_kind, held_at, latest_of, with_version}
 use Rattle.nim_place.proofs.Puts.{IsPut, IsWhole, kept_for, put_all, whole_after}
 use Rattle.nim_template.specs.declared.walk.Walk.{Walk}
 use Rattle.nim_template.specs.Walk.{after_form, home_of, task_for, walked, with_need, with_offset}
@@ -30,8 +28,8 @@ abbrev pub has_any : Versions → Worker → Object → Bool
 has_any offsets worker object = is_some (held_at offsets worker (main_slot object))
 
 still_any : (b : Bool) (offset : ℕ) (old new : Option ℕ) → new ≡ (if b then Some offset else old) → is_some old ≡ true → is_some new ≡ true
-still_any true offset old new is some = ap (is_some {A = ℕ}) is
-still_any false offset old new is some = ap (is_some {A = ℕ}) is ∙ some
+still_any true offset old new is some = ap (λ (o : Option ℕ). is_some o) is
+still_any false offset old new is some = ap (λ (o : Option ℕ). is_some o) is ∙ some
 
 -- nothing is emptied
 pub any_after : (offsets after : Versions) (worker : Worker) (offset : ℕ) (slots : List Slot) → IsPut offsets worker offset slots after
@@ -103,7 +101,7 @@ pub record AreCopies (most : ℕ) (base before after : Versions) : Type 0 where
   pub is_after : IsAfter most before after
   pub latest : (object : Object) → object.0 < before.objects → latest_of after object ≡ latest_of base object
 
-copies_kept : (most : ℕ) (base offsets : Versions) (number : ℕ) (owner : Worker) (ms : List Moved) → IsKept most offsets → owner.0 < offsets.workers
+copies_kept : (most : ℕ) (base offsets : Versions) (number : ℕ) (owner : Worker) (ms : List _) → IsKept most offsets → owner.0 < offsets.workers
     → ((object : Object) → latest_of base object ≤ most)
     → ((object : Object) → object.0 < offsets.objects → latest_of offsets object ≡ latest_of base object)
     → AreCopies most base offsets (after_commands offsets (copies_of base number owner ms))
@@ -133,7 +131,7 @@ scheduled_kept : (number : ℕ) (offsets : Versions) (form : TaskForm) (place : 
     → IsAfter (number + 1) offsets (after_commands offsets (scheduled offsets (task_for form) number number place live))
 scheduled_kept number offsets form place live kept below room =
     let owner : Worker = home_of place offsets.objects live form in
-    let ms : List Moved = moves offsets owner [] form.reads in
+    let ms = moves offsets owner [] form.reads in
     let copies : List (Worker × Command) = copies_of offsets number owner ms in
     let run : Command = run_of (task_for form) number number ms in
     let mid : Versions = after_commands offsets copies in
@@ -160,8 +158,8 @@ pub record IsWalked (most : ℕ) (walk : Walk) : Type 0 where
 
 both_any : (b : Bool) (first second new other : Option ℕ) → new ≡ (if b then Some 0 else first) → other ≡ (if b then Some 0 else second)
     → (is_some first ≡ true → is_some second ≡ true) → is_some new ≡ true → is_some other ≡ true
-both_any true first second new other is also before some = ap (is_some {A = ℕ}) also
-both_any false first second new other is also before some = ap (is_some {A = ℕ}) also ∙ before (sym (ap (is_some {A = ℕ}) is) ∙ some)
+both_any true first second new other is also before some = ap (λ (o : Option ℕ). is_some o) also
+both_any false first second new other is also before some = ap (λ (o : Option ℕ). is_some o) also ∙ before (sym (ap (λ (o : Option ℕ). is_some o) is) ∙ some)
 
 need_walked : (most : ℕ) (worker : Worker) (walk : Walk) (object : Object) → IsWalked most walk → worker.0 < walk.offsets.workers
     → IsWalked most (with_need worker walk object)

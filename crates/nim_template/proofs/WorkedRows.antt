@@ -1,6 +1,6 @@
 -- Worked by hand, and computed: templates of blocks on two workers, objects placed in turn.
-use Rattle.std.proofs.Common.{◌≡◌, ℕ, List, [], ◌∷◌, length, map, refl, pos}
-use Rattle.std.specs.Prelude.{Bool, true, false, slice_index_or}
+use Rattle.std.proofs.Common.{◌≡◌, ℕ, List, [], ◌∷◌, map, refl, pos}
+use Rattle.std.specs.Prelude.{true}
 use Rattle.nim_base.specs.declared.number.Object.{Object}
 use Rattle.nim_base.specs.declared.number.Slot.{Slot}
 use Rattle.nim_base.specs.declared.number.Worker.{Worker}
@@ -11,7 +11,6 @@ use Rattle.nim_command.specs.declared.entry.Entry.{Entry}
 use Rattle.nim_command.specs.declared.entry.EntryKind.{EntryKind}
 use Rattle.nim_command.specs.declared.template.WorkerTemplate.{WorkerTemplate}
 use Rattle.nim_place.specs.declared.placement.Placement.TheVariants.{Cyclic}
-use Rattle.nim_template.specs.declared.recorder.ControllerTemplate.{ControllerTemplate}
 use Rattle.nim_template.specs.Built.{built}
 
 abbrev slot : ℕ → Slot

@@ -11,7 +11,7 @@ use Rattle.nim_command.specs.Numbers.{main_slot}
 use Rattle.nim_command.specs.Ruled.{entries_by_rule}
 use Rattle.nim_place.specs.declared.placement.Placement.{Placement}
 use Rattle.nim_place.specs.Versions.{Versions, held_at, is_current}
-use Rattle.nim_template.specs.declared.recorder.ControllerTemplate.{ControllerTemplate}
+use Rattle.nim_template.specs.declared.template.ControllerTemplate.{ControllerTemplate}
 use Rattle.nim_template.specs.declared.walk.Walk.{Walk}
 use Rattle.nim_template.specs.Closing.{closed, closing_entries, closings}
 use Rattle.nim_template.specs.Walk.{home_of, offset_for, start, walked}

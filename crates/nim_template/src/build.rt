@@ -37,7 +37,8 @@ pub fn build_halves(
     let walk = walked(alloc, forms, place, objects, live)?;
     let workers = live.len() as u16;
     let slots = all_slots(alloc, workers, objects)?;
-    template_of(alloc, template, workers, slots, walk, homes)
+    let built = template_of(alloc, template, workers, slots, walk, homes)?;
+    Ok(built)
 }
 
 /// The homes of a block's tasks.

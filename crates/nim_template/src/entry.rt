@@ -9,9 +9,9 @@ use nim_command::{Command, Entry, EntryKind, Kind};
 pub(crate) fn push_all(
     entries: &mut Seq<(Worker, Entry)>,
     form: &TaskForm,
-    commands: Vec<(Worker, Command)>,
+    commands: &[(Worker, Command)],
 ) -> Result<(), NoMemory>
-    ensures { OnOk result (entries.new ≡ entries.old ++ flat_map (spec.entry_for form.now) commands.items) }
+    ensures { OnOk result (entries.new ≡ entries.old ++ flat_map (spec.entry_for form.now) commands.now) }
 {
     for command in commands {
         push_entry(entries, form, command)?;
@@ -23,27 +23,31 @@ pub(crate) fn push_all(
 fn push_entry(
     entries: &mut Seq<(Worker, Entry)>,
     form: &TaskForm,
-    command: (Worker, Command),
+    command: &(Worker, Command),
 ) -> Result<(), NoMemory>
-    ensures { OnOk result (entries.new ≡ entries.old ++ spec.entry_for form.now command) }
+    ensures { OnOk result (entries.new ≡ entries.old ++ spec.entry_for form.now command.now) }
 {
-    let (worker, Command { id, kind, .. }) = command;
-    if let Some(kind) = entry_kind(form, kind)? {
+    if let Some(kind) = entry_kind(form, &command.1.kind)? {
         let before = Seq::new(entries.alloc());
-        entries.push((worker, Entry { id, kind, before }))?;
+        let id = command.1.id;
+        entries.push((command.0, Entry { id, kind, before }))?;
     }
     Ok(())
 }
 
 /// What a command of a form's task is as an entry, if it is one.
-fn entry_kind(form: &TaskForm, kind: Kind) -> Result<Option<EntryKind>, NoMemory>
-    ensures { IfOk result (λ entry. entry ≡ spec.entry_kind form.now kind) }
+fn entry_kind(form: &TaskForm, kind: &Kind) -> Result<Option<EntryKind>, NoMemory>
+    ensures { IfOk result (λ entry. entry ≡ spec.entry_kind form.now kind.now) }
 {
     Ok(match kind {
-        Kind::Send { slot, peer, entry } => Some(EntryKind::Send { slot, peer, entry }),
+        Kind::Send { slot, peer, entry } => Some(EntryKind::Send {
+            slot: *slot,
+            peer: *peer,
+            entry: *entry,
+        }),
         Kind::Receive { slot, version } => Some(EntryKind::Receive {
-            slot,
-            offset: offset_for(version),
+            slot: *slot,
+            offset: offset_for(*version),
         }),
         Kind::Run {
             func,
@@ -51,10 +55,10 @@ fn entry_kind(form: &TaskForm, kind: Kind) -> Result<Option<EntryKind>, NoMemory
             writes,
             ..
         } => Some(EntryKind::Run {
-            func,
+            func: *func,
             params: params_of(form)?,
-            reads,
-            writes,
+            reads: reads.copy()?,
+            writes: writes.copy()?,
         }),
         Kind::Create { .. } | Kind::Load { .. } | Kind::Copy { .. } | Kind::Fetch { .. } => None,
     })

@@ -7,7 +7,9 @@ mod closing;
 mod entry;
 mod recorder;
 mod slots;
+mod template;
 mod walk;
 
 pub use build::build_halves;
-pub use recorder::{ControllerTemplate, Recorder};
+pub use recorder::Recorder;
+pub use template::ControllerTemplate;

@@ -1,15 +1,9 @@
 ghost use Rattle.std.specs.Prelude.{◌≡◌, [], ◌∷◌, ◌++◌, OnOk, OnErr};
 
+use crate::ControllerTemplate;
 use nim_base::{Copied, NoMemory, Seq, TaskForm};
 use std::alloc::Global;
 use std::marker::Model;
-
-/// A block as it was recorded: its tasks in order, their parameters as constants or argument numbers.
-#[derive(Debug, Drop)]
-pub struct ControllerTemplate {
-    pub block: u8,
-    pub forms: Seq<TaskForm>,
-}
 
 /// Records the tasks of a block while its first instance is scheduled. Contracts see what is recorded so far.
 #[derive(Debug, Drop)]
@@ -19,12 +13,12 @@ pub struct Recorder {
 
 impl Model for Recorder {
     ghost use Rattle.std.specs.Coded.{codes};
-    ghost use Rattle.nim_template.specs.declared.recorder.ControllerTemplate.{ControllerTemplate as template_type};
-    ghost use Rattle.nim_template.specs.contracts.recorder.ControllerTemplate as template;
+    ghost use Rattle.nim_template.specs.declared.template.ControllerTemplate.{ControllerTemplate as template_type};
+    ghost use Rattle.nim_template.specs.contracts.template.ControllerTemplate as controller;
 
     ghost Value = { template_type };
 
-    ghost coded = { Prim.hlevel (codes, template.the_row.coded) };
+    ghost coded = { Prim.hlevel (codes, controller.the_row.coded) };
 
     ghost view = { λ r. r.template };
 }

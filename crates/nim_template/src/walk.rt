@@ -86,7 +86,8 @@ impl Walk {
             place,
             live,
         )?;
-        push_all(&mut self.entries, form, commands)
+        push_all(&mut self.entries, form, commands.as_slice())?;
+        Ok(())
     }
 
     /// A worker reads objects.
