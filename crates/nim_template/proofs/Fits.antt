@@ -1,8 +1,8 @@
 -- The first object that a form writes.
-use Rattle.std.proofs.Common.{◌≡◌, ℕ, zero, suc, ◌<◌, Bool, true, List, [], ◌∷◌, length, get_or, slice_get, ap, arith, subst, sym, ◌∙◌}
+use Rattle.std.proofs.Common.{◌≡◌, ℕ, zero, suc, ◌<◌, ◌≤◌, Bool, true, List, [], ◌∷◌, length, get_or, slice_get, ap, arith, subst, sym, ◌∙◌}
 use Rattle.std.specs.Prelude.{IsSomeAnd, nat_le, nat_lt, ◌&&◌}
 use Rattle.std.specs.List.{list_all}
-use Rattle.std.proofs.lemmas.Bool.{false≢true, ltb-true}
+use Rattle.std.proofs.lemmas.Bool.{false≢true, leb-true, ltb-true}
 use Rattle.nim_base.specs.declared.number.Object.{Object}
 use Rattle.nim_base.specs.declared.task.TaskForm.{TaskForm}
 use Rattle.nim_place.proofs.Places.{both_true}
@@ -38,3 +38,11 @@ first_of objects (f ∷ fs) (suc at) form all within is =
 -- the same of as many objects
 pub first_within : (objects more : ℕ) (all : List Object) → more ≡ objects → IsFirstBelow objects all → IsFirstBelow more all
 first_within objects more all same below = subst (λ (n : ℕ). IsFirstBelow n all) (sym same) below
+
+-- a form reads few objects
+pub few_reads : (objects : ℕ) (form : TaskForm) → is_fit objects form ≡ true → length form.reads ≤ 8
+few_reads objects form fit =
+    let counts : Bool = nat_le 1 (length form.writes) && nat_le (length form.writes) 2 in
+    let reads : Bool = nat_le (length form.reads) 8 in
+    let front = (both_true ((counts && reads) && are_below objects form.writes) (are_below objects form.reads) fit).0 in
+    leb-true (length form.reads) 8 (both_true counts reads (both_true (counts && reads) (are_below objects form.writes) front).0).1

@@ -1,4 +1,5 @@
 pub mod Again
+pub mod Ascends
 pub mod Built
 pub mod Closing
 pub mod Fits

@@ -1,6 +1,7 @@
 ghost use Rattle.std.specs.Prelude.{◌≡◌, ◌≤◌, true, length, map, IfOk};
 ghost use Rattle.std.specs.List.{list_all, list_any};
 ghost use Rattle.nim_template.specs.Again.{HoldAgain};
+ghost use Rattle.nim_template.specs.Ascends.{does_ascend};
 ghost use Rattle.nim_template.specs.Built as spec;
 ghost use Rattle.nim_template.specs.Fits.{is_fit};
 ghost use Rattle.nim_template.specs.Walk as walks;
@@ -30,15 +31,35 @@ pub fn build_halves(
     requires many { length template.now.forms ≤ 1024 }
     requires fit { list_all (is_fit objects) template.now.forms ≡ true }
     ensures built { IfOk result (λ built. built ≡ spec.built place.now objects live.now template.now) }
+    ensures ascend { IfOk result (λ built. list_all (does_ascend 0) built.halves ≡ true) }
     ensures again { IfOk result (λ built. HoldAgain (length live.now) objects built) }
+{
+    let template = built(alloc, template, place, objects, live)?;
+    Ok(template)
+}
+
+/// The template, by its definition.
+fn built(
+    alloc: Global,
+    template: &ControllerTemplate,
+    place: &Placement,
+    objects: u16,
+    live: &[bool],
+) -> Result<WorkerTemplate, NoMemory>
+    requires objects { objects ≤ 512 }
+    requires workers { length live.now ≤ 16 }
+    requires live { list_any (λ flag. flag) live.now ≡ true }
+    requires many { length template.now.forms ≤ 1024 }
+    requires fit { list_all (is_fit objects) template.now.forms ≡ true }
+    ensures { IfOk result (λ made. made ≡ spec.built place.now objects live.now template.now) }
 {
     let forms = template.forms.as_slice();
     let homes = homes_of(alloc, forms, place, objects, live)?;
     let walk = walked(alloc, forms, place, objects, live)?;
     let workers = live.len() as u16;
     let slots = all_slots(alloc, workers, objects)?;
-    let built = template_of(alloc, template, workers, slots, walk, homes)?;
-    Ok(built)
+    let made = template_of(alloc, template, workers, slots, walk, homes)?;
+    Ok(made)
 }
 
 /// The homes of a block's tasks.

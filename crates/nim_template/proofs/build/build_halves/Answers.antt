@@ -1,23 +1,18 @@
-use Rattle.std.proofs.Common.{length, rules, sym, subst}
+use Rattle.std.proofs.Common.{ap, length, subst, sym, ◌∙◌}
+use Rattle.std.specs.List.{list_all}
+use Rattle.nim_command.specs.declared.template.WorkerTemplate.{WorkerTemplate}
 use Rattle.nim_template.specs.Again.{HoldAgain}
+use Rattle.nim_template.specs.Ascends.{does_ascend}
 use Rattle.nim_template.proofs.Again.{built_again}
-use Rattle.nim_template.proofs.Forms.{built_is}
+use Rattle.nim_template.proofs.Numbers.{built_ascend}
 use Rattle.nim_template.proofs.build.build_halves.Goals as goal
 
-pub returns-clause-built : goal.returns-clause-built
-returns-clause-built c =
-    built_is c.args.place.now c.args.objects c.args.live.now c.args.template.now c.in_ok-homes.homes.items c.in_ok-slots.slots.items c.in_ok-walk.walk
-    c.in_ok-built.built
-    (search (rules, c.in_ok-homes.ensures, c.as_slice-forms.ensures))
-    (search (rules, c.in_ok-walk.ensures, c.as_slice-forms.ensures))
-    c.in_ok-slots.ensures c.in_ok-built.ensures
+pub returns-clause-ascend : goal.returns-clause-ascend
+returns-clause-ascend c =
+    ap (λ (t : WorkerTemplate). list_all (does_ascend 0) t.halves) c.in_ok-template.ensures
+    ∙ built_ascend c.args.place.now c.args.objects c.args.live.now c.args.template.now c.requires.workers c.requires.objects c.requires.many c.requires.fit
 
 pub returns-clause-again : goal.returns-clause-again
 returns-clause-again c =
-    let same = built_is c.args.place.now c.args.objects c.args.live.now c.args.template.now c.in_ok-homes.homes.items c.in_ok-slots.slots.items c.in_ok-walk.walk
-    c.in_ok-built.built
-    (search (rules, c.in_ok-homes.ensures, c.as_slice-forms.ensures))
-    (search (rules, c.in_ok-walk.ensures, c.as_slice-forms.ensures))
-    c.in_ok-slots.ensures c.in_ok-built.ensures in
-    subst (HoldAgain (length c.args.live.now) c.args.objects) (sym same)
+    subst (HoldAgain (length c.args.live.now) c.args.objects) (sym c.in_ok-template.ensures)
     (built_again c.args.place.now c.args.objects c.args.live.now c.args.template.now c.requires.live c.requires.many)
