@@ -147,3 +147,24 @@ moves_indexed versions owner past (next ∷ reads) high room =
           → AreIndexed (length past) high (moved_first (length past) next o (moves versions owner (past ++ next ∷ []) reads))
       either None rest = indexed_lower (length past) (length past + 1) high (moves versions owner (past ++ next ∷ []) reads) (omega arith) rest
       either (Some from) rest = (omega arith, omega (arith, room), rest)
+
+-- the owner lacks what moves
+abbrev pub AreLacking : Versions → Worker → List Moved → Type 0
+AreLacking versions owner [] = Unit {0}
+AreLacking versions owner (m ∷ ms) = (is_current versions m.object owner ≡ false) × AreLacking versions owner ms
+
+pub moves_lacking : (versions : Versions) (owner : Worker) (past reads : List Object) → AreLacking versions owner (moves versions owner past reads)
+moves_lacking versions owner past [] = tt
+moves_lacking versions owner past (next ∷ reads) =
+    either (is_one_of past next) (is_current versions next owner) refl (moves_lacking versions owner (past ++ next ∷ []) reads) where
+      first : (o : Option Worker) → is_current versions next owner ≡ false → AreLacking versions owner (moves versions owner (past ++ next ∷ []) reads)
+          → AreLacking versions owner (moved_first (length past) next o (moves versions owner (past ++ next ∷ []) reads))
+      first None lacks rest = rest
+      first (Some from) lacks rest = (lacks, rest)
+
+      either : (a b : Bool) → is_current versions next owner ≡ b → AreLacking versions owner (moves versions owner (past ++ next ∷ []) reads)
+          → AreLacking versions owner
+          (moved_first (length past) next (if a || b then None else holder versions next) (moves versions owner (past ++ next ∷ []) reads))
+      either true b is rest = rest
+      either false true is rest = rest
+      either false false is rest = first (holder versions next) is rest

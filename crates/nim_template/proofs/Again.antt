@@ -100,7 +100,7 @@ all_again most workers objects base offsets versions after (need ∷ needs) kept
 
 -- ---- the walk
 
-replicate_or : {X : Type 0} (n i : ℕ) (x : X) → slice_index_or (replicate n x) i x ≡ x
+pub replicate_or : {X : Type 0} (n i : ℕ) (x : X) → slice_index_or (replicate n x) i x ≡ x
 replicate_or zero i x = refl
 replicate_or (suc n) zero x = refl
 replicate_or (suc n) (suc i) x = replicate_or n i x
@@ -113,13 +113,13 @@ unheld : (b : Bool) (o : Option ℕ) → o ≡ None → (if b then o else None) 
 unheld true o is = is
 unheld false o is = refl
 
-nothing_held : (workers objects : ℕ) (worker : Worker) (object : Object) → held_at (no_versions workers objects) worker (main_slot object) ≡ None
+pub nothing_held : (workers objects : ℕ) (worker : Worker) (object : Object) → held_at (no_versions workers objects) worker (main_slot object) ≡ None
 nothing_held workers objects worker object =
     let place : ℕ = place_of (no_versions workers objects) worker (main_slot object) in
     unheld (is_kept (no_versions workers objects) worker (main_slot object)) (slice_index_or (replicate (objects * workers) None) place None)
     (replicate_or (objects * workers) place None)
 
-start_walked : (workers objects : ℕ) → IsWalked 0 (start workers objects)
+pub start_walked : (workers objects : ℕ) → IsWalked 0 (start workers objects)
 start_walked workers objects =
     let whole : IsWhole (no_versions workers objects) = record {
       slots = length_replicate (objects * workers) None;
@@ -139,7 +139,7 @@ start_walked workers objects =
       some = λ worker object below there has. absurd (false≢true (sym (ap (λ (o : Option ℕ). is_some o) (nothing_held workers objects worker object)) ∙ has));
     }
 
-home_within : (place : Placement) (live : List Bool) → list_any (λ (flag : Bool). flag) live ≡ true → (objects : ℕ) (form : TaskForm)
+pub home_within : (place : Placement) (live : List Bool) → list_any (λ (flag : Bool). flag) live ≡ true → (objects : ℕ) (form : TaskForm)
     → (home_of place objects live form).0 < length live
 home_within place live some objects form = either (slice_get form.writes 0) where
   first : live_ahead live 0 < length live
@@ -155,7 +155,7 @@ home_within place live some objects form = either (slice_get form.writes 0) wher
   either None = omega (arith, first)
   either (Some object) = within (preferred place object.0 objects (length live))
 
-needs_are : (most : ℕ) (walk : Walk) (slots : List (Worker × Object)) → IsWalked most walk → AreNeeds walk.offsets (needs_of walk.needed slots)
+pub needs_are : (most : ℕ) (walk : Walk) (slots : List (Worker × Object)) → IsWalked most walk → AreNeeds walk.offsets (needs_of walk.needed slots)
 needs_are most walk [] is = tt
 needs_are most walk (slot ∷ slots) is = either (is_current walk.needed slot.1 slot.0) refl (needs_are most walk slots is) where
   either : (b : Bool) → is_current walk.needed slot.1 slot.0 ≡ b → AreNeeds walk.offsets (needs_of walk.needed slots)

@@ -25,7 +25,7 @@ counted base offset = counted_from base (offset_for offset)
 
 -- ---- all slots are there
 
-abbrev is_slot : Worker × Object → Worker × Object → Bool
+abbrev pub is_slot : Worker × Object → Worker × Object → Bool
 is_slot need slot = (slot.0.0 == need.0.0) && (slot.1.0 == need.1.0)
 
 any_map : {Y : Type 0} (q : Y → Bool) (g : ℕ → Y) (from n k : ℕ) → from ≤ k → k < from + n → q (g k) ≡ true

@@ -37,7 +37,7 @@ use Rattle.nim_template.proofs.Fits.{few_reads}
 -- ---- lists of entries
 
 -- entries ascend between two numbers
-abbrev Between : ℕ → ℕ → List Entry → Type 0
+abbrev pub Between : ℕ → ℕ → List Entry → Type 0
 Between low high [] = low ≤ high
 Between low high (entry ∷ entries) = (low ≤ entry.id) × Between (entry.id + 1) high entries
 
@@ -59,7 +59,7 @@ ruled_ascend low past [] = refl
 ruled_ascend low past (entry ∷ entries) =
     ap (λ (b : Bool). nat_le low entry.id && b) (ruled_ascend (entry.id + 1) (past ++ entry_footprint entry ∷ []) entries)
 
-for_append : (worker : Worker) (xs ys : List (Worker × Entry)) → entries_for worker (xs ++ ys) ≡ entries_for worker xs ++ entries_for worker ys
+pub for_append : (worker : Worker) (xs ys : List (Worker × Entry)) → entries_for worker (xs ++ ys) ≡ entries_for worker xs ++ entries_for worker ys
 for_append worker xs ys =
     let own : Worker × Entry → Bool = λ e. e.0.0 == worker.0 in
     let entry : Worker × Entry → Entry = λ e. e.1 in
@@ -166,7 +166,7 @@ task_between place live task offsets form worker few short =
 
 -- ---- the walk
 
-need_entries : (worker : Worker) (reads : List Object) (walk : Walk) → (fold (with_need worker) walk reads).entries ≡ walk.entries
+pub need_entries : (worker : Worker) (reads : List Object) (walk : Walk) → (fold (with_need worker) walk reads).entries ≡ walk.entries
 need_entries worker [] walk = refl
 need_entries worker (object ∷ reads) walk =
     need_entries worker reads (with_need worker walk object) ∙ either (latest_of walk.offsets object == 0) where
@@ -177,7 +177,7 @@ need_entries worker (object ∷ reads) walk =
       either true = refl
       either false = refl
 
-walk_between : (place : Placement) (live : List Bool) (objects : ℕ) (worker : Worker) (number : ℕ) (walk : Walk) (forms : List TaskForm)
+pub walk_between : (place : Placement) (live : List Bool) (objects : ℕ) (worker : Worker) (number : ℕ) (walk : Walk) (forms : List TaskForm)
     → number + length forms ≤ 1024 → list_all (is_fit objects) forms ≡ true → Between 0 (64 * number) (entries_for worker walk.entries)
     → Between 0 (64 * (number + length forms)) (entries_for worker (walked place live number walk forms).entries)
 walk_between place live objects worker number walk [] few fit are =
@@ -203,7 +203,7 @@ walk_between place live objects worker number walk (form ∷ forms) few fit are 
 -- ---- closing copies
 
 -- none goes from a worker to itself
-abbrev AreApart : List Closing → Type 0
+abbrev pub AreApart : List Closing → Type 0
 AreApart [] = Unit {0}
 AreApart (c ∷ cs) = (c.from.0 ≡ c.to.0 → ⊥) × AreApart cs
 
@@ -215,7 +215,7 @@ from_apart offsets need from found same = either (is_current offsets need.1 need
       let facts = holder_facts offsets need.1 0 offsets.workers from found in
       false≢true (sym is ∙ ap (λ (n : ℕ). is_current offsets need.1 (record { 0 = n })) (sym same) ∙ facts.1)
 
-closings_apart : (offsets : Versions) (needs : List (Worker × Object)) → AreApart (closings offsets needs)
+pub closings_apart : (offsets : Versions) (needs : List (Worker × Object)) → AreApart (closings offsets needs)
 closings_apart offsets [] = tt
 closings_apart offsets (need ∷ needs) = either (closing_from offsets need) refl (closings_apart (closed_for offsets need) needs) where
   either : (o : Option Worker) → closing_from offsets need ≡ o → AreApart (closings (closed_for offsets need) needs)
@@ -223,7 +223,7 @@ closings_apart offsets (need ∷ needs) = either (closing_from offsets need) ref
   either None is rest = rest
   either (Some from) is rest = (from_apart offsets need from is, rest)
 
-closings_few : (offsets : Versions) (needs : List (Worker × Object)) → length (closings offsets needs) ≤ length needs
+pub closings_few : (offsets : Versions) (needs : List (Worker × Object)) → length (closings offsets needs) ≤ length needs
 closings_few offsets [] = omega arith
 closings_few offsets (need ∷ needs) = either (closing_from offsets need) (closings_few (closed_for offsets need) needs) where
   either : (o : Option Worker) → length (closings (closed_for offsets need) needs) ≤ length needs
@@ -231,7 +231,7 @@ closings_few offsets (need ∷ needs) = either (closing_from offsets need) (clos
   either None rest = omega (arith, rest)
   either (Some from) rest = omega (arith, rest)
 
-closing_between : (worker : Worker) (copy : ℕ) (cs : List Closing) → AreApart cs → copy + length cs ≤ 2 ^ 16
+pub closing_between : (worker : Worker) (copy : ℕ) (cs : List Closing) → AreApart cs → copy + length cs ≤ 2 ^ 16
     → Between (65536 + copy) (65536 + copy + length cs) (entries_for worker (closing_entries copy cs))
 closing_between worker copy [] are few = omega arith
 closing_between worker copy (c ∷ cs) are few =
@@ -260,14 +260,14 @@ closing_between worker copy (c ∷ cs) are few =
 
 -- ---- the template
 
-filter_few : {X : Type 0} (p : X → Bool) (xs : List X) → length (filter p xs) ≤ length xs
+pub filter_few : {X : Type 0} (p : X → Bool) (xs : List X) → length (filter p xs) ≤ length xs
 filter_few p [] = omega arith
 filter_few {X} p (x ∷ xs) = either (p x) (filter_few p xs) where
   either : (b : Bool) → length (filter p xs) ≤ length xs → length (if b then x ∷ filter p xs else filter p xs) ≤ length (x ∷ xs)
   either true rest = omega (arith, rest)
   either false rest = omega (arith, rest)
 
-slots_long : (objects from n : ℕ) → length (flat_map (λ (number : ℕ). slots_of (record { 0 = number }) objects) (range_with_len from n)) ≡ n * objects
+pub slots_long : (objects from n : ℕ) → length (flat_map (λ (number : ℕ). slots_of (record { 0 = number }) objects) (range_with_len from n)) ≡ n * objects
 slots_long objects from zero = omega arith
 slots_long objects from (suc n) =
     let first : List (Worker × Object) = slots_of (record { 0 = from }) objects in

@@ -73,7 +73,7 @@ pub after_none : (most : ℕ) (a : Versions) → IsKept most a → IsAfter most 
 after_none most a kept = record { kept = kept; workers = refl; objects = refl; some = λ worker object below there has. has }
 
 -- the latest offset of no object is above the most
-latest_within : (most : ℕ) (offsets : Versions) (object : Object) → IsKept most offsets → latest_of offsets object ≤ most
+pub latest_within : (most : ℕ) (offsets : Versions) (object : Object) → IsKept most offsets → latest_of offsets object ≤ most
 latest_within most offsets object kept = either (nat_lt object.0 offsets.objects) refl where
   either : (b : Bool) → nat_lt object.0 offsets.objects ≡ b → latest_of offsets object ≤ most
   either true is = kept.latest object (ltb-true object.0 offsets.objects is)
@@ -101,7 +101,7 @@ pub record AreCopies (most : ℕ) (base before after : Versions) : Type 0 where
   pub is_after : IsAfter most before after
   pub latest : (object : Object) → object.0 < before.objects → latest_of after object ≡ latest_of base object
 
-copies_kept : (most : ℕ) (base offsets : Versions) (number : ℕ) (owner : Worker) (ms : List _) → IsKept most offsets → owner.0 < offsets.workers
+pub copies_kept : (most : ℕ) (base offsets : Versions) (number : ℕ) (owner : Worker) (ms : List _) → IsKept most offsets → owner.0 < offsets.workers
     → ((object : Object) → latest_of base object ≤ most)
     → ((object : Object) → object.0 < offsets.objects → latest_of offsets object ≡ latest_of base object)
     → AreCopies most base offsets (after_commands offsets (copies_of base number owner ms))
@@ -161,7 +161,7 @@ both_any : (b : Bool) (first second new other : Option ℕ) → new ≡ (if b th
 both_any true first second new other is also before some = ap (λ (o : Option ℕ). is_some o) also
 both_any false first second new other is also before some = ap (λ (o : Option ℕ). is_some o) also ∙ before (sym (ap (λ (o : Option ℕ). is_some o) is) ∙ some)
 
-need_walked : (most : ℕ) (worker : Worker) (walk : Walk) (object : Object) → IsWalked most walk → worker.0 < walk.offsets.workers
+pub need_walked : (most : ℕ) (worker : Worker) (walk : Walk) (object : Object) → IsWalked most walk → worker.0 < walk.offsets.workers
     → IsWalked most (with_need worker walk object)
 need_walked most worker walk object is below = either (latest_of walk.offsets object == 0) refl where
   put : IsPut walk.needed worker 0 (main_slot object ∷ []) (with_offset worker object 0 walk.needed)
@@ -200,7 +200,7 @@ need_walked most worker walk object is below = either (latest_of walk.offsets ob
       }
   either false none = is
 
-needs_walked : (most : ℕ) (worker : Worker) (reads : List Object) (walk : Walk) → IsWalked most walk → worker.0 < walk.offsets.workers
+pub needs_walked : (most : ℕ) (worker : Worker) (reads : List Object) (walk : Walk) → IsWalked most walk → worker.0 < walk.offsets.workers
     → IsWalked most (fold (with_need worker) walk reads)
 needs_walked most worker [] walk is below = is
 needs_walked most worker (object ∷ reads) walk is below =
@@ -209,7 +209,7 @@ needs_walked most worker (object ∷ reads) walk is below =
 
 -- ---- the walk
 
-form_walked : (number : ℕ) (place : Placement) (live : List Bool) (walk : Walk) (form : TaskForm) → IsWalked number walk
+pub form_walked : (number : ℕ) (place : Placement) (live : List Bool) (walk : Walk) (form : TaskForm) → IsWalked number walk
     → ((objects : ℕ) (f : TaskForm) → (home_of place objects live f).0 < walk.offsets.workers) → number + 1 < 2 ^ 64
     → IsWalked (number + 1) (after_form place live number walk form)
 form_walked number place live walk form is homes room =

@@ -3,4 +3,5 @@ pub mod Ascends
 pub mod Built
 pub mod Closing
 pub mod Fits
+pub mod Tasks
 pub mod Walk

@@ -4,6 +4,7 @@ ghost use Rattle.nim_template.specs.Again.{HoldAgain};
 ghost use Rattle.nim_template.specs.Ascends.{does_ascend};
 ghost use Rattle.nim_template.specs.Built as spec;
 ghost use Rattle.nim_template.specs.Fits.{is_fit};
+ghost use Rattle.nim_template.specs.Tasks.{DoTasks};
 ghost use Rattle.nim_template.specs.Walk as walks;
 
 use crate::ControllerTemplate;
@@ -32,6 +33,7 @@ pub fn build_halves(
     requires fit { list_all (is_fit objects) template.now.forms ≡ true }
     ensures built { IfOk result (λ built. built ≡ spec.built place.now objects live.now template.now) }
     ensures ascend { IfOk result (λ built. list_all (does_ascend 0) built.halves ≡ true) }
+    ensures tasks { IfOk result (λ built. DoTasks place.now live.now objects built) }
     ensures again { IfOk result (λ built. HoldAgain (length live.now) objects built) }
 {
     let template = built(alloc, template, place, objects, live)?;

@@ -4,6 +4,8 @@ use Rattle.nim_command.specs.declared.template.WorkerTemplate.{WorkerTemplate}
 use Rattle.nim_template.specs.Again.{HoldAgain}
 use Rattle.nim_template.specs.Ascends.{does_ascend}
 use Rattle.nim_template.proofs.Again.{built_again}
+use Rattle.nim_template.specs.Tasks.{DoTasks}
+use Rattle.nim_template.proofs.Halves.{built_tasks}
 use Rattle.nim_template.proofs.Numbers.{built_ascend}
 use Rattle.nim_template.proofs.build.build_halves.Goals as goal
 
@@ -16,3 +18,8 @@ pub returns-clause-again : goal.returns-clause-again
 returns-clause-again c =
     subst (HoldAgain (length c.args.live.now) c.args.objects) (sym c.in_ok-template.ensures)
     (built_again c.args.place.now c.args.objects c.args.live.now c.args.template.now c.requires.live c.requires.many)
+
+pub returns-clause-tasks : goal.returns-clause-tasks
+returns-clause-tasks c =
+    subst (DoTasks c.args.place.now c.args.live.now c.args.objects) (sym c.in_ok-template.ensures)
+    (built_tasks c.args.place.now c.args.objects c.args.live.now c.args.template.now c.requires.live c.requires.workers c.requires.objects c.requires.many c.requires.fit)
