@@ -1,5 +1,6 @@
 -- What a block needs at entry holds again behind its effect.
-use Rattle.std.proofs.Common.{◌≡◌, ℕ, zero, suc, ◌+◌, ◌<◌, ◌≤◌, Bool, true, false, List, [], ◌∷◌, length, refl, ap, ap₂, sym, ◌∙◌, arith, Option, None, Some, inl}
+use Rattle.std.proofs.Common.{◌≡◌, ℕ, zero, suc, ◌+◌, ◌<◌, ◌≤◌, Bool, true, false, List, [], ◌∷◌, length, refl, ap, ap₂, sym, ◌∙◌, arith, Option, None, Some}
+use Rattle.std.proofs.Common.{inl}
 use Rattle.std.specs.Prelude.{◌*◌, ◌==◌, ◌&&◌, if◌then◌else◌, nat_lt, replicate, slice_get, slice_index_or}
 use Rattle.std.specs.List.{fold, list_any}
 use Rattle.std.specs.Option.{is_some, option_map_or}

@@ -97,7 +97,8 @@ alike_put base entry offsets versions worker offset version slots alike whole at
       objects = also.objects ∙ alike.objects ∙ sym put.objects;
       latest = λ object there.
           let inside : object.0 < offsets.objects = omega (arith, put.objects, there) in
-          latest_alike base (latest_of entry object) offset (latest_of offsets object) (latest_of now object) (latest_of versions object) (latest_of after object)
+          latest_alike base (latest_of entry object) offset (latest_of offsets object) (latest_of now object) (latest_of versions object)
+          (latest_of after object)
           (is_among slots (main_slot object)) (put.latest object inside)
           (also.latest object (omega (arith, alike.objects, inside))
           ∙ ap (λ (v : ℕ). if is_among slots (main_slot object) then max (latest_of versions object) v else latest_of versions object) version_is)
@@ -160,7 +161,8 @@ alike_need base most entry offsets versions worker object alike kept below there
     let slots : List Slot = main_slot object ∷ [] in
     let now : Versions = with_offset worker object 0 offsets in
     let put : IsPut offsets worker 0 slots now = put_all offsets worker 0 slots kept.whole below in
-    let here = needed_there base most entry offsets versions worker object alike kept below there none current (held_at offsets worker (main_slot object)) refl in
+    let here = needed_there base most entry offsets versions worker object alike kept below there none current (held_at offsets worker
+    (main_slot object)) refl in
     record {
       whole = alike.whole;
       workers = alike.workers ∙ sym put.workers;

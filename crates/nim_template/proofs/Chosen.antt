@@ -1,5 +1,6 @@
 -- Single scheduling chooses the same in a map of versions as in a map of offsets that it is like.
-use Rattle.std.proofs.Common.{◌≡◌, ℕ, ◌+◌, ◌<◌, ◌≤◌, Bool, true, false, List, [], ◌∷◌, ◌++◌, length, map, refl, ap, ap₂, sym, subst, ◌∙◌, arith, Option, None, Some}
+use Rattle.std.proofs.Common.{◌≡◌, ℕ, ◌+◌, ◌<◌, ◌≤◌, Bool, true, false, List, [], ◌∷◌, ◌++◌, length, map, refl, ap, ap₂, sym, subst, ◌∙◌, arith, Option}
+use Rattle.std.proofs.Common.{None, Some}
 use Rattle.std.specs.Prelude.{◌^◌, ◌==◌, ◌||◌, if◌then◌else◌, ℤ}
 use Rattle.std.specs.List.{flat_map}
 use Rattle.std.proofs.lemmas.Bool.{eq-eqb, eqb-true, false≢true}
@@ -143,19 +144,31 @@ task_same base most entry offsets versions place live args task form alike kept 
     let own : Worker → List (Worker × Command) = λ w. copies_of versions task w (moves versions w [] form.reads)
     ++ (w, run_of (task_with args form) task (counted_from base task) (moves versions w [] form.reads)) ∷ [] in
     let chosen : moves versions owner [] form.reads ≡ ms =
-    moves_same versions offsets owner [] form.reads (ready_same base most entry offsets versions owner form.reads alike kept at ready (omega (arith, few, room))) in
+    moves_same versions offsets owner [] form.reads (ready_same base most entry offsets versions owner form.reads alike kept at ready (omega
+    (arith, few, room))) in
     let copies : map (command_at base args) (flat_map (entry_for form) (copies_of offsets task owner ms)) ≡ map plain (copies_of versions task owner ms) =
     copies_same base most entry offsets versions args form task owner ms alike kept ready few room (moves_facts offsets owner form.reads)
     (moves_lacking offsets owner [] form.reads) in
     let run : Worker × Command = (owner, run_of (task_for form) task task ms) in
-    let runs : ℕ → List (Worker × Command) = λ t.
-    (owner, record { id = entry_number task 4 0; kind = Kind.Run (counted_from base t) form.func (map (param_with args) form.params) (map main_slot form.reads) (map main_slot form.writes); before = [] }) ∷ [] in
+    let runs : ℕ → List (Worker × Command) = λ t. (
+      owner,
+      record {
+        id = entry_number task 4 0;
+        kind = Kind.Run (counted_from base t) form.func (map (param_with args) form.params)
+            (map main_slot form.reads) (map main_slot form.writes);
+        before = [];
+      },
+    ) ∷ [] in
     let last : List (Worker × Command) = (owner, run_of (task_with args form) task (counted_from base task) ms) ∷ [] in
     ap (map (command_at base args)) (flat_map-append (entry_for form) (copies_of offsets task owner ms) (run ∷ []))
     ∙ map-append (command_at base args) (flat_map (entry_for form) (copies_of offsets task owner ms)) (flat_map (entry_for form) (run ∷ []))
     ∙ ap₂ (λ (xs ys : List (Worker × Command)). xs ++ ys) copies (ap runs (run_task task small))
     ∙ sym (map-append plain (copies_of versions task owner ms) last)
-    ∙ sym (ap (λ (x : List _). map plain (copies_of versions task owner x ++ (owner, run_of (task_with args form) task (counted_from base task) x) ∷ [])) chosen)
+    ∙ sym (ap (λ (x : List _). map plain (copies_of versions task owner x ++ (
+      owner,
+      run_of (task_with args form) task
+          (counted_from base task) x,
+    ) ∷ [])) chosen)
     ∙ sym (ap (λ (n : ℕ). map plain (own (home_of place n live form))) alike.objects)
 
 -- ---- what they leave

@@ -36,7 +36,8 @@ found_from offsets object worker from (suc more) current above below =
       either false is later = later (λ same. false≢true (sym is ∙ ap (λ (n : ℕ). is_current offsets object (record { 0 = n })) same ∙ current))
 
 -- some worker has the latest offset of what some worker has
-holder_there : (most : ℕ) (offsets : Versions) (worker : Worker) (object : Object) → IsKept most offsets → worker.0 < offsets.workers → object.0 < offsets.objects
+holder_there : (most : ℕ) (offsets : Versions) (worker : Worker) (object : Object) → IsKept most offsets → worker.0 < offsets.workers
+    → object.0 < offsets.objects
     → has_any offsets worker object ≡ true → is_some (holder offsets object) ≡ true
 holder_there most offsets worker object kept below there some =
     elim (kept.there object there) [
@@ -67,7 +68,8 @@ closed_then most a b c first second = record {
   is_after = after_then most a b c second.is_after most first.is_after;
   latest = λ object there. second.latest object (omega (arith, first.is_after.objects, there)) ∙ first.latest object there;
   stays = λ worker object below there is.
-      second.stays worker object (omega (arith, first.is_after.workers, below)) (omega (arith, first.is_after.objects, there)) (first.stays worker object below there is);
+      second.stays worker object (omega (arith, first.is_after.workers, below)) (omega (arith, first.is_after.objects, there))
+      (first.stays worker object below there is);
 }
 
 kept_latest : (b c : Bool) (old new : Option ℕ) (offset latest : ℕ) → new ≡ (if b && c then Some offset else old) → old ≡ Some latest
@@ -131,7 +133,8 @@ abbrev pub AreCurrent : Versions → List (Worker × Object) → Type 0
 AreCurrent offsets [] = Unit {0}
 AreCurrent offsets (need ∷ needs) = (is_current offsets need.1 need.0 ≡ true) × AreCurrent offsets needs
 
-pub needs_after : (most : ℕ) (before after : Versions) (needs : List (Worker × Object)) → IsAfter most before after → AreNeeds before needs → AreNeeds after needs
+pub needs_after : (most : ℕ) (before after : Versions) (needs : List (Worker × Object)) → IsAfter most before after → AreNeeds before needs
+    → AreNeeds after needs
 needs_after most before after [] is are = tt
 needs_after most before after (need ∷ needs) is are =
     (omega (arith, is.workers, are.0), omega (arith, is.objects, are.1), is.some need.0 need.1 are.0 are.1 are.2, needs_after most before after needs is are.3)
@@ -151,5 +154,9 @@ closes most offsets (need ∷ needs) kept are =
     closes most next needs first.closed.is_after.kept (needs_after most offsets next needs first.closed.is_after are.3) in
     record {
       closed = closed_then most offsets next (closed next needs) first.closed rest.closed;
-      current = (rest.closed.stays need.0 need.1 (omega (arith, first.closed.is_after.workers, are.0)) (omega (arith, first.closed.is_after.objects, are.1)) first.current, rest.current);
+      current = (
+        rest.closed.stays need.0 need.1 (omega (arith, first.closed.is_after.workers, are.0)) (omega
+            (arith, first.closed.is_after.objects, are.1)) first.current,
+        rest.current,
+      );
     }

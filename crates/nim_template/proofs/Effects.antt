@@ -1,5 +1,6 @@
 -- What an effect leaves, slot by slot: what is current in the offsets is current in the versions.
-use Rattle.std.proofs.Common.{◌≡◌, ℕ, zero, suc, ◌+◌, ◌<◌, ◌≤◌, Bool, true, false, List, [], ◌∷◌, map, refl, ap, ap₂, sym, subst, ◌∙◌, arith, Option, None, Some}
+use Rattle.std.proofs.Common.{◌≡◌, ℕ, zero, suc, ◌+◌, ◌<◌, ◌≤◌, Bool, true, false, List, [], ◌∷◌, map, refl, ap, ap₂, sym, subst, ◌∙◌, arith, Option, None}
+use Rattle.std.proofs.Common.{Some}
 use Rattle.std.specs.Prelude.{◌==◌, ◌&&◌, ◌||◌, if◌then◌else◌, max, slice_index_or}
 use Rattle.std.specs.List.{flat_map, fold, list_any, range_with_len}
 use Rattle.std.specs.Option.{is_some}
@@ -97,7 +98,8 @@ kept_at versions slot (Some offset) = either (offset == 0) refl where
   either : (b : Bool) → (offset == 0) ≡ b → fold with_kept versions (if b then [] else (slot.0, main_slot slot.1, offset_for offset) ∷ []) ≡ versions
   either true is = refl
   either false is =
-      ap (λ (b : Bool). if b then with_version slot.0 (slice_index_or versions.latest slot.1.0 0) versions (main_slot slot.1) else versions) (still_more offset is)
+      ap (λ (b : Bool). if b then with_version slot.0 (slice_index_or versions.latest slot.1.0 0) versions (main_slot slot.1) else versions)
+      (still_more offset is)
 
 -- nothing is kept from before the block
 pub kept_none : (offsets versions : Versions) (slots : List (Worker × Object)) → fold with_kept versions (effect_of offsets slots) ≡ versions
@@ -200,7 +202,8 @@ pub done_stays : (offsets : Versions) (base : ℕ) (need : Worker × Object) (to
 done_stays offsets base need top target [] versions are done = done
 done_stays offsets base need top target (slot ∷ slots) versions are done =
     subst (λ (v : Versions). IsDone v need top) (sym (fold-append (with_written base) versions (effect_here offsets slot) (effect_of offsets slots)))
-    (written_at (λ (v : Versions). IsDone (fold (with_written base) v (effect_of offsets slots)) need top) base versions slot (held_at offsets slot.0 (main_slot slot.1))
+    (written_at (λ (v : Versions). IsDone (fold (with_written base) v (effect_of offsets slots)) need top) base versions slot (held_at offsets slot.0
+    (main_slot slot.1))
     (done_stays offsets base need top target slots versions are done)
     (λ offset is more.
     let after : Versions = with_version slot.0 (counted base offset) versions (main_slot slot.1) in
@@ -234,7 +237,8 @@ put_at : (P : Versions → Type 0) (base : ℕ) (versions : Versions) (slot : Wo
 put_at P base versions slot o offset is more put =
     subst (λ (x : Option ℕ). P (fold (with_written base) versions (effect_at slot x))) (sym is)
     (subst (λ (b : Bool). P (fold (with_written base) versions (if b then [] else (slot.0, main_slot slot.1, offset_for offset) ∷ []))) (sym more)
-    (subst (λ (b : Bool). P (if b then versions else with_version slot.0 (counted base offset) versions (main_slot slot.1))) (sym (still_more offset more)) put))
+    (subst (λ (b : Bool). P (if b then versions else with_version slot.0 (counted base offset) versions (main_slot slot.1))) (sym
+    (still_more offset more)) put))
 
 -- what the effect has comes
 pub done_comes : (offsets : Versions) (base : ℕ) (need : Worker × Object) (top offset : ℕ) → IsTarget offsets base need top

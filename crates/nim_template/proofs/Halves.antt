@@ -58,7 +58,8 @@ for_commands : (base : ℕ) (args : List ℤ) (worker : Worker) (entries : List 
 for_commands base args worker [] = refl
 for_commands base args worker (e ∷ entries) = either (e.0.0 == worker.0) (for_commands base args worker entries) where
   either : (b : Bool) → map (bare base args) (entries_for worker entries) ≡ commands_for worker (map (command_at base args) entries)
-      → map (bare base args) (map (λ (x : Worker × Entry). x.1) (if b then e ∷ filter (λ (x : Worker × Entry). x.0.0 == worker.0) entries else filter (λ (x : Worker × Entry). x.0.0 == worker.0) entries))
+      → map (bare base args) (map (λ (x : Worker × Entry). x.1) (if b then e ∷ filter (λ (x : Worker × Entry). x.0.0 == worker.0) entries else filter (λ
+      (x : Worker × Entry). x.0.0 == worker.0) entries))
       ≡ map (λ (c : Worker × Command). c.1)
       (if b
       then command_at base args e ∷ filter (λ (c : Worker × Command). c.0.0 == worker.0) (map (command_at base args) entries)
@@ -66,7 +67,8 @@ for_commands base args worker (e ∷ entries) = either (e.0.0 == worker.0) (for_
   either true rest = ap (λ (cs : List Command). bare base args e.1 ∷ cs) rest
   either false rest = rest
 
-for_plain : (worker : Worker) (commands : List (Worker × Command)) → commands_for worker (map plain commands) ≡ map without_before (commands_for worker commands)
+for_plain : (worker : Worker) (commands : List (Worker × Command)) → commands_for worker (map plain commands) ≡ map without_before
+    (commands_for worker commands)
 for_plain worker [] = refl
 for_plain worker (c ∷ commands) = either (c.0.0 == worker.0) (for_plain worker commands) where
   either : (b : Bool) → commands_for worker (map plain commands) ≡ map without_before (commands_for worker commands)
@@ -112,7 +114,12 @@ need_zero most owner walk object is below kept = either (latest_of walk.offsets 
   either : (b : Bool)
       → IsKept 0
       (if b
-      then (let next : Walk = record { offsets = with_offset owner object 0 walk.offsets; needed = with_offset owner object 0 walk.needed; entries = walk.entries } in next)
+      then (let next : Walk = record {
+        offsets = with_offset owner object 0 walk.offsets;
+        needed = with_offset owner object 0 walk.needed;
+        entries =
+            walk.entries;
+      } in next)
       else walk).needed
   either true =
       kept_put 0 0 walk.needed owner 0 (main_slot object ∷ []) kept (omega (arith, is.workers, below)) (omega arith) (omega arith)
@@ -200,13 +207,17 @@ built_tasks place objects live template some workers_few objects_few few fit bas
     let closed_few : length copies ≤ length needs = closings_few walk.offsets needs in
     let begins : IsWalked 0 (start workers objects) = start_walked workers objects in
     let homes : (n : ℕ) (f : TaskForm) → (home_of place n live f).0 < workers = home_within place live some in
-    let to : IsWalkedTo (0 + length forms) (start workers objects) walk = walk_kept place live 0 (start workers objects) forms begins homes (omega (arith, few)) in
+    let to : IsWalkedTo (0 + length forms) (start workers objects) walk = walk_kept place live 0 (start workers objects) forms begins homes (omega
+    (arith, few)) in
     let zeros : IsKept 0 walk.needed = walk_zero place live 0 (start workers objects) forms begins homes (omega (arith, few)) begins.kept in
-    let current : (w : Worker) (object : Object) → w.0 < workers → object.0 < objects → has_any walk.needed w object ≡ true → is_current versions object w ≡ true =
+    let current : (w : Worker) (object : Object) → w.0 < workers → object.0 < objects → has_any walk.needed w object ≡ true
+    → is_current versions object w ≡ true =
     λ w object w_below inside has.
-    from_all (λ (slot : Worker × Object). is_current walk.needed slot.1 slot.0) (λ (slot : Worker × Object). is_current versions slot.1 slot.0) (w, object) slots now
+    from_all (λ (slot : Worker × Object). is_current walk.needed slot.1 slot.0) (λ (slot : Worker × Object). is_current versions slot.1 slot.0)
+    (w, object) slots now
     (slot_there workers objects (w, object) w_below inside)
-    (zero_current walk.needed w object zeros (omega (arith, to.walked.workers, to.like.workers, w_below)) (omega (arith, to.walked.objects, to.like.objects, inside))
+    (zero_current walk.needed w object zeros (omega (arith, to.walked.workers, to.like.workers, w_below)) (omega
+    (arith, to.walked.objects, to.like.objects, inside))
     (held_at walk.needed w (main_slot object)) refl has) in
     let real : List (Worker × Command) = scheduled_from place live base args 0 versions forms in
     let same : map (command_at base args) walk.entries ≡ map plain real =
@@ -221,7 +232,8 @@ built_tasks place objects live template some workers_few objects_few few fit bas
     let half : slice_index_or (built place objects live template).halves worker.0 [] ≡ half_for worker entries =
     get_or-map-range_with_len (λ (n : ℕ). half_for (record { 0 = n }) entries) 0 workers worker.0 worker.0 [] below (omega arith) in
     ap (λ (es : List Entry). of_tasks (expanded base args [] 0 es)) half
-    ∙ ap (filter is_task) (expanded_bare base args 0 [] (entries_for worker entries) ∙ ap (map (bare base args)) (for_append worker walk.entries (closing_entries 0 copies))
+    ∙ ap (filter is_task) (expanded_bare base args 0 [] (entries_for worker entries)
+    ∙ ap (map (bare base args)) (for_append worker walk.entries (closing_entries 0 copies))
     ∙ map-append (bare base args) own behind)
     ∙ filter-append is_task (map (bare base args) own) (map (bare base args) behind)
     ∙ ap₂ (λ (xs ys : List Command). xs ++ ys) (tasks_kept base args 0 (64 * (0 + length forms)) own tasks (omega (arith, few)))

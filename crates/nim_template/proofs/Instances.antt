@@ -1,5 +1,6 @@
 -- The tasks of a block, one after another: their entries at a base are what single scheduling gives them.
-use Rattle.std.proofs.Common.{◌≡◌, ℕ, ◌+◌, ◌<◌, ◌≤◌, Bool, true, false, List, [], ◌∷◌, ◌++◌, length, map, refl, ap, ap₂, sym, subst, ◌∙◌, arith, Option, None, Some}
+use Rattle.std.proofs.Common.{◌≡◌, ℕ, ◌+◌, ◌<◌, ◌≤◌, Bool, true, false, List, [], ◌∷◌, ◌++◌, length, map, refl, ap, ap₂, sym, subst, ◌∙◌, arith, Option}
+use Rattle.std.proofs.Common.{None, Some}
 use Rattle.std.specs.Prelude.{◌^◌, ◌==◌, ◌&&◌, ◌||◌, if◌then◌else◌, max, ℤ}
 use Rattle.std.specs.List.{flat_map, fold, list_all}
 use Rattle.std.specs.Option.{is_some}
@@ -98,7 +99,12 @@ need_grows most owner walk object is below worker other lower inside has = eithe
   either : (b : Bool)
       → has_any
       (if b
-      then (let next : Walk = record { offsets = with_offset owner object 0 walk.offsets; needed = with_offset owner object 0 walk.needed; entries = walk.entries } in next)
+      then (let next : Walk = record {
+        offsets = with_offset owner object 0 walk.offsets;
+        needed = with_offset owner object 0 walk.needed;
+        entries =
+            walk.entries;
+      } in next)
       else walk).needed worker other ≡ true
   either true =
       any_after walk.needed (with_offset owner object 0 walk.needed) owner 0 (main_slot object ∷ [])
@@ -126,7 +132,12 @@ need_there most owner walk object is below inside none =
       either : (b : Bool) → b ≡ true
           → has_any
           (if b
-          then (let next : Walk = record { offsets = with_offset owner object 0 walk.offsets; needed = with_offset owner object 0 walk.needed; entries = walk.entries } in next)
+          then (let next : Walk = record {
+            offsets = with_offset owner object 0 walk.offsets;
+            needed = with_offset owner object 0 walk.needed;
+            entries =
+                walk.entries;
+          } in next)
           else walk).needed owner object ≡ true
       either true yes_is =
           ap (λ (o : Option ℕ). is_some o)
@@ -149,7 +160,12 @@ need_latest most owner walk object is below other inside = either (latest_of wal
   either : (b : Bool)
       → latest_of
       (if b
-      then (let next : Walk = record { offsets = with_offset owner object 0 walk.offsets; needed = with_offset owner object 0 walk.needed; entries = walk.entries } in next)
+      then (let next : Walk = record {
+        offsets = with_offset owner object 0 walk.offsets;
+        needed = with_offset owner object 0 walk.needed;
+        entries =
+            walk.entries;
+      } in next)
       else walk).offsets other ≡ latest_of walk.offsets other
   either true =
       max_zero (is_among (main_slot object ∷ []) (main_slot other)) (latest_of walk.offsets other) (latest_of (with_offset owner object 0 walk.offsets) other)
@@ -177,9 +193,11 @@ reads_there most owner (first ∷ reads) walk is below object one inside none =
     let within : object.0 < (with_need owner walk first).offsets.objects = omega (arith, like.objects, inside) in
     either (first.0 == object.0) refl one
     (needs_grow most owner reads (with_need owner walk first) next lower owner object lower within)
-    (λ later. reads_there most owner reads (with_need owner walk first) next lower object later within (need_latest most owner walk first is below object inside ∙ none)) where
+    (λ later. reads_there most owner reads (with_need owner walk first) next lower object later within
+    (need_latest most owner walk first is below object inside ∙ none)) where
       either : (b : Bool) → (first.0 == object.0) ≡ b → (b || is_one_of reads object) ≡ true
-          → (has_any (with_need owner walk first).needed owner object ≡ true → has_any (fold (with_need owner) (with_need owner walk first) reads).needed owner object ≡ true)
+          → (has_any (with_need owner walk first).needed owner object ≡ true
+          → has_any (fold (with_need owner) (with_need owner walk first) reads).needed owner object ≡ true)
           → (is_one_of reads object ≡ true → has_any (fold (with_need owner) (with_need owner walk first) reads).needed owner object ≡ true)
           → has_any (fold (with_need owner) (with_need owner walk first) reads).needed owner object ≡ true
       either true same found grow rest =
@@ -195,7 +213,12 @@ need_alike base most entry versions owner walk object alike is below inside curr
   either : (b : Bool) → (latest_of walk.offsets object == 0) ≡ b
       → IsAlike base entry
       (if b
-      then (let next : Walk = record { offsets = with_offset owner object 0 walk.offsets; needed = with_offset owner object 0 walk.needed; entries = walk.entries } in next)
+      then (let next : Walk = record {
+        offsets = with_offset owner object 0 walk.offsets;
+        needed = with_offset owner object 0 walk.needed;
+        entries =
+            walk.entries;
+      } in next)
       else walk).offsets versions
   either true none =
       let zero_is : latest_of walk.offsets object ≡ 0 = eqb-true (latest_of walk.offsets object) 0 none in
@@ -291,7 +314,8 @@ tasks_same place live base args entry number walk versions (form ∷ forms) alik
     let mine : map (command_at base args) next.entries ≡ map (command_at base args) walk.entries ++ map plain commands =
     map-append (command_at base args) ready.entries (flat_map (entry_for form) (scheduled ready.offsets (task_for form) number number place live))
     ∙ ap₂ (λ (es : List (Worker × Entry)) (cs : List (Worker × Command)). map (command_at base args) es ++ cs) (need_entries owner form.reads walk)
-    (task_same base number entry ready.offsets versions place live args number form alike_now now.kept at_ready are_ready (omega (arith, few)) (omega (arith, few)) room) in
+    (task_same base number entry ready.offsets versions place live args number form alike_now now.kept at_ready are_ready (omega (arith, few)) (omega
+    (arith, few)) room) in
     let reached : Versions = after_commands versions commands in
     let rest : map (command_at base args) (walked place live (number + 1) next forms).entries
     ≡ map (command_at base args) next.entries ++ map plain (scheduled_from place live base args (number + 1) reached forms) =

@@ -1,5 +1,6 @@
 -- The numbers of a half ascend: those of a task from 64 times its number on, those of closing copies behind them.
-use Rattle.std.proofs.Common.{◌≡◌, ℕ, zero, suc, ◌+◌, ◌≤◌, Bool, true, false, List, [], ◌∷◌, ◌++◌, length, map, refl, ap, ap₂, sym, subst, ◌∙◌, arith, Option, None, Some}
+use Rattle.std.proofs.Common.{◌≡◌, ℕ, zero, suc, ◌+◌, ◌≤◌, Bool, true, false, List, [], ◌∷◌, ◌++◌, length, map, refl, ap, ap₂, sym, subst, ◌∙◌, arith}
+use Rattle.std.proofs.Common.{Option, None, Some}
 use Rattle.std.specs.Prelude.{◌*◌, ◌^◌, ◌==◌, ◌&&◌, nat_le, if◌then◌else◌}
 use Rattle.std.specs.List.{filter, flat_map, fold, list_all, range_with_len}
 use Rattle.std.specs.Option.{is_some}
@@ -71,7 +72,8 @@ for_cons worker of entry rest b is =
     let own : Worker × Entry → Bool = λ e. e.0.0 == worker.0 in
     ap (λ (c : Bool). map (λ (e : Worker × Entry). e.1) (if c then (of, entry) ∷ filter own rest else filter own rest)) is ∙ chosen b where
       chosen : (c : Bool)
-          → map (λ (e : Worker × Entry). e.1) (if c then (of, entry) ∷ filter (λ (e : Worker × Entry). e.0.0 == worker.0) rest else filter (λ (e : Worker × Entry). e.0.0 == worker.0) rest)
+          → map (λ (e : Worker × Entry). e.1) (if c then (of, entry) ∷ filter (λ (e : Worker × Entry). e.0.0 == worker.0) rest else filter (λ
+          (e : Worker × Entry). e.0.0 == worker.0) rest)
           ≡ (if c then entry ∷ entries_for worker rest else entries_for worker rest)
       chosen true = refl
       chosen false = refl
@@ -117,7 +119,8 @@ copies_between form base task owner worker reads low (m ∷ ms) few room are at 
       either true same behind later =
           let send : Entry = entry_of (entry_number task 0 m.index) (EntryKind.Send (main_slot m.object) owner (entry_number task 1 m.index)) in
           subst (Between (64 * task + low) (64 * task + 8))
-          (sym (for_cons worker m.from send (entry_for form (receive_of base task owner m) ++ flat_map (entry_for form) (copies_of base task owner ms)) true same
+          (sym (for_cons worker m.from send (entry_for form (receive_of base task owner m) ++ flat_map (entry_for form)
+          (copies_of base task owner ms)) true same
           ∙ ap (λ (es : List Entry). send ∷ es) behind)) (
             omega (arith, few, at.0, at.1),
             lower (entry_number task 0 m.index + 1) (64 * task + (m.index + 1)) (64 * task + 8)
@@ -172,7 +175,12 @@ need_entries worker (object ∷ reads) walk =
     need_entries worker reads (with_need worker walk object) ∙ either (latest_of walk.offsets object == 0) where
       either : (b : Bool)
           → (if b
-          then (let next : Walk = record { offsets = with_offset worker object 0 walk.offsets; needed = with_offset worker object 0 walk.needed; entries = walk.entries } in next)
+          then (let next : Walk = record {
+            offsets = with_offset worker object 0 walk.offsets;
+            needed =
+                with_offset worker object 0 walk.needed;
+            entries = walk.entries;
+          } in next)
           else walk).entries ≡ walk.entries
       either true = refl
       either false = refl
@@ -240,18 +248,26 @@ closing_between worker copy (c ∷ cs) are few =
     (closing_between worker (copy + 1) cs are.1 (omega (arith, few)))) where
       either : (b d : Bool) → (c.from.0 == worker.0) ≡ b → (c.to.0 == worker.0) ≡ d
           → Between (65536 + (copy + 1)) (65536 + copy + length (c ∷ cs)) (entries_for worker (closing_entries (copy + 1) cs))
-          → Between (65536 + copy) (65536 + copy + length (c ∷ cs)) (entries_for worker (closing_send copy c ∷ closing_receive copy c ∷ closing_entries (copy + 1) cs))
+          → Between (65536 + copy) (65536 + copy + length (c ∷ cs)) (entries_for worker (closing_send copy c ∷ closing_receive copy c ∷ closing_entries
+          (copy + 1) cs))
       either true true first second rest = absurd (are.0 (eqb-true c.from.0 worker.0 first ∙ sym (eqb-true c.to.0 worker.0 second)))
       either true false first second rest =
           subst (Between (65536 + copy) (65536 + copy + length (c ∷ cs)))
           (sym (for_cons worker c.from (closing_send copy c).1 (closing_receive copy c ∷ closing_entries (copy + 1) cs) true first
-          ∙ ap (λ (es : List Entry). (closing_send copy c).1 ∷ es) (for_cons worker c.to (closing_receive copy c).1 (closing_entries (copy + 1) cs) false second)))
-          (omega (arith, few), lower _ (65536 + (copy + 1)) (65536 + copy + length (c ∷ cs)) (entries_for worker (closing_entries (copy + 1) cs)) (omega (arith, few)) rest)
+          ∙ ap (λ (es : List Entry). (closing_send copy c).1 ∷ es) (for_cons worker c.to (closing_receive copy c).1 (closing_entries
+          (copy + 1) cs) false second))) (
+            omega (arith, few),
+            lower _ (65536 + (copy + 1)) (65536 + copy + length (c ∷ cs)) (entries_for worker (closing_entries (copy + 1) cs)) (omega
+                (arith, few)) rest,
+          )
       either false true first second rest =
           subst (Between (65536 + copy) (65536 + copy + length (c ∷ cs)))
           (sym (for_cons worker c.from (closing_send copy c).1 (closing_receive copy c ∷ closing_entries (copy + 1) cs) false first
-          ∙ for_cons worker c.to (closing_receive copy c).1 (closing_entries (copy + 1) cs) true second))
-          (omega (arith, few), lower _ (65536 + (copy + 1)) (65536 + copy + length (c ∷ cs)) (entries_for worker (closing_entries (copy + 1) cs)) (omega (arith, few)) rest)
+          ∙ for_cons worker c.to (closing_receive copy c).1 (closing_entries (copy + 1) cs) true second)) (
+            omega (arith, few),
+            lower _ (65536 + (copy + 1)) (65536 + copy + length (c ∷ cs)) (entries_for worker (closing_entries (copy + 1) cs)) (omega
+                (arith, few)) rest,
+          )
       either false false first second rest =
           subst (Between (65536 + copy) (65536 + copy + length (c ∷ cs)))
           (sym (for_cons worker c.from (closing_send copy c).1 (closing_receive copy c ∷ closing_entries (copy + 1) cs) false first
@@ -303,6 +319,9 @@ built_ascend place objects live template workers_few objects_few few fit =
     ruled_ascend 0 [] (entries_for worker (walk.entries ++ closing_entries 0 copies))
     ∙ ascend_of 0 (65536 + 0 + length copies) (entries_for worker (walk.entries ++ closing_entries 0 copies))
     (subst (Between 0 (65536 + 0 + length copies)) (sym (for_append worker walk.entries (closing_entries 0 copies)))
-    (joined 0 (64 * (0 + length template.forms)) (65536 + 0 + length copies) (entries_for worker walk.entries) (entries_for worker (closing_entries 0 copies)) tasks
-    (lower (64 * (0 + length template.forms)) (65536 + 0) (65536 + 0 + length copies) (entries_for worker (closing_entries 0 copies)) (omega (arith, few)) closes)))) in
-    all_map (does_ascend 0) (λ (number : ℕ). half_for (record { 0 = number }) (walk.entries ++ closing_entries 0 copies)) 0 workers (λ k. half (record { 0 = k }))
+    (joined 0 (64 * (0 + length template.forms)) (65536 + 0 + length copies) (entries_for worker walk.entries) (entries_for worker
+    (closing_entries 0 copies)) tasks
+    (lower (64 * (0 + length template.forms)) (65536 + 0) (65536 + 0 + length copies) (entries_for worker (closing_entries 0 copies)) (omega
+    (arith, few)) closes)))) in
+    all_map (does_ascend 0) (λ (number : ℕ). half_for (record { 0 = number }) (walk.entries ++ closing_entries 0 copies)) 0 workers (λ k. half
+    (record { 0 = k }))

@@ -53,7 +53,12 @@ pub like_need : (worker : Worker) (walk : Walk) (object : Object) → AreLike wa
 like_need worker walk object = either (latest_of walk.offsets object == 0) where
   either : (b : Bool) → AreLike walk.offsets
       (if b
-      then (let next : Walk = record { offsets = with_offset worker object 0 walk.offsets; needed = with_offset worker object 0 walk.needed; entries = walk.entries } in next)
+      then (let next : Walk = record {
+        offsets = with_offset worker object 0 walk.offsets;
+        needed = with_offset worker object 0 walk.needed;
+        entries =
+            walk.entries;
+      } in next)
       else walk).offsets
   either true = like_put worker 0 walk.offsets (record { 0 = object.0 })
   either false = like_same walk.offsets

@@ -29,7 +29,8 @@ made block forms halves built needs effect homes owners unsent = record {
 }
 
 pub template_is : (template : ControllerTemplate) (workers : ℕ) (slots : List (Worker × Object)) (walk : Walk) (all_homes homes owners : List Worker)
-    (forms : List TaskForm) (halves built : List (List Entry)) (needs : List (Worker × Object)) (effect : List (Worker × Slot × ℕ)) (unsent : List (Worker × Edit))
+    (forms : List TaskForm) (halves built : List (List Entry)) (needs : List (Worker × Object)) (effect : List (Worker × Slot × ℕ)) (unsent : List
+    (Worker × Edit))
     (copies : List Closing) (entries : List (Worker × Entry)) (offsets : Versions)
     → forms ≡ template.forms → needs ≡ needs_of walk.needed slots → copies ≡ closings walk.offsets needs → offsets ≡ closed walk.offsets needs
     → entries ≡ walk.entries ++ closing_entries 0 copies → halves ≡ halves_of workers entries → built ≡ halves → effect ≡ effect_of offsets slots
@@ -41,9 +42,12 @@ template_is template workers slots walk all_homes homes owners forms halves buil
     let last : Versions = closed walk.offsets needed in
     let all : List (List Entry) = halves_of workers (walk.entries ++ closing_entries 0 (closings walk.offsets needed)) in
     let now : halves ≡ all = halves_is
-    ∙ ap (halves_of workers) (entries_is ∙ ap (λ (cs : List Closing). walk.entries ++ closing_entries 0 cs) (copies_is ∙ ap (closings walk.offsets) needs_is)) in
+    ∙ ap (halves_of workers) (entries_is ∙ ap (λ (cs : List Closing). walk.entries ++ closing_entries 0 cs) (copies_is
+    ∙ ap (closings walk.offsets) needs_is)) in
     let ends : effect ≡ effect_of last slots = effect_is ∙ ap (λ (v : Versions). effect_of v slots) (offsets_is ∙ ap (closed walk.offsets) needs_is) in
     ap₂ (λ (fs : List TaskForm) (hs : List (List Entry)). made template.block fs hs built needs effect homes owners unsent) forms_is now
-    ∙ ap₂ (λ (bs : List (List Entry)) (ns : List (Worker × Object)). made template.block template.forms all bs ns effect homes owners unsent) (built_is ∙ now) needs_is
+    ∙ ap₂ (λ (bs : List (List Entry)) (ns : List (Worker × Object)). made template.block template.forms all bs ns effect homes owners unsent) (built_is
+    ∙ now) needs_is
     ∙ ap₂ (λ (es : List (Worker × Slot × ℕ)) (hs : List Worker). made template.block template.forms all all needed es hs owners unsent) ends homes_is
-    ∙ ap₂ (λ (os : List Worker) (us : List (Worker × Edit)). made template.block template.forms all all needed (effect_of last slots) all_homes os us) owners_is unsent_is
+    ∙ ap₂ (λ (os : List Worker) (us : List (Worker × Edit)). made template.block template.forms all all needed
+    (effect_of last slots) all_homes os us) owners_is unsent_is

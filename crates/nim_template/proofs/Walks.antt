@@ -36,7 +36,8 @@ pub any_after : (offsets after : Versions) (worker : Worker) (offset : ℕ) (slo
     → (other : Worker) (object : Object) → other.0 < offsets.workers → object.0 < offsets.objects
     → has_any offsets other object ≡ true → has_any after other object ≡ true
 any_after offsets after worker offset slots put other object below there some =
-    still_any (is_among slots (main_slot object) && (worker.0 == other.0)) offset (held_at offsets other (main_slot object)) (held_at after other (main_slot object))
+    still_any (is_among slots (main_slot object) && (worker.0 == other.0)) offset (held_at offsets other (main_slot object)) (held_at after other
+    (main_slot object))
     (put.held other (main_slot object) (kept_for offsets other (main_slot object) below there)) some
 
 -- what a map keeps through puts
@@ -90,7 +91,8 @@ strip false is = is
 pub only_object : (first second : Object) → is_among (main_slot first ∷ []) (main_slot second) ≡ true → first.0 ≡ second.0
 only_object first second is = eqb-true first.0 second.0 (strip (first.0 == second.0) is)
 
-pub same_latest : (b : Bool) (old offset new target : ℕ) → new ≡ (if b then max old offset else old) → old ≡ target → (b ≡ true → offset ≡ target) → new ≡ target
+pub same_latest : (b : Bool) (old offset new target : ℕ) → new ≡ (if b then max old offset else old) → old ≡ target → (b ≡ true → offset ≡ target)
+    → new ≡ target
 same_latest true old offset new target is before equal = let same : offset ≡ target = equal refl in omega arith
 same_latest false old offset new target is before equal = is ∙ before
 

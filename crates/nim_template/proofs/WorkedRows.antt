@@ -76,7 +76,8 @@ abbrev count_forms : List TaskForm
 count_forms = counts 4 0 ∷ counts 4 1 ∷ []
 
 count_block : of_block 2 count_forms
-    ≡ of_parts count_forms ((run_counts 32 4 0 ∷ []) ∷ (run_counts 96 4 1 ∷ []) ∷ []) (at 0 0 ∷ at 1 1 ∷ []) (ends 0 0 1 ∷ ends 1 1 2 ∷ []) (worker 0 ∷ worker 1 ∷ [])
+    ≡ of_parts count_forms ((run_counts 32 4 0 ∷ []) ∷ (run_counts 96 4 1 ∷ []) ∷ []) (at 0 0 ∷ at 1 1 ∷ []) (ends 0 0 1 ∷ ends 1 1 2 ∷ [])
+    (worker 0 ∷ worker 1 ∷ [])
 count_block = refl
 
 -- two parts are read at both workers, and two others written: both reads are needed at both, and nothing is sent
@@ -84,7 +85,8 @@ abbrev sum_forms : List TaskForm
 sum_forms = adds 0 1 2 ∷ adds 1 0 3 ∷ []
 
 sum_block : of_block 4 sum_forms
-    ≡ of_parts sum_forms ((run_adds 32 0 1 2 [] ∷ []) ∷ (run_adds 96 1 0 3 [] ∷ []) ∷ []) (at 0 0 ∷ at 0 1 ∷ at 1 0 ∷ at 1 1 ∷ []) (ends 0 2 1 ∷ ends 1 3 2 ∷ [])
+    ≡ of_parts sum_forms ((run_adds 32 0 1 2 [] ∷ []) ∷ (run_adds 96 1 0 3 [] ∷ []) ∷ []) (at 0 0 ∷ at 0 1 ∷ at 1 0 ∷ at 1 1 ∷ [])
+    (ends 0 2 1 ∷ ends 1 3 2 ∷ [])
     (worker 0 ∷ worker 1 ∷ [])
 sum_block = refl
 

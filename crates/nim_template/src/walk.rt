@@ -36,7 +36,8 @@ pub(crate) fn walked(
     requires live { list_any (λ flag. flag) live.now ≡ true }
     requires many { length forms.now ≤ 1024 }
     requires fit { list_all (is_fit objects) forms.now ≡ true }
-    ensures { IfOk result (λ walk. walk ≡ spec.walked place.now live.now 0 (spec.start (length live.now) objects) forms.now) }
+    ensures { IfOk result (λ walk.
+        walk ≡ spec.walked place.now live.now 0 (spec.start (length live.now) objects) forms.now) }
 {
     let mut walk = start(alloc, live.len() as u16, objects)?;
     for (number, form) in forms.iter().enumerate() {

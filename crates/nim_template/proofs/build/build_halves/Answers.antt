@@ -22,4 +22,5 @@ returns-clause-again c =
 pub returns-clause-tasks : goal.returns-clause-tasks
 returns-clause-tasks c =
     subst (DoTasks c.args.place.now c.args.live.now c.args.objects) (sym c.in_ok-template.ensures)
-    (built_tasks c.args.place.now c.args.objects c.args.live.now c.args.template.now c.requires.live c.requires.workers c.requires.objects c.requires.many c.requires.fit)
+    (built_tasks c.args.place.now c.args.objects c.args.live.now c.args.template.now c.requires.live c.requires.workers c.requires.objects
+    c.requires.many c.requires.fit)

@@ -11,7 +11,8 @@ schedule_task-requires-clause-workers c =
 pub schedule_task-requires-clause-writes : goal.schedule_task-requires-clause-writes
 schedule_task-requires-clause-writes c =
     let like = ready_like c.home_of-owner.result c.args.form.now.reads c.args.self.now c.need_all.new.self (search rules) in
-    task_writes c.args.self.now.offsets.objects c.need_all.new.self.offsets.objects c.args.form.now c.in_ok-task.task (search rules) like.objects c.requires.writes
+    task_writes c.args.self.now.offsets.objects c.need_all.new.self.offsets.objects c.args.form.now c.in_ok-task.task
+    (search rules) like.objects c.requires.writes
 
 pub returns : goal.returns
 returns c =
