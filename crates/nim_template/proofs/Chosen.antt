@@ -129,7 +129,7 @@ copies_same base most entry offsets versions args form task owner (m ∷ ms) ali
     (copies_same base most entry offsets versions args form task owner ms alike kept ready few room are.4 lacking.1)
 
 -- the task of a run's number
-run_task : (task : ℕ) → task ≤ 1024 → task_of (entry_number task 4 0) ≡ task
+pub run_task : (task : ℕ) → task ≤ 1024 → task_of (entry_number task 4 0) ≡ task
 run_task task few = omega arith
 
 -- the commands of a task

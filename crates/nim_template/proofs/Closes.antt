@@ -83,7 +83,7 @@ pub record ClosesFor (most : ℕ) (before : Versions) (need : Worker × Object) 
   pub closed : IsClosed most before after
   pub current : is_current after need.1 need.0 ≡ true
 
-closes_for : (most : ℕ) (offsets : Versions) (need : Worker × Object) → IsKept most offsets → need.0.0 < offsets.workers → need.1.0 < offsets.objects
+pub closes_for : (most : ℕ) (offsets : Versions) (need : Worker × Object) → IsKept most offsets → need.0.0 < offsets.workers → need.1.0 < offsets.objects
     → has_any offsets need.0 need.1 ≡ true → ClosesFor most offsets need (closed_for offsets need)
 closes_for most offsets need kept below there some =
     either (is_current offsets need.1 need.0) refl (holder offsets need.1) (holder_there most offsets need.0 need.1 kept below there some) where

@@ -260,6 +260,33 @@ walk_grows place live number walk (form ∷ forms) is homes room worker object b
     (omega (arith, like.objects, there))
     (needs_grow number (home_of place walk.offsets.objects live form) form.reads walk is (homes walk.offsets.objects form) worker object below there has)
 
+-- what a task's home needs is there
+pub form_ready : (place : Placement) (live : List Bool) (number : ℕ) (walk : Walk) (form : TaskForm) → IsWalked number walk
+    → ((objects : ℕ) (f : TaskForm) → (home_of place objects live f).0 < walk.offsets.workers) → is_fit walk.offsets.objects form ≡ true
+    → let ready : Walk = fold (with_need (home_of place walk.offsets.objects live form)) walk form.reads in
+    AreReady ready.offsets (home_of place ready.offsets.objects live form) form.reads
+form_ready place live number walk form is homes fit =
+    let owner : Worker = home_of place walk.offsets.objects live form in
+    let below : owner.0 < walk.offsets.workers = homes walk.offsets.objects form in
+    let ready : Walk = fold (with_need owner) walk form.reads in
+    let like_ready : AreLike walk.offsets ready.offsets = like_needs owner form.reads walk in
+    let now : IsWalked number ready = needs_walked number owner form.reads walk is below in
+    let within : (object : Object) → is_one_of form.reads object ≡ true → object.0 < walk.offsets.objects =
+    λ object one. read_below walk.offsets.objects form object fit one in
+    let same_home : owner ≡ home_of place ready.offsets.objects live form = ap (λ (n : ℕ). home_of place n live form) (sym like_ready.objects) in
+    subst (λ (w : Worker). AreReady ready.offsets w form.reads) same_home
+    (record {
+      below = omega (arith, like_ready.workers, below);
+      within = λ object one. (let inside = within object one in omega (arith, like_ready.objects, inside));
+      held = λ object one none.
+          let inside : object.0 < ready.offsets.objects = (let low = within object one in omega (arith, like_ready.objects, low)) in
+          let was : latest_of walk.offsets object ≡ 0 = sym (needs_latest number owner form.reads walk is below object (within object one)) ∙ none in
+          let lower : owner.0 < ready.offsets.workers = omega (arith, like_ready.workers, below) in
+          zero_held (held_at ready.offsets owner (main_slot object))
+          (now.some owner object lower inside (reads_there number owner form.reads walk is below object one (within object one) was))
+          (λ offset found. (let under = now.kept.held owner object offset lower inside found in omega (arith, under, none)));
+    })
+
 -- from a map in which what is needed is current
 pub tasks_same : (place : Placement) (live : List Bool) (base : ℕ) (args : List ℤ) (entry : Versions) (number : ℕ) (walk : Walk) (versions : Versions)
     (forms : List TaskForm) → IsAlike base entry walk.offsets versions → IsWalked number walk
@@ -296,20 +323,7 @@ tasks_same place live base args entry number walk versions (form ∷ forms) alik
     let alike_now : IsAlike base entry ready.offsets versions =
     needs_alike base number entry versions owner form.reads walk alike is below within holds in
     let at_ready : IsEntry base ready.offsets.objects entry = subst (λ (n : ℕ). IsEntry base n entry) (sym like_ready.objects) at in
-    let home : Worker = home_of place ready.offsets.objects live form in
-    let same_home : owner ≡ home = ap (λ (n : ℕ). home_of place n live form) (sym like_ready.objects) in
-    let are_ready : AreReady ready.offsets home form.reads =
-    subst (λ (w : Worker). AreReady ready.offsets w form.reads) same_home
-    (record {
-      below = omega (arith, like_ready.workers, below);
-      within = λ object one. (let inside = within object one in omega (arith, like_ready.objects, inside));
-      held = λ object one none.
-          let inside : object.0 < ready.offsets.objects = (let low = within object one in omega (arith, like_ready.objects, low)) in
-          let was : latest_of walk.offsets object ≡ 0 = sym (needs_latest number owner form.reads walk is below object (within object one)) ∙ none in
-          let lower : owner.0 < ready.offsets.workers = omega (arith, like_ready.workers, below) in
-          zero_held (held_at ready.offsets owner (main_slot object)) (now.some owner object lower inside (needed object one was))
-          (λ offset found. (let under = now.kept.held owner object offset lower inside found in omega (arith, under, none)));
-    }) in
+    let are_ready = form_ready place live number walk form is homes each.0 in
     let commands : List (Worker × Command) = scheduled versions (task_with args form) number (counted_from base number) place live in
     let mine : map (command_at base args) next.entries ≡ map (command_at base args) walk.entries ++ map plain commands =
     map-append (command_at base args) ready.entries (flat_map (entry_for form) (scheduled ready.offsets (task_for form) number number place live))

@@ -14,3 +14,4 @@ pub mod Sizes
 pub mod Templates
 pub mod Walks
 mod WorkedRows
+pub mod Written

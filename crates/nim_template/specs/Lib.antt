@@ -5,3 +5,4 @@ pub mod Closing
 pub mod Fits
 pub mod Tasks
 pub mod Walk
+pub mod Written

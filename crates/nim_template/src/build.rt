@@ -6,6 +6,7 @@ ghost use Rattle.nim_template.specs.Built as spec;
 ghost use Rattle.nim_template.specs.Fits.{is_fit};
 ghost use Rattle.nim_template.specs.Tasks.{DoTasks};
 ghost use Rattle.nim_template.specs.Walk as walks;
+ghost use Rattle.nim_template.specs.Written.{HasEffect};
 
 use crate::ControllerTemplate;
 use crate::closing::{closings, push_closings};
@@ -34,6 +35,7 @@ pub fn build_halves(
     ensures built { IfOk result (λ built. built ≡ spec.built place.now objects live.now template.now) }
     ensures ascend { IfOk result (λ built. list_all (does_ascend 0) built.halves ≡ true) }
     ensures tasks { IfOk result (λ built. DoTasks place.now live.now objects built) }
+    ensures effect { IfOk result (λ built. HasEffect (length live.now) objects built) }
     ensures again { IfOk result (λ built. HoldAgain (length live.now) objects built) }
 {
     let template = built(alloc, template, place, objects, live)?;

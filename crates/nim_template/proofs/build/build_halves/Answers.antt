@@ -3,10 +3,12 @@ use Rattle.std.specs.List.{list_all}
 use Rattle.nim_command.specs.declared.template.WorkerTemplate.{WorkerTemplate}
 use Rattle.nim_template.specs.Again.{HoldAgain}
 use Rattle.nim_template.specs.Ascends.{does_ascend}
+use Rattle.nim_template.specs.Written.{HasEffect}
 use Rattle.nim_template.proofs.Again.{built_again}
 use Rattle.nim_template.specs.Tasks.{DoTasks}
 use Rattle.nim_template.proofs.Halves.{built_tasks}
 use Rattle.nim_template.proofs.Numbers.{built_ascend}
+use Rattle.nim_template.proofs.Written.{built_effect}
 use Rattle.nim_template.proofs.build.build_halves.Goals as goal
 
 pub returns-clause-ascend : goal.returns-clause-ascend
@@ -24,3 +26,8 @@ returns-clause-tasks c =
     subst (DoTasks c.args.place.now c.args.live.now c.args.objects) (sym c.in_ok-template.ensures)
     (built_tasks c.args.place.now c.args.objects c.args.live.now c.args.template.now c.requires.live c.requires.workers c.requires.objects
     c.requires.many c.requires.fit)
+
+pub returns-clause-effect : goal.returns-clause-effect
+returns-clause-effect c =
+    subst (HasEffect (length c.args.live.now) c.args.objects) (sym c.in_ok-template.ensures)
+    (built_effect c.args.place.now c.args.objects c.args.live.now c.args.template.now c.requires.live c.requires.many c.requires.fit)
