@@ -20,8 +20,8 @@ use Rattle.nim_template.specs.declared.template.ControllerTemplate.{ControllerTe
 use Rattle.nim_template.specs.declared.walk.Walk.{Walk}
 use Rattle.nim_template.specs.Again.{HoldAgain, IsBefore, are_current}
 use Rattle.nim_template.specs.Built.{all_slots, built, effect_of, end_of, needs_of}
-use Rattle.nim_template.specs.Closing.{closed}
-use Rattle.nim_template.specs.Walk.{home_of, start}
+use Rattle.nim_template.specs.Closing.{after_closings}
+use Rattle.nim_template.specs.Walk.{home_of, empty_walk}
 use Rattle.nim_template.proofs.Closes.{AreCurrent, AreNeeds, Closes, closes, current_of, needs_after}
 use Rattle.nim_template.proofs.Effects.{IsDone, IsOf, counted, done_comes, done_stays, kept_none, slot_there, some_kept}
 use Rattle.nim_template.proofs.Offsets.{IsKept}
@@ -120,7 +120,7 @@ nothing_held workers objects worker object =
     unheld (is_kept (no_versions workers objects) worker (main_slot object)) (slice_index_or (replicate (objects * workers) None) place None)
     (replicate_or (objects * workers) place None)
 
-pub start_walked : (workers objects : ℕ) → IsWalked 0 (start workers objects)
+pub start_walked : (workers objects : ℕ) → IsWalked 0 (empty_walk workers objects)
 start_walked workers objects =
     let whole : IsWhole (no_versions workers objects) = record {
       slots = length_replicate (objects * workers) None;
@@ -178,12 +178,12 @@ built_again place objects live template some few base versions before now =
     let slots : List (Worker × Object) = all_slots workers objects in
     let walk : Walk = end_of place objects live template.forms in
     let needs : List (Worker × Object) = needs_of walk.needed slots in
-    let to : IsWalkedTo (0 + length template.forms) (start workers objects) walk =
-    walk_kept place live 0 (start workers objects) template.forms (start_walked workers objects) (home_within place live some) (omega (arith, few)) in
+    let to : IsWalkedTo (0 + length template.forms) (empty_walk workers objects) walk =
+    walk_kept place live 0 (empty_walk workers objects) template.forms (start_walked workers objects) (home_within place live some) (omega (arith, few)) in
     let are : AreNeeds walk.offsets needs = needs_are (0 + length template.forms) walk slots to.walked in
-    let ends : Closes (0 + length template.forms) walk.offsets needs (closed walk.offsets needs) =
+    let ends : Closes (0 + length template.forms) walk.offsets needs (after_closings walk.offsets needs) =
     closes (0 + length template.forms) walk.offsets needs to.walked.kept are in
-    let offsets : Versions = closed walk.offsets needs in
+    let offsets : Versions = after_closings walk.offsets needs in
     let rows : offsets.workers ≡ workers = ends.closed.is_after.workers ∙ to.like.workers in
     let columns : offsets.objects ≡ objects = ends.closed.is_after.objects ∙ to.like.objects in
     let after : Versions = fold (with_written base) versions (effect_of offsets slots) in

@@ -11,7 +11,7 @@ use Rattle.nim_command.specs.Slots.{is_among}
 use Rattle.nim_place.specs.Versions.{Versions, held_at, holder, holder_from, is_current, latest_of}
 use Rattle.nim_place.proofs.Finds.{current_held}
 use Rattle.nim_place.proofs.Puts.{IsPut, kept_for, put_all}
-use Rattle.nim_template.specs.Closing.{closed, closed_for, received_from}
+use Rattle.nim_template.specs.Closing.{after_closings, closed_for, received_from}
 use Rattle.nim_template.specs.Walk.{with_offset}
 use Rattle.nim_template.proofs.Offsets.{IsKept}
 use Rattle.nim_template.proofs.Walks.{IsAfter, after_none, after_then, has_any, only_object, put_after, same_latest}
@@ -145,15 +145,15 @@ pub record Closes (most : ℕ) (before : Versions) (needs : List (Worker × Obje
   pub current : AreCurrent after needs
 
 pub closes : (most : ℕ) (offsets : Versions) (needs : List (Worker × Object)) → IsKept most offsets → AreNeeds offsets needs
-    → Closes most offsets needs (closed offsets needs)
+    → Closes most offsets needs (after_closings offsets needs)
 closes most offsets [] kept are = record { closed = closed_none most offsets kept; current = tt }
 closes most offsets (need ∷ needs) kept are =
     let next : Versions = closed_for offsets need in
     let first : ClosesFor most offsets need next = closes_for most offsets need kept are.0 are.1 are.2 in
-    let rest : Closes most next needs (closed next needs) =
+    let rest : Closes most next needs (after_closings next needs) =
     closes most next needs first.closed.is_after.kept (needs_after most offsets next needs first.closed.is_after are.3) in
     record {
-      closed = closed_then most offsets next (closed next needs) first.closed rest.closed;
+      closed = closed_then most offsets next (after_closings next needs) first.closed rest.closed;
       current = (
         rest.closed.stays need.0 need.1 (omega (arith, first.closed.is_after.workers, are.0)) (omega
             (arith, first.closed.is_after.objects, are.1)) first.current,

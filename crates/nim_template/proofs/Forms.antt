@@ -15,7 +15,7 @@ use Rattle.nim_place.specs.Versions.{Versions, after_commands}
 use Rattle.nim_template.specs.declared.template.ControllerTemplate.{ControllerTemplate}
 use Rattle.nim_template.specs.declared.walk.Walk.{Walk}
 use Rattle.nim_template.specs.Built.{all_slots, built, end_of, template_of}
-use Rattle.nim_template.specs.Walk.{after_form, entry_for, home_of, task_for, walked, with_need}
+use Rattle.nim_template.specs.Walk.{walked_past, entry_for, home_of, task_for, walked, with_need}
 
 abbrev walk_at : Versions → Versions → List (Worker × Entry) → Walk
 walk_at offsets needed entries = record { offsets = offsets; needed = needed; entries = entries }
@@ -24,7 +24,7 @@ walk_at offsets needed entries = record { offsets = offsets; needed = needed; en
 pub form_is : (place : Placement) (live : List Bool) (number : ℕ) (walk ready after : Walk) (form : TaskForm) (task : Task) (owner : Worker)
     (commands : List (Worker × Command)) → owner ≡ home_of place walk.offsets.objects live form → ready ≡ fold (with_need owner) walk form.reads
     → task ≡ task_for form → commands ≡ scheduled ready.offsets task number number place live → after.offsets ≡ after_commands ready.offsets commands
-    → after.needed ≡ ready.needed → after.entries ≡ ready.entries ++ flat_map (entry_for form) commands → after ≡ after_form place live number walk form
+    → after.needed ≡ ready.needed → after.entries ≡ ready.entries ++ flat_map (entry_for form) commands → after ≡ walked_past place live number walk form
 form_is place live number walk ready after form task owner commands owner_is ready_is task_is commands_is offsets_is needed_is entries_is =
     let now : ready ≡ fold (with_need (home_of place walk.offsets.objects live form)) walk form.reads =
     ready_is ∙ ap (λ (w : Worker). fold (with_need w) walk form.reads) owner_is in
@@ -47,7 +47,7 @@ task_writes objects more form task is same below =
 
 -- one task further
 pub walked_more : (place : Placement) (live : List Bool) (forms : List TaskForm) (number : ℕ) (walk next : Walk) (form : TaskForm) → number < length forms
-    → form ≡ get_or forms number form → next ≡ after_form place live number walk form
+    → form ≡ get_or forms number form → next ≡ walked_past place live number walk form
     → walked place live (number + 1) next (drop (number + 1) forms) ≡ walked place live number walk (drop number forms)
 walked_more place live forms number walk next form within is after =
     let rest : drop number forms ≡ form ∷ drop (number + 1) forms =

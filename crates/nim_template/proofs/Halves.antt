@@ -29,7 +29,7 @@ use Rattle.nim_template.specs.Built.{all_slots, built, end_of, entries_for, half
 use Rattle.nim_template.specs.Closing.{closing_entries, closings}
 use Rattle.nim_template.specs.Fits.{is_fit}
 use Rattle.nim_template.specs.Tasks.{DoTasks, of_tasks, scheduled_from, without_before}
-use Rattle.nim_template.specs.Walk.{after_form, home_of, start, walked, with_need, with_offset}
+use Rattle.nim_template.specs.Walk.{walked_past, home_of, empty_walk, walked, with_need, with_offset}
 use Rattle.nim_template.proofs.Again.{home_within, nothing_held, replicate_or, start_walked}
 use Rattle.nim_template.proofs.Alike.{IsAlike}
 use Rattle.nim_template.proofs.Chosen.{command_at, plain}
@@ -139,7 +139,7 @@ walk_zero : (place : Placement) (live : List Bool) (number : ℕ) (walk : Walk) 
     → IsKept 0 (walked place live number walk forms).needed
 walk_zero place live number walk [] is homes room kept = kept
 walk_zero place live number walk (form ∷ forms) is homes room kept =
-    let next : Walk = after_form place live number walk form in
+    let next : Walk = walked_past place live number walk form in
     let like : AreLike walk.offsets next.offsets = form_like place live number walk next form refl in
     walk_zero place live (number + 1) next forms (form_walked number place live walk form is homes (omega (arith, room)))
     (λ objects f. (let low = homes objects f in omega (arith, like.workers, low))) (omega (arith, room))
@@ -205,11 +205,11 @@ built_tasks place objects live template some workers_few objects_few few fit bas
     let most : workers * objects ≤ workers * 512 = mul-le-mul_left workers objects_few in
     let filtered : length needs ≤ length slots = filter_few (λ (slot : Worker × Object). is_current walk.needed slot.1 slot.0) slots in
     let closed_few : length copies ≤ length needs = closings_few walk.offsets needs in
-    let begins : IsWalked 0 (start workers objects) = start_walked workers objects in
+    let begins : IsWalked 0 (empty_walk workers objects) = start_walked workers objects in
     let homes : (n : ℕ) (f : TaskForm) → (home_of place n live f).0 < workers = home_within place live some in
-    let to : IsWalkedTo (0 + length forms) (start workers objects) walk = walk_kept place live 0 (start workers objects) forms begins homes (omega
+    let to : IsWalkedTo (0 + length forms) (empty_walk workers objects) walk = walk_kept place live 0 (empty_walk workers objects) forms begins homes (omega
     (arith, few)) in
-    let zeros : IsKept 0 walk.needed = walk_zero place live 0 (start workers objects) forms begins homes (omega (arith, few)) begins.kept in
+    let zeros : IsKept 0 walk.needed = walk_zero place live 0 (empty_walk workers objects) forms begins homes (omega (arith, few)) begins.kept in
     let current : (w : Worker) (object : Object) → w.0 < workers → object.0 < objects → has_any walk.needed w object ≡ true
     → is_current versions object w ≡ true =
     λ w object w_below inside has.
@@ -221,10 +221,10 @@ built_tasks place objects live template some workers_few objects_few few fit bas
     (held_at walk.needed w (main_slot object)) refl has) in
     let real : List (Worker × Command) = scheduled_from place live base args 0 versions forms in
     let same : map (command_at base args) walk.entries ≡ map plain real =
-    tasks_same place live base args versions 0 (start workers objects) versions forms (start_alike base workers objects versions before) begins homes
+    tasks_same place live base args versions 0 (empty_walk workers objects) versions forms (start_alike base workers objects versions before) begins homes
     (record { latest = before.latest; held = before.held }) fit current (omega (arith, few)) room in
     let tasks : Between 0 (64 * (0 + length forms)) (entries_for worker walk.entries) =
-    walk_between place live objects worker 0 (start workers objects) forms (omega (arith, few)) fit (omega arith) in
+    walk_between place live objects worker 0 (empty_walk workers objects) forms (omega (arith, few)) fit (omega arith) in
     let closes : Between (65536 + 0) (65536 + 0 + length copies) (entries_for worker (closing_entries 0 copies)) =
     closing_between worker 0 copies (closings_apart walk.offsets needs) (omega (arith, long, most, filtered, closed_few, workers_few)) in
     let own : List Entry = entries_for worker walk.entries in

@@ -25,7 +25,7 @@ use Rattle.nim_place.proofs.Puts.{IsPut, kept_for, put_all}
 use Rattle.nim_template.specs.declared.walk.Walk.{Walk}
 use Rattle.nim_template.specs.Fits.{is_fit}
 use Rattle.nim_template.specs.Tasks.{scheduled_from, task_with}
-use Rattle.nim_template.specs.Walk.{after_form, entry_for, home_of, task_for, walked, with_need, with_offset}
+use Rattle.nim_template.specs.Walk.{walked_past, entry_for, home_of, task_for, walked, with_need, with_offset}
 use Rattle.nim_template.proofs.Alike.{IsAlike, IsEntry, alike_need, alike_put}
 use Rattle.nim_template.proofs.Chosen.{AreReady, command_at, copies_alike, moves_same, plain, ready_same, task_same}
 use Rattle.nim_template.proofs.Fits.{read_below}
@@ -253,7 +253,7 @@ walk_grows : (place : Placement) (live : List Bool) (number : ℕ) (walk : Walk)
     → has_any (walked place live number walk forms).needed worker object ≡ true
 walk_grows place live number walk [] is homes room worker object below there has = has
 walk_grows place live number walk (form ∷ forms) is homes room worker object below there has =
-    let next : Walk = after_form place live number walk form in
+    let next : Walk = walked_past place live number walk form in
     let like : AreLike walk.offsets next.offsets = form_like place live number walk next form refl in
     walk_grows place live (number + 1) next forms (form_walked number place live walk form is homes (omega (arith, room)))
     (λ objects f. (let low = homes objects f in omega (arith, like.workers, low))) (omega (arith, room)) worker object (omega (arith, like.workers, below))
@@ -304,7 +304,7 @@ tasks_same place live base args entry number walk versions (form ∷ forms) alik
     let below : owner.0 < walk.offsets.workers = homes walk.offsets.objects form in
     let each = both_true (is_fit walk.offsets.objects form) (list_all (is_fit walk.offsets.objects) forms) fit in
     let ready : Walk = fold (with_need owner) walk form.reads in
-    let next : Walk = after_form place live number walk form in
+    let next : Walk = walked_past place live number walk form in
     let like : AreLike walk.offsets next.offsets = form_like place live number walk next form refl in
     let like_ready : AreLike walk.offsets ready.offsets = like_needs owner form.reads walk in
     let now : IsWalked number ready = needs_walked number owner form.reads walk is below in

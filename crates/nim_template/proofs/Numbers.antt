@@ -32,7 +32,7 @@ use Rattle.nim_template.specs.Ascends.{does_ascend}
 use Rattle.nim_template.specs.Built.{all_slots, built, end_of, entries_for, half_for, needs_of, slots_of}
 use Rattle.nim_template.specs.Closing.{closed_for, closing_entries, closing_from, closing_receive, closing_send, closings, copy_from}
 use Rattle.nim_template.specs.Fits.{is_fit}
-use Rattle.nim_template.specs.Walk.{after_form, entry_for, home_of, start, task_for, walked, with_need, with_offset}
+use Rattle.nim_template.specs.Walk.{walked_past, entry_for, home_of, empty_walk, task_for, walked, with_need, with_offset}
 use Rattle.nim_template.proofs.Fits.{few_reads}
 
 -- ---- lists of entries
@@ -195,7 +195,7 @@ walk_between place live objects worker number walk (form ∷ forms) few fit are 
     let home : Worker = home_of place walk.offsets.objects live form in
     let ready : Walk = fold (with_need home) walk form.reads in
     let more : List (Worker × Entry) = flat_map (entry_for form) (scheduled ready.offsets (task_for form) number number place live) in
-    let next : Walk = after_form place live number walk form in
+    let next : Walk = walked_past place live number walk form in
     let parts : entries_for worker next.entries ≡ entries_for worker walk.entries ++ entries_for worker more =
     for_append worker ready.entries more
     ∙ ap (λ (es : List (Worker × Entry)). entries_for worker es ++ entries_for worker more) (need_entries home form.reads walk) in
@@ -313,7 +313,7 @@ built_ascend place objects live template workers_few objects_few few fit =
     let half : (worker : Worker) → does_ascend 0 (half_for worker (walk.entries ++ closing_entries 0 copies)) ≡ true =
     λ worker. (
     let tasks : Between 0 (64 * (0 + length template.forms)) (entries_for worker walk.entries) =
-    walk_between place live objects worker 0 (start workers objects) template.forms (omega (arith, few)) fit (omega arith) in
+    walk_between place live objects worker 0 (empty_walk workers objects) template.forms (omega (arith, few)) fit (omega arith) in
     let closes : Between (65536 + 0) (65536 + 0 + length copies) (entries_for worker (closing_entries 0 copies)) =
     closing_between worker 0 copies (closings_apart walk.offsets needs) (omega (arith, long, most, filtered, closed_few, workers_few)) in
     ruled_ascend 0 [] (entries_for worker (walk.entries ++ closing_entries 0 copies))

@@ -6,7 +6,7 @@ use Rattle.std.proofs.lemmas.List.FromFn.{map-range_with_len_more}
 use Rattle.nim_base.specs.declared.number.Object.{Object}
 use Rattle.nim_base.specs.declared.number.Worker.{Worker}
 use Rattle.nim_command.specs.declared.entry.Entry.{Entry}
-use Rattle.nim_template.specs.Built.{all_slots, half_for, halves_of, slots_of}
+use Rattle.nim_template.specs.Built.{all_slots, half_for, all_halves, slots_of}
 
 flat_more : {X : Type 0} (f : ℕ → List X) (from n last : ℕ) → from + n ≡ last
     → flat_map f (range_with_len from (suc n)) ≡ flat_map f (range_with_len from n) ++ f last
@@ -28,7 +28,7 @@ all_more n objects =
     ap (λ (k : ℕ). flat_map own (range_with_len 0 k)) (add-one n) ∙ flat_more own 0 n n (omega arith)
 
 -- the half of one worker more
-halves_more : (n : ℕ) (entries : List (Worker × Entry)) → halves_of (n + 1) entries ≡ halves_of n entries ++ half_for (record { 0 = n }) entries ∷ []
+halves_more : (n : ℕ) (entries : List (Worker × Entry)) → all_halves (n + 1) entries ≡ all_halves n entries ++ half_for (record { 0 = n }) entries ∷ []
 halves_more n entries =
     let half : ℕ → List Entry = λ number. half_for (record { 0 = number }) entries in
     map-range_with_len_more half 0 n n (omega arith)
@@ -45,7 +45,7 @@ pub all_pushed : (before after : List (Worker × Object)) (n objects : ℕ) → 
 all_pushed before after n objects was push =
     push ∙ ap (λ (slots : List (Worker × Object)). slots ++ slots_of (record { 0 = n }) objects) was ∙ sym (all_more n objects)
 
-pub halves_pushed : (before after : List (List Entry)) (half : List Entry) (n : ℕ) (entries : List (Worker × Entry)) → before ≡ halves_of n entries
-    → half ≡ half_for (record { 0 = n }) entries → after ≡ before ++ half ∷ [] → after ≡ halves_of (n + 1) entries
+pub halves_pushed : (before after : List (List Entry)) (half : List Entry) (n : ℕ) (entries : List (Worker × Entry)) → before ≡ all_halves n entries
+    → half ≡ half_for (record { 0 = n }) entries → after ≡ before ++ half ∷ [] → after ≡ all_halves (n + 1) entries
 halves_pushed before after half n entries was is push =
     push ∙ ap₂ (λ (halves : List (List Entry)) (h : List Entry). halves ++ h ∷ []) was is ∙ sym (halves_more n entries)

@@ -11,7 +11,7 @@ use Rattle.nim_place.specs.declared.placement.Placement.{Placement}
 use Rattle.nim_place.specs.Schedule.{scheduled}
 use Rattle.nim_place.specs.Versions.{Versions, after_commands, after_kind, is_kept, latest_of, puts_of, version_of, with_version}
 use Rattle.nim_template.specs.declared.walk.Walk.{Walk}
-use Rattle.nim_template.specs.Walk.{after_form, home_of, task_for, with_need, with_offset}
+use Rattle.nim_template.specs.Walk.{walked_past, home_of, task_for, with_need, with_offset}
 
 -- two maps have the same numbers of workers and objects
 pub record AreLike (before after : Versions) : Type 0 where
@@ -74,7 +74,7 @@ pub ready_like : (worker : Worker) (reads : List Object) (walk next : Walk) → 
 ready_like worker reads walk next is = subst (λ (w : Walk). AreLike walk.offsets w.offsets) (sym is) (like_needs worker reads walk)
 
 -- a task
-pub form_like : (place : Placement) (live : List Bool) (number : ℕ) (walk next : Walk) (form : TaskForm) → next ≡ after_form place live number walk form
+pub form_like : (place : Placement) (live : List Bool) (number : ℕ) (walk next : Walk) (form : TaskForm) → next ≡ walked_past place live number walk form
     → AreLike walk.offsets next.offsets
 form_like place live number walk next form is =
     let ready : Walk = fold (with_need (home_of place walk.offsets.objects live form)) walk form.reads in

@@ -19,7 +19,7 @@ use Rattle.nim_place.specs.Schedule.{copies_of, moves, run_of, scheduled}
 use Rattle.nim_place.specs.Versions.{Versions, after_commands, after_kind, held_at, latest_of, with_version}
 use Rattle.nim_place.proofs.Puts.{IsPut, IsWhole, kept_for, put_all, whole_after}
 use Rattle.nim_template.specs.declared.walk.Walk.{Walk}
-use Rattle.nim_template.specs.Walk.{after_form, home_of, task_for, walked, with_need, with_offset}
+use Rattle.nim_template.specs.Walk.{walked_past, home_of, task_for, walked, with_need, with_offset}
 use Rattle.nim_template.proofs.Offsets.{IsKept, kept_put}
 use Rattle.nim_template.proofs.Sizes.{AreLike, form_like, like_need, like_needs, like_same, like_then}
 
@@ -213,7 +213,7 @@ needs_walked most worker (object ∷ reads) walk is below =
 
 pub form_walked : (number : ℕ) (place : Placement) (live : List Bool) (walk : Walk) (form : TaskForm) → IsWalked number walk
     → ((objects : ℕ) (f : TaskForm) → (home_of place objects live f).0 < walk.offsets.workers) → number + 1 < 2 ^ 64
-    → IsWalked (number + 1) (after_form place live number walk form)
+    → IsWalked (number + 1) (walked_past place live number walk form)
 form_walked number place live walk form is homes room =
     let home : Worker = home_of place walk.offsets.objects live form in
     let ready : Walk = fold (with_need home) walk form.reads in
@@ -243,7 +243,7 @@ pub walk_kept : (place : Placement) (live : List Bool) (number : ℕ) (walk : Wa
 walk_kept place live number walk [] is homes room =
     record { walked = subst (λ (n : ℕ). IsWalked n walk) (omega arith) is; like = like_same walk.offsets }
 walk_kept place live number walk (form ∷ forms) is homes room =
-    let next : Walk = after_form place live number walk form in
+    let next : Walk = walked_past place live number walk form in
     let like : AreLike walk.offsets next.offsets = form_like place live number walk next form refl in
     let rest : IsWalkedTo (number + 1 + length forms) next (walked place live (number + 1) next forms) =
     walk_kept place live (number + 1) next forms (form_walked number place live walk form is homes (omega (arith, room)))

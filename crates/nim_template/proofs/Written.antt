@@ -29,10 +29,10 @@ use Rattle.nim_template.specs.declared.closing.Closing.{Closing}
 use Rattle.nim_template.specs.declared.template.ControllerTemplate.{ControllerTemplate}
 use Rattle.nim_template.specs.declared.walk.Walk.{Walk}
 use Rattle.nim_template.specs.Built.{all_slots, built, effect_at, effect_here, end_of, entries_for, half_for, needs_of, slots_of}
-use Rattle.nim_template.specs.Closing.{closed, closed_for, closing_entries, closing_from, closings, copy_from, received_from}
+use Rattle.nim_template.specs.Closing.{after_closings, closed_for, closing_entries, closing_from, closings, copy_from, received_from}
 use Rattle.nim_template.specs.Fits.{is_fit}
-use Rattle.nim_template.specs.Walk.{after_form, entry_for, home_of, offset_for, start, task_for, walked, with_need, with_offset}
-use Rattle.nim_template.specs.Written.{HasEffect, item_for, item_of, last_written, left_by}
+use Rattle.nim_template.specs.Walk.{walked_past, entry_for, home_of, offset_for, empty_walk, task_for, walked, with_need, with_offset}
+use Rattle.nim_template.specs.Written.{HasEffect, item_for, item_of, last_written, offset_left}
 use Rattle.nim_template.proofs.Again.{home_within, needs_are, nothing_held, start_walked}
 use Rattle.nim_template.proofs.Chosen.{AreReady, moved_more, run_task}
 use Rattle.nim_template.proofs.Closes.{AreNeeds, ClosesFor, closes_for, current_of, needs_after}
@@ -47,13 +47,13 @@ use Rattle.nim_template.proofs.Walks.{only_object, walk_kept}
 
 -- what a worker's slot has, by the entries of all workers
 abbrev written_by : Worker → Slot → Option ℕ → Worker × Entry → Option ℕ
-written_by worker slot before e = if e.0.0 == worker.0 then left_by slot before e.1.id e.1.kind else before
+written_by worker slot before e = if e.0.0 == worker.0 then offset_left slot before e.1.id e.1.kind else before
 
 abbrev all_written : Worker → Slot → Option ℕ → List (Worker × Entry) → Option ℕ
 all_written worker slot before entries = fold (written_by worker slot) before entries
 
 abbrev own_written : Slot → Option ℕ → List Entry → Option ℕ
-own_written slot before entries = fold (λ (b : Option ℕ) (entry : Entry). left_by slot b entry.id entry.kind) before entries
+own_written slot before entries = fold (λ (b : Option ℕ) (entry : Entry). offset_left slot b entry.id entry.kind) before entries
 
 own_all : (worker : Worker) (slot : Slot) (before : Option ℕ) (entries : List (Worker × Entry))
     → own_written slot before (entries_for worker entries) ≡ all_written worker slot before entries
@@ -64,15 +64,15 @@ own_all worker slot before (e ∷ entries) =
           → own_written slot before
           (map (λ (x : Worker × Entry). x.1)
           (if c then e ∷ filter (λ (x : Worker × Entry). x.0.0 == worker.0) entries else filter (λ (x : Worker × Entry). x.0.0 == worker.0) entries))
-          ≡ all_written worker slot (if c then left_by slot before e.1.id e.1.kind else before) entries
-      either true rest = rest (left_by slot before e.1.id e.1.kind)
+          ≡ all_written worker slot (if c then offset_left slot before e.1.id e.1.kind else before) entries
+      either true rest = rest (offset_left slot before e.1.id e.1.kind)
       either false rest = rest before
 
 ruled_written : (slot : Slot) (before : Option ℕ) (past : List Footprint) (entries : List Entry)
     → own_written slot before (entries_by_rule past entries) ≡ own_written slot before entries
 ruled_written slot before past [] = refl
 ruled_written slot before past (entry ∷ entries) =
-    ruled_written slot (left_by slot before entry.id entry.kind) (past ++ entry_footprint entry ∷ []) entries
+    ruled_written slot (offset_left slot before entry.id entry.kind) (past ++ entry_footprint entry ∷ []) entries
 
 -- ---- offsets other than 0
 
@@ -245,7 +245,7 @@ walk_seen place live number walk (form ∷ forms) worker object is homes fit few
     let ready : Walk = fold (with_need owner) walk form.reads in
     let like_ready : AreLike walk.offsets ready.offsets = like_needs owner form.reads walk in
     let now : IsWalked number ready = needs_walked number owner form.reads walk is own in
-    let next : Walk = after_form place live number walk form in
+    let next : Walk = walked_past place live number walk form in
     let like : AreLike walk.offsets next.offsets = form_like place live number walk next form refl in
     let slot : Slot = main_slot object in
     let more : List (Worker × Entry) = flat_map (entry_for form) (scheduled ready.offsets (task_for form) number number place live) in
@@ -285,7 +285,7 @@ closing_more most offsets need from kept below there some found = either (latest
 
 closings_seen : (most : ℕ) (offsets : Versions) (needs : List (Worker × Object)) (copy : ℕ) (worker : Worker) (object : Object) → IsKept most offsets
     → AreNeeds offsets needs → worker.0 < offsets.workers → object.0 < offsets.objects
-    → seen (held_at (closed offsets needs) worker (main_slot object))
+    → seen (held_at (after_closings offsets needs) worker (main_slot object))
     ≡ all_written worker (main_slot object) (seen (held_at offsets worker (main_slot object))) (closing_entries copy (closings offsets needs))
 closings_seen most offsets [] copy worker object kept are below there = refl
 closings_seen most offsets (need ∷ needs) copy worker object kept are below there =
@@ -295,10 +295,10 @@ closings_seen most offsets (need ∷ needs) copy worker object kept are below th
     (λ k. closings_seen most (closed_for offsets need) needs k worker object after.kept (needs_after most offsets (closed_for offsets need) needs after are.3)
     (omega (arith, after.workers, below)) (omega (arith, after.objects, there))) where
       shown : (o : Option Worker) → closing_from offsets need ≡ o
-          → ((k : ℕ) → seen (held_at (closed (received_from offsets need o) needs) worker (main_slot object))
+          → ((k : ℕ) → seen (held_at (after_closings (received_from offsets need o) needs) worker (main_slot object))
           ≡ all_written worker (main_slot object) (seen (held_at (received_from offsets need o) worker (main_slot object)))
           (closing_entries k (closings (received_from offsets need o) needs)))
-          → seen (held_at (closed (received_from offsets need o) needs) worker (main_slot object))
+          → seen (held_at (after_closings (received_from offsets need o) needs) worker (main_slot object))
           ≡ all_written worker (main_slot object) (seen (held_at offsets worker (main_slot object)))
           (closing_entries copy (copy_from offsets need o ++ closings (received_from offsets need o) needs))
       shown None is rest = rest copy
@@ -310,10 +310,10 @@ closings_seen most offsets (need ∷ needs) copy worker object kept are below th
           (closing_more most offsets need from kept are.0 are.1 are.2 is))
 
       either : (o : Option Worker) → closing_from offsets need ≡ o
-          → ((k : ℕ) → seen (held_at (closed (closed_for offsets need) needs) worker (main_slot object))
+          → ((k : ℕ) → seen (held_at (after_closings (closed_for offsets need) needs) worker (main_slot object))
           ≡ all_written worker (main_slot object) (seen (held_at (closed_for offsets need) worker (main_slot object)))
           (closing_entries k (closings (closed_for offsets need) needs)))
-          → seen (held_at (closed (closed_for offsets need) needs) worker (main_slot object))
+          → seen (held_at (after_closings (closed_for offsets need) needs) worker (main_slot object))
           ≡ all_written worker (main_slot object) (seen (held_at offsets worker (main_slot object)))
           (closing_entries copy (copy_from offsets need (closing_from offsets need) ++ closings (closed_for offsets need) needs))
       either o is rest = shown (closing_from offsets need) refl rest
@@ -363,25 +363,25 @@ built_effect place objects live template some few fit =
     let copies : List Closing = closings walk.offsets needs in
     let closing : List (Worker × Entry) = closing_entries 0 copies in
     let entries : List (Worker × Entry) = walk.entries ++ closing in
-    let begins : IsWalked 0 (start workers objects) = start_walked workers objects in
+    let begins : IsWalked 0 (empty_walk workers objects) = start_walked workers objects in
     let homes : (n : ℕ) (f : TaskForm) → (home_of place n live f).0 < workers = home_within place live some in
-    let to : IsWalkedTo (0 + length forms) (start workers objects) walk = walk_kept place live 0 (start workers objects) forms begins homes (omega
+    let to : IsWalkedTo (0 + length forms) (empty_walk workers objects) walk = walk_kept place live 0 (empty_walk workers objects) forms begins homes (omega
     (arith, few)) in
     let are : AreNeeds walk.offsets needs = needs_are (0 + length forms) walk slots to.walked in
-    all_same (effect_here (closed walk.offsets needs)) (item_for (built place objects live template).halves) workers objects
+    all_same (effect_here (after_closings walk.offsets needs)) (item_for (built place objects live template).halves) workers objects
     (λ worker object below there.
     let slot : Slot = main_slot object in
     let tasks : seen (held_at walk.offsets worker slot) ≡ all_written worker slot None walk.entries =
-    walk_seen place live 0 (start workers objects) forms worker object begins homes fit (omega (arith, few)) below there
+    walk_seen place live 0 (empty_walk workers objects) forms worker object begins homes fit (omega (arith, few)) below there
     (ap seen (nothing_held workers objects worker object)) in
-    let ends : seen (held_at (closed walk.offsets needs) worker slot) ≡ all_written worker slot None entries =
+    let ends : seen (held_at (after_closings walk.offsets needs) worker slot) ≡ all_written worker slot None entries =
     closings_seen (0 + length forms) walk.offsets needs 0 worker object to.walked.kept are (omega (arith, to.like.workers, below))
     (omega (arith, to.like.objects, there))
     ∙ ap (λ (s : Option ℕ). all_written worker slot s closing) tasks
     ∙ sym (fold-append (written_by worker slot) None walk.entries closing) in
     let half : slice_index_or (built place objects live template).halves worker.0 [] ≡ half_for worker entries =
     get_or-map-range_with_len (λ (n : ℕ). half_for (record { 0 = n }) entries) 0 workers worker.0 worker.0 [] below (omega arith) in
-    item_seen (worker, object) (held_at (closed walk.offsets needs) worker slot)
+    item_seen (worker, object) (held_at (after_closings walk.offsets needs) worker slot)
     ∙ ap (item_of (worker, object))
     (ends ∙ sym (own_all worker slot None entries) ∙ sym (ruled_written slot None [] (entries_for worker entries))
     ∙ sym (ap (λ (es : List Entry). last_written es slot) half)))

@@ -13,8 +13,8 @@ use Rattle.nim_place.specs.declared.placement.Placement.{Placement}
 use Rattle.nim_place.specs.Versions.{Versions, held_at, is_current}
 use Rattle.nim_template.specs.declared.template.ControllerTemplate.{ControllerTemplate}
 use Rattle.nim_template.specs.declared.walk.Walk.{Walk}
-use Rattle.nim_template.specs.Closing.{closed, closing_entries, closings}
-use Rattle.nim_template.specs.Walk.{home_of, offset_for, start, walked}
+use Rattle.nim_template.specs.Closing.{after_closings, closing_entries, closings}
+use Rattle.nim_template.specs.Walk.{home_of, offset_for, empty_walk, walked}
 
 -- the main slots of a worker, each as worker and object
 abbrev pub slots_of : Worker → ℕ → List (Worker × Object)
@@ -49,25 +49,25 @@ abbrev pub half_for : Worker → List (Worker × Entry) → List Entry
 half_for worker entries = entries_by_rule [] (entries_for worker entries)
 
 -- the halves of so many workers
-abbrev pub halves_of : ℕ → List (Worker × Entry) → List (List Entry)
-halves_of workers entries = map (λ (number : ℕ). half_for (record { 0 = number }) entries) (range_with_len 0 workers)
+abbrev pub all_halves : ℕ → List (Worker × Entry) → List (List Entry)
+all_halves workers entries = map (λ (number : ℕ). half_for (record { 0 = number }) entries) (range_with_len 0 workers)
 
 -- where the walk over all tasks ends
 abbrev pub end_of : Placement → ℕ → List Bool → List TaskForm → Walk
-end_of place objects live forms = walked place live 0 (start (length live) objects) forms
+end_of place objects live forms = walked place live 0 (empty_walk (length live) objects) forms
 
 -- the template that the end of the walk gives, its closing copies behind it
 abbrev pub template_of : ControllerTemplate → ℕ → List (Worker × Object) → Walk → List Worker → WorkerTemplate
 template_of template workers slots walk homes =
     let needs : List (Worker × Object) = needs_of walk.needed slots in
-    let halves : List (List Entry) = halves_of workers (walk.entries ++ closing_entries 0 (closings walk.offsets needs)) in
+    let halves : List (List Entry) = all_halves workers (walk.entries ++ closing_entries 0 (closings walk.offsets needs)) in
     record {
       block = template.block;
       forms = template.forms;
       halves = halves;
       built = halves;
       preconditions = needs;
-      effect = effect_of (closed walk.offsets needs) slots;
+      effect = effect_of (after_closings walk.offsets needs) slots;
       homes = homes;
       owners = homes;
       unsent = [];

@@ -40,8 +40,8 @@ closings offsets [] = []
 closings offsets (need ∷ needs) = closing_for offsets need ++ closings (closed_for offsets need) needs
 
 -- what main slots have behind them
-abbrev pub closed : Versions → List (Worker × Object) → Versions
-closed offsets needs = fold closed_for offsets needs
+abbrev pub after_closings : Versions → List (Worker × Object) → Versions
+after_closings offsets needs = fold closed_for offsets needs
 
 -- the number of a closing copy, at both its ends
 abbrev pub closing_number : ℕ → ℕ

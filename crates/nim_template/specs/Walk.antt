@@ -27,8 +27,8 @@ abbrev pub home_of : Placement → ℕ → List Bool → TaskForm → Worker
 home_of place objects live form = owner_of place (task_for form) objects live
 
 -- nothing is written yet, and nothing needed
-abbrev pub start : ℕ → ℕ → Walk
-start workers objects = record { offsets = no_versions workers objects; needed = no_versions workers objects; entries = [] }
+abbrev pub empty_walk : ℕ → ℕ → Walk
+empty_walk workers objects = record { offsets = no_versions workers objects; needed = no_versions workers objects; entries = [] }
 
 -- a worker's main slot of an object has this offset
 abbrev pub with_offset : Worker → Object → ℕ → Versions → Versions
@@ -65,8 +65,8 @@ entry_for form c = entry_if c.0 c.1.id (entry_kind form c.1.kind)
 
 -- Task `number` of a block: what it needs at entry, and then the commands that single scheduling gives it at its home,
 -- at the position of its number.
-abbrev pub after_form : Placement → List Bool → ℕ → Walk → TaskForm → Walk
-after_form place live number walk form =
+abbrev pub walked_past : Placement → List Bool → ℕ → Walk → TaskForm → Walk
+walked_past place live number walk form =
     let ready : Walk = fold (with_need (home_of place walk.offsets.objects live form)) walk form.reads in
     let commands : List (Worker × Command) = scheduled ready.offsets (task_for form) number number place live in
     record {
@@ -78,4 +78,4 @@ after_form place live number walk form =
 -- the tasks of a block from one of this number on
 abbrev pub walked : Placement → List Bool → ℕ → Walk → List TaskForm → Walk
 walked place live number walk [] = walk
-walked place live number walk (form ∷ forms) = walked place live (number + 1) (after_form place live number walk form) forms
+walked place live number walk (form ∷ forms) = walked place live (number + 1) (walked_past place live number walk form) forms

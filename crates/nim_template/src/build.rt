@@ -105,7 +105,7 @@ fn template_of(
     let needs = needs_of(alloc, &needed, slots.as_slice())?;
     let copies = closings(alloc, &mut offsets, needs.as_slice())?;
     push_closings(&mut entries, copies.as_slice())?;
-    let halves = Seq::from_vec(halves_of(alloc, workers, entries.as_slice())?);
+    let halves = Seq::from_vec(all_halves(alloc, workers, entries.as_slice())?);
     let built = halves.copy()?;
     let effect = effect_of(alloc, &offsets, slots.as_slice())?;
     let owners = Vec::from_slice(alloc, homes.as_slice())?;
@@ -123,12 +123,12 @@ fn template_of(
 }
 
 /// The halves of so many workers.
-fn halves_of(
+fn all_halves(
     alloc: Global,
     workers: u16,
     entries: &[(Worker, Entry)],
 ) -> Result<Vec<Half>, NoMemory>
-    ensures { IfOk result (λ halves. halves.items ≡ spec.halves_of workers entries.now) }
+    ensures { IfOk result (λ halves. halves.items ≡ spec.all_halves workers entries.now) }
 {
     let mut halves = Vec::new(alloc);
     for number in 0..workers {

@@ -24,7 +24,7 @@ pub(crate) fn closings(
     needs: &[(Worker, Object)],
 ) -> Result<Vec<Closing>, NoMemory>
     ensures copies { IfOk result (λ copies. copies.items ≡ spec.closings offsets.old needs.now) }
-    ensures closed { IfOk result (λ copies. offsets.new ≡ spec.closed offsets.old needs.now) }
+    ensures closed { IfOk result (λ copies. offsets.new ≡ spec.after_closings offsets.old needs.now) }
 {
     let mut copies = Vec::new(alloc);
     for need in needs {

@@ -37,9 +37,9 @@ pub(crate) fn walked(
     requires many { length forms.now ≤ 1024 }
     requires fit { list_all (is_fit objects) forms.now ≡ true }
     ensures { IfOk result (λ walk.
-        walk ≡ spec.walked place.now live.now 0 (spec.start (length live.now) objects) forms.now) }
+        walk ≡ spec.walked place.now live.now 0 (spec.empty_walk (length live.now) objects) forms.now) }
 {
-    let mut walk = start(alloc, live.len() as u16, objects)?;
+    let mut walk = empty_walk(alloc, live.len() as u16, objects)?;
     for (number, form) in forms.iter().enumerate() {
         walk.take_form(alloc, number as u16, form, place, live)?;
     }
@@ -47,9 +47,9 @@ pub(crate) fn walked(
 }
 
 /// Nothing is written yet, and nothing needed.
-fn start(alloc: Global, workers: u16, objects: u16) -> Result<Walk, NoMemory>
+fn empty_walk(alloc: Global, workers: u16, objects: u16) -> Result<Walk, NoMemory>
     requires { objects ≤ 512 }
-    ensures { IfOk result (λ walk. walk ≡ spec.start workers objects) }
+    ensures { IfOk result (λ walk. walk ≡ spec.empty_walk workers objects) }
 {
     Ok(Walk {
         offsets: VersionMap::new(alloc, workers, objects)?,
@@ -72,7 +72,7 @@ impl Walk {
         requires few { length live.now ≤ 16 }
         requires live { list_any (λ flag. flag) live.now ≡ true }
         requires writes { IsSomeAnd (slice_get form.now.writes 0) (λ object. object.0 < self.old.offsets.objects) }
-        ensures { OnOk result (self.new ≡ spec.after_form place.now live.now number self.old form.now) }
+        ensures { OnOk result (self.new ≡ spec.walked_past place.now live.now number self.old form.now) }
     {
         let task = task_for(alloc, form)?;
         let owner = home_of(place, form, self.offsets.objects(), live);

@@ -12,7 +12,7 @@ returns c =
     (search (rules, c.in_ok-copies.ensures.copies, c.as_slice-2.ensures.value, c.from_vec.ensures))
     (search (rules, c.in_ok-copies.ensures.closed, c.as_slice-2.ensures.value, c.from_vec.ensures))
     (search (rules, c.in_ok-push_closings.ensures, c.as_slice-3.ensures.value))
-    (search (rules, c.from_vec-halves.ensures, c.in_ok-halves_of.ensures, c.as_slice-4.ensures))
+    (search (rules, c.from_vec-halves.ensures, c.in_ok-all_halves.ensures, c.as_slice-4.ensures))
     (search (rules, c.in_ok-built.ensures))
     (search (rules, c.from_vec-2.ensures, c.in_ok-effect.ensures, c.as_slice-5.ensures.value))
     c.from_vec-3.ensures

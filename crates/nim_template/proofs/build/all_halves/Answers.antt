@@ -1,5 +1,5 @@
 use Rattle.nim_template.proofs.Ranges.{halves_pushed}
-use Rattle.nim_template.proofs.build.halves_of.Goals as goal
+use Rattle.nim_template.proofs.build.all_halves.Goals as goal
 
 pub loop-number-preserved : goal.loop-number-preserved
 loop-number-preserved c =
