@@ -126,8 +126,9 @@ pub(crate) fn is_among(slots: &[Slot], slot: Slot) -> bool
     slots.iter().any(|one| one.0 == slot.0)
 }
 
-/// Entries, each with the before set of the rule in place of its own.
-pub(crate) fn entries_by_rule(alloc: Global, entries: Vec<Entry>) -> Result<Vec<Entry>, NoMemory>
+/// Entries, each with the before set of the rule in place of its own. Their meaning is `entries_by_rule` of
+/// `specs/Ruled.antt`.
+pub fn entries_by_rule(alloc: Global, entries: Vec<Entry>) -> Result<Vec<Entry>, NoMemory>
     ensures { IfOk result (λ all. all.items ≡ ruled.entries_by_rule [] entries.items) }
 {
     let mut done = Vec::new(alloc);

@@ -15,6 +15,7 @@ mod rank;
 mod slots;
 mod template;
 
+pub use before::entries_by_rule;
 pub use command::{Command, Kind};
 pub use edit::{Edit, PatchPart, Spec};
 pub use entry::{Entry, EntryKind};

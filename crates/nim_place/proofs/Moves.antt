@@ -1,9 +1,10 @@
 -- What has to move: each object is read, moves once, and comes from a worker that isn't the owner.
-use Rattle.std.proofs.Common.{◌≡◌, ℕ, zero, suc, ◌+◌, ◌<◌, Bool, true, false, List, [], ◌∷◌, ◌++◌, length, refl, ap, sym, ◌∙◌, arith, Option, None, Some}
+use Rattle.std.proofs.Common.{◌≡◌, ℕ, zero, suc, ◌+◌, ◌<◌, ◌≤◌, Bool, true, false, List, [], ◌∷◌, ◌++◌, length, refl, ap, sym, ◌∙◌, arith, Option, None, Some}
 use Rattle.std.specs.Prelude.{◌==◌, ◌||◌, if◌then◌else◌}
 use Rattle.std.specs.List.{list_any}
 use Rattle.std.specs.Option.{option_map_or}
 use Rattle.std.proofs.lemmas.Bool.{eq-eqb, eqb-true, false≢true}
+use Rattle.std.proofs.lemmas.List.{length-append}
 use Rattle.std.proofs.lemmas.List.Folds.{list_any-append}
 use Rattle.nim_base.specs.declared.number.Object.{Object}
 use Rattle.nim_base.specs.declared.number.Worker.{Worker}
@@ -123,3 +124,47 @@ moves_behind versions owner all past (next ∷ reads) within =
 
 pub moves_facts : (versions : Versions) (owner : Worker) (reads : List Object) → AreMoves versions owner reads (moves versions owner [] reads)
 moves_facts versions owner reads = moves_behind versions owner reads [] reads (λ object is. is)
+
+-- the indices of moves ascend, from one on and below another
+abbrev pub AreIndexed : ℕ → ℕ → List Moved → Type 0
+AreIndexed low high [] = Unit {0}
+AreIndexed low high (m ∷ ms) = (low ≤ m.index) × (m.index < high) × AreIndexed (m.index + 1) high ms
+
+indexed_lower : (lower low high : ℕ) (ms : List Moved) → lower ≤ low → AreIndexed low high ms → AreIndexed lower high ms
+indexed_lower lower low high [] below are = tt
+indexed_lower lower low high (m ∷ ms) below are = (omega (arith, below, are.0), are.1, are.2)
+
+pub moves_indexed : (versions : Versions) (owner : Worker) (past reads : List Object) (high : ℕ) → length past + length reads ≤ high
+    → AreIndexed (length past) high (moves versions owner past reads)
+moves_indexed versions owner past [] high room = tt
+moves_indexed versions owner past (next ∷ reads) high room =
+    let longer : length (past ++ next ∷ []) ≡ length past + 1 = length-append past (next ∷ []) in
+    let rest : AreIndexed (length past + 1) high (moves versions owner (past ++ next ∷ []) reads) =
+    indexed_lower (length past + 1) (length (past ++ next ∷ [])) high (moves versions owner (past ++ next ∷ []) reads) (omega (arith, longer))
+    (moves_indexed versions owner (past ++ next ∷ []) reads high (omega (arith, longer, room))) in
+    either (source_of versions owner past next) rest where
+      either : (o : Option Worker) → AreIndexed (length past + 1) high (moves versions owner (past ++ next ∷ []) reads)
+          → AreIndexed (length past) high (moved_first (length past) next o (moves versions owner (past ++ next ∷ []) reads))
+      either None rest = indexed_lower (length past) (length past + 1) high (moves versions owner (past ++ next ∷ []) reads) (omega arith) rest
+      either (Some from) rest = (omega arith, omega (arith, room), rest)
+
+-- the owner lacks what moves
+abbrev pub AreLacking : Versions → Worker → List Moved → Type 0
+AreLacking versions owner [] = Unit {0}
+AreLacking versions owner (m ∷ ms) = (is_current versions m.object owner ≡ false) × AreLacking versions owner ms
+
+pub moves_lacking : (versions : Versions) (owner : Worker) (past reads : List Object) → AreLacking versions owner (moves versions owner past reads)
+moves_lacking versions owner past [] = tt
+moves_lacking versions owner past (next ∷ reads) =
+    either (is_one_of past next) (is_current versions next owner) refl (moves_lacking versions owner (past ++ next ∷ []) reads) where
+      first : (o : Option Worker) → is_current versions next owner ≡ false → AreLacking versions owner (moves versions owner (past ++ next ∷ []) reads)
+          → AreLacking versions owner (moved_first (length past) next o (moves versions owner (past ++ next ∷ []) reads))
+      first None lacks rest = rest
+      first (Some from) lacks rest = (lacks, rest)
+
+      either : (a b : Bool) → is_current versions next owner ≡ b → AreLacking versions owner (moves versions owner (past ++ next ∷ []) reads)
+          → AreLacking versions owner
+          (moved_first (length past) next (if a || b then None else holder versions next) (moves versions owner (past ++ next ∷ []) reads))
+      either true b is rest = rest
+      either false true is rest = rest
+      either false false is rest = first (holder versions next) is rest
