@@ -3,7 +3,7 @@ ghost use Rattle.nim_template.specs.Closing as spec;
 
 use crate::entry::offset_for;
 use crate::walk::received;
-use nim_base::{NoMemory, Object, Seq, Slot, Worker};
+use nim_base::{NoMemory, Object, Seq, Short, Slot, Worker};
 use nim_command::{Entry, EntryKind};
 use nim_place::VersionMap;
 use std::alloc::Global;
@@ -93,7 +93,7 @@ fn closing_send(alloc: Global, index: usize, copy: &Closing) -> (Worker, Entry)
         peer: copy.to,
         entry: id,
     };
-    let before = Seq::new(alloc);
+    let before = Short::new(alloc);
     (copy.from, Entry { id, kind, before })
 }
 
@@ -105,7 +105,7 @@ fn closing_receive(alloc: Global, index: usize, copy: &Closing) -> (Worker, Entr
         offset: copy.offset,
     };
     let id = closing_number(index);
-    let before = Seq::new(alloc);
+    let before = Short::new(alloc);
     (copy.to, Entry { id, kind, before })
 }
 

@@ -2,7 +2,7 @@ ghost use Rattle.std.specs.Prelude.{◌≡◌, ◌++◌, IfOk, OnOk};
 ghost use Rattle.std.specs.List.{flat_map};
 ghost use Rattle.nim_template.specs.Walk as spec;
 
-use nim_base::{Copied, NoMemory, Param, Seq, TaskForm, Version, Worker};
+use nim_base::{Copied, NoMemory, Param, Seq, Short, TaskForm, Version, Worker};
 use nim_command::{Command, Entry, EntryKind, Kind};
 
 /// Adds the entries of a form's commands.
@@ -28,7 +28,7 @@ fn push_entry(
     ensures { OnOk result (entries.new ≡ entries.old ++ spec.entry_for form.now command.now) }
 {
     if let Some(kind) = entry_kind(form, &command.1.kind)? {
-        let before = Seq::new(entries.alloc());
+        let before = Short::new(entries.alloc());
         let id = command.1.id;
         entries.push((command.0, Entry { id, kind, before }))?;
     }
@@ -65,10 +65,10 @@ fn entry_kind(form: &TaskForm, kind: &Kind) -> Result<Option<EntryKind>, NoMemor
 }
 
 /// The parameters of a form, as an entry has them.
-fn params_of(form: &TaskForm) -> Result<Seq<Param>, NoMemory>
+fn params_of(form: &TaskForm) -> Result<Short<Param, 3>, NoMemory>
     ensures { IfOk result (λ params. params ≡ form.now.params) }
 {
-    form.params.copy()
+    Short::from_slice(form.params.alloc(), form.params.as_slice())
 }
 
 /// An offset as an entry has it.
