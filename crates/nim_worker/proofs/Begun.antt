@@ -1,11 +1,10 @@
 -- What a core stands for once a batch is begun, and what the works of the batch have read.
-use Rattle.std.proofs.Common.{◌≡◌, ℕ, ◌<◌, ◌≤◌, Bool, true, false, List, [], ◌∷◌, ◌++◌, length, map, refl, ap, ap₂, sym, subst, ◌∙◌, Option, None, Some, All}
+use Rattle.std.proofs.Common.{◌≡◌, ℕ, Bool, true, false, List, [], ◌∷◌, ◌++◌, length, map, refl, ap, sym, subst, ◌∙◌, Option, None, Some, All}
 use Rattle.std.specs.Prelude.{◌==◌, ◌&&◌, if◌then◌else◌, IfSome, IsSomeAnd, IsTrue, slice_get}
 use Rattle.std.specs.List.{fold, range_with_len}
 use Rattle.std.specs.Option.{is_some, option_map_or}
 use Rattle.std.proofs.lemmas.Bool.{both_ways}
 use Rattle.std.proofs.lemmas.List.Elements.{All-cons, All-head, All-nil, All-tail}
-use Rattle.nim_base.specs.declared.number.Shape.{Shape}
 use Rattle.nim_base.specs.declared.number.Slot.{Slot}
 use Rattle.nim_base.specs.declared.task.Task.{Task}
 use Rattle.nim_base.specs.Apply.{has_counts}
@@ -14,7 +13,7 @@ use Rattle.nim_command.specs.declared.command.Kind.{Kind}
 use Rattle.nim_command.specs.declared.command.Kind.TheVariants.{Run}
 use Rattle.nim_command.specs.Waits.{Group, members_of}
 use Rattle.nim_message.specs.declared.order.ToWorker.{ToWorker}
-use Rattle.nim_message.specs.Orders.{Session, after_order, no_session, session_of}
+use Rattle.nim_message.specs.Orders.{Session, after_order, no_session}
 use Rattle.nim_order.specs.Progress.{is_one_of}
 use Rattle.nim_job.specs.declared.job.Job.{Job}
 use Rattle.nim_job.specs.Serial.{tasks_of}
@@ -35,7 +34,7 @@ use Rattle.nim_worker.specs.declared.batch.Work.{Work}
 use Rattle.nim_worker.specs.declared.worker.WorkerCore.{WorkerCore}
 use Rattle.nim_worker.specs.Chains.{AreWorks, HasRead, HaveRead}
 use Rattle.nim_worker.specs.Right.{ReadsRight}
-use Rattle.nim_worker.specs.Stands.{HasRoom, HasState, IsAtRest, IsAtWork, IsBeginning, IsOut, Stands, begun_at, begun_of, completions, tickets_of}
+use Rattle.nim_worker.specs.Stands.{HasRoom, HasState, IsBeginning, IsOut, Stands, begun_of, tickets_of}
 use Rattle.nim_worker.specs.Taken.{taken_from, taken_of}
 use Rattle.nim_worker.specs.Works.{Begun, begun_as, position_of}
 use Rattle.nim_worker.proofs.Chains.{works_read}
@@ -133,8 +132,7 @@ run_right job before (Run at func params reads writes) work is read right positi
     (subst (λ (n : ℕ). IsSomeAnd (slice_get (tasks_of job) n) (λ task. (has_counts func (length params) (length reads) (length writes) ≡ true)
     × (map (content_seen before) reads ≡ reads_at job n task) × (map (λ slot. (seen before slot).value) reads ≡ values_read job n task))) same right)
     (λ task there parts.
-    let counts = ap (λ (b : Bool). if b then reads else []) parts.0 in
-    (
+    let counts = ap (λ (b : Bool). if b then reads else []) parts.0 in (
       read.contents ∙ ap (map (content_seen before)) counts ∙ parts.1,
       read.values ∙ ap (map (λ slot. (seen before slot).value)) counts ∙ parts.2,
     ))

@@ -1,22 +1,18 @@
 -- What a core stands for while its batch is finished.
-use Rattle.std.proofs.Common.{◌≡◌, ℕ, ◌<◌, Bool, true, false, List, [], ◌∷◌, ◌++◌, length, map, reverse, refl, ap, ap₂, sym, subst, ◌∙◌, Option, None, Some, All, append_assoc, append-nil}
-use Rattle.std.specs.Prelude.{◌==◌, ◌&&◌, if◌then◌else◌, IsTrue}
+use Rattle.std.proofs.Common.{◌≡◌, ℕ, ◌<◌, Bool, true, false, List, [], ◌∷◌, ◌++◌, length, map, refl, ap, sym, subst, ◌∙◌, Option, None, Some, All, append_assoc, append-nil}
+use Rattle.std.specs.Prelude.{if◌then◌else◌, IsTrue}
 use Rattle.std.specs.List.{fold}
 use Rattle.std.specs.Option.{is_some, option_map_or}
-use Rattle.std.proofs.lemmas.Bool.{both_ways}
 use Rattle.std.proofs.lemmas.List.{map-append}
 use Rattle.std.proofs.lemmas.List.Elements.{All-tail}
 use Rattle.std.proofs.lemmas.List.Sums.{fold-append}
-use Rattle.nim_base.specs.declared.number.Shape.{Shape}
-use Rattle.nim_base.specs.declared.number.Slot.{Slot}
-use Rattle.nim_command.specs.Waits.{Group, members_of}
+use Rattle.nim_command.specs.Waits.{members_of}
 use Rattle.nim_order.specs.Progress.{is_one_of}
 use Rattle.nim_job.specs.declared.job.Job.{Job}
 use Rattle.nim_job.specs.Whole.{is_whole}
-use Rattle.nim_store.specs.declared.held.Held.{Held}
 use Rattle.nim_store.specs.Stored.{slot_at}
 use Rattle.nim_history.specs.declared.out.Out.{Out}
-use Rattle.nim_history.specs.History.{Asked, Happening, Completed, IsHistory, MayAllHappen, WorkerState, after_asked, after_happening, asked_at, completed, left_of, outs_of, state_of, through_outs}
+use Rattle.nim_history.specs.History.{Asked, Happening, Completed, MayAllHappen, WorkerState, after_asked, after_happening, asked_at, completed, outs_of, state_of}
 use Rattle.nim_history.specs.Truth.{IsGoodOut, IsHandedTruth}
 use Rattle.nim_history.proofs.GoesOn.{history_goes_on, truth_goes_on}
 use Rattle.nim_history.proofs.Law.{histories_are_true}
@@ -24,7 +20,7 @@ use Rattle.nim_worker.specs.declared.batch.Batch.{Batch}
 use Rattle.nim_worker.specs.declared.batch.Work.{Work}
 use Rattle.nim_worker.specs.declared.worker.WorkerCore.{WorkerCore}
 use Rattle.nim_worker.specs.Chains.{AreWorks}
-use Rattle.nim_worker.specs.Stands.{Gave, HasRoom, HasState, IsAtRest, IsAtWork, IsOut, Stands, StandsAt, after_completions, begun_of, completions, completions_of, outs_at, tickets_of}
+use Rattle.nim_worker.specs.Stands.{Gave, HasState, IsAtWork, IsOut, Stands, after_completions, begun_of, completions, completions_of, outs_at, tickets_of}
 use Rattle.nim_worker.specs.Works.{Begun, begun_as}
 use Rattle.nim_worker.proofs.Begun.{asked_of, begun_first}
 use Rattle.nim_worker.proofs.Handed.{stands_on}

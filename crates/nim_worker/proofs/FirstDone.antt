@@ -1,5 +1,5 @@
 -- The first work that is out is complete.
-use Rattle.std.proofs.Common.{◌≡◌, ℕ, suc, zero, ◌<◌, Bool, true, false, List, [], ◌∷◌, ◌++◌, length, refl, ap, ap₂, sym, subst, ◌∙◌, arith, Option, None, Some}
+use Rattle.std.proofs.Common.{◌≡◌, ℕ, suc, zero, Bool, List, [], ◌∷◌, ◌++◌, refl, ap, sym, subst, ◌∙◌, arith, Option, Some}
 use Rattle.std.specs.Prelude.{◌==◌, ◌&&◌, IfOk, OnOk, Result, Ok, Err}
 use Rattle.std.specs.Option.{option_map, option_map_or}
 use Rattle.std.proofs.lemmas.Bool.{ne_eqb}
@@ -49,7 +49,7 @@ ended_same groups ran place asked ended found is =
 -- the works that are out, for what the core has
 pub chain_out : (core : WorkerCore) (state : WorkerState) (work : Work) (left : List Work) (first : IsFirstOut core work left state) → HasState core state
     → AreWorks core.store.shapes state.slots (slot_at core.store)
-        (begun_as work.ticket first.asked.command.kind ∷ begun_of state.session.groups (tickets_of left)) (work ∷ left)
+    (begun_as work.ticket first.asked.command.kind ∷ begun_of state.session.groups (tickets_of left)) (work ∷ left)
 chain_out core state work left first has =
     subst
     (λ (all : List Shape). AreWorks all state.slots (slot_at core.store)

@@ -2,9 +2,8 @@
 use Rattle.std.proofs.Common.{◌≡◌, ◌≤◌, arith, ℕ, Bool, true, false, not, List, [], ◌∷◌, ◌++◌, refl, ap, ap₂, sym, subst, ◌∙◌, Option, None, Some, All}
 use Rattle.std.specs.Prelude.{◌==◌, ◌&&◌, nat_lt, if◌then◌else◌, OnOk, Result, Ok, Err}
 use Rattle.std.specs.FinMap as map
-use Rattle.std.specs.List.{flat_map, fold}
+use Rattle.std.specs.List.{fold}
 use Rattle.std.specs.Option.{is_some, option_map_or}
-use Rattle.std.proofs.lemmas.Bool.{and_parts, both_ways, eqb-true}
 use Rattle.std.proofs.lemmas.List.Elements.{All-head, All-tail}
 use Rattle.nim_base.specs.declared.number.Shape.{Shape}
 use Rattle.nim_base.specs.declared.number.Slot.{Slot}
@@ -39,7 +38,7 @@ use Rattle.nim_worker.specs.Chains.{AreWorks}
 use Rattle.nim_worker.specs.declared.head.GroupHead.{GroupHead}
 use Rattle.nim_worker.specs.declared.messages.Asked.{Asked}
 use Rattle.nim_worker.specs.Messages.{IsInstantiated, IsReset}
-use Rattle.nim_worker.specs.Stands.{HasSession, HasState, IsAtRest, IsAtWork, IsOut, MayBeOut, Stands, StandsAt, begun_at, begun_of, completions, is_current, is_passed, tickets_of}
+use Rattle.nim_worker.specs.Stands.{HasSession, HasState, IsAtRest, IsAtWork, IsOut, MayBeOut, Stands, StandsAt, begun_of, is_current, is_passed, tickets_of}
 use Rattle.nim_worker.specs.Works.{Begun, begun_as}
 
 -- what goes on behind a history
@@ -150,13 +149,13 @@ work_ordered : (old new : WorkerCore) (state : WorkerState) (order : ToWorker) (
 work_ordered old new state order works is same at = record {
   may = commands_in_turn.orders state order (tickets_of works) is at.may;
   chain =
-    let begun = begun_same state.session.groups (ordered state order).session.groups (tickets_of works) (commands_in_turn.same state order (tickets_of works) is at.may) in
-    let shapes : (ordered state order).session.shapes ≡ state.session.shapes = ap (λ (s : Session). s.shapes) (ordered_session state order) ∙ shapes_stay state.session order is in
-    let slots : (ordered state order).slots ≡ state.slots = ap (λ (s : WorkerState). s.slots) (ordered_is state order is) in
-    subst (λ (b : List Begun). AreWorks (ordered state order).session.shapes (ordered state order).slots (slot_at new.store) b works) (sym begun)
-    (subst (λ (all : List Shape). AreWorks all (ordered state order).slots (slot_at new.store) (begun_of state.session.groups (tickets_of works)) works) (sym shapes)
-    (subst (λ (s : Slot → Option Held). AreWorks state.session.shapes s (slot_at new.store) (begun_of state.session.groups (tickets_of works)) works) (sym slots)
-    (subst (λ (s : Slot → Option Held). AreWorks state.session.shapes state.slots s (begun_of state.session.groups (tickets_of works)) works) (ap slot_at (sym same.store)) at.chain)));
+      let begun = begun_same state.session.groups (ordered state order).session.groups (tickets_of works) (commands_in_turn.same state order (tickets_of works) is at.may) in
+      let shapes : (ordered state order).session.shapes ≡ state.session.shapes = ap (λ (s : Session). s.shapes) (ordered_session state order) ∙ shapes_stay state.session order is in
+      let slots : (ordered state order).slots ≡ state.slots = ap (λ (s : WorkerState). s.slots) (ordered_is state order is) in
+      subst (λ (b : List Begun). AreWorks (ordered state order).session.shapes (ordered state order).slots (slot_at new.store) b works) (sym begun)
+      (subst (λ (all : List Shape). AreWorks all (ordered state order).slots (slot_at new.store) (begun_of state.session.groups (tickets_of works)) works) (sym shapes)
+      (subst (λ (s : Slot → Option Held). AreWorks state.session.shapes s (slot_at new.store) (begun_of state.session.groups (tickets_of works)) works) (sym slots)
+      (subst (λ (s : Slot → Option Held). AreWorks state.session.shapes state.slots s (begun_of state.session.groups (tickets_of works)) works) (ap slot_at (sym same.store)) at.chain)));
 }
 
 -- a core that has what counts after an order which is no Reset

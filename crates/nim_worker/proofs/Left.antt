@@ -1,5 +1,5 @@
 -- How much a core has still to do, by what has happened at it.
-use Rattle.std.proofs.Common.{◌≡◌, ℕ, List, length}
+use Rattle.std.proofs.Common.{◌≡◌, List, length}
 use Rattle.std.specs.Prelude.{Option, not}
 use Rattle.std.specs.List.{filter, range_with_len}
 use Rattle.nim_command.specs.Waits.{members_of}

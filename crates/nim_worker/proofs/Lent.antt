@@ -1,12 +1,12 @@
 -- A batch whose works were performed is out still.
-use Rattle.std.proofs.Common.{◌≡◌, ◌≤◌, ◌+◌, ℕ, Bool, true, false, List, [], ◌∷◌, length, refl, ap, ap₂, sym, subst, ◌∙◌, arith, Option, Some}
+use Rattle.std.proofs.Common.{◌≡◌, ℕ, Bool, true, false, List, [], ◌∷◌, length, refl, ap, ap₂, sym, subst, ◌∙◌, arith, Option}
 use Rattle.std.specs.Prelude.{if◌then◌else◌}
 use Rattle.std.proofs.lemmas.List.{length-map}
 use Rattle.nim_base.specs.declared.number.Shape.{Shape}
 use Rattle.nim_base.specs.declared.number.Slot.{Slot}
 use Rattle.nim_store.specs.declared.held.Held.{Held}
 use Rattle.nim_store.specs.Stored.{slot_at}
-use Rattle.nim_history.specs.History.{Happening, MayAllHappen, WorkerState, state_of}
+use Rattle.nim_history.specs.History.{MayAllHappen, WorkerState, state_of}
 use Rattle.nim_worker.specs.declared.batch.Batch.{Batch}
 use Rattle.nim_worker.specs.declared.batch.Work.{Work}
 use Rattle.nim_worker.specs.declared.worker.WorkerCore.{WorkerCore}
@@ -54,13 +54,12 @@ lent_out core old new state true lent out = (out, refl)
 lent_out core old new state false lent out =
     let still = out_still core old new state lent out.0 in
     let many : length old.works.items ≡ length new.works.items =
-    sym (length-map old.works.items (λ (w : Work). w.ticket)) ∙ ap length still.same ∙ length-map new.works.items (λ (w : Work). w.ticket) in
-    (
+    sym (length-map old.works.items (λ (w : Work). w.ticket)) ∙ ap length still.same ∙ length-map new.works.items (λ (w : Work). w.ticket) in (
       (
         still.work,
         λ begun.
-        let room = out.1 begun in
-        record { works = omega (arith, room.works, lent.room); inputs = omega (arith, room.inputs, many, ap (λ spare. length spare.items) lent.spare) },
+            let room = out.1 begun in
+            record { works = omega (arith, room.works, lent.room); inputs = omega (arith, room.inputs, many, ap (λ spare. length spare.items) lent.spare) },
       ),
       ap completions (sym still.same),
     )

@@ -1,6 +1,6 @@
 -- Which commands meet, by what is kept of them while they aren't complete.
 use Rattle.std.proofs.Common.{◌≡◌, ◌<◌, ℕ, suc, zero, Bool, true, false, List, [], ◌∷◌, get_or, length, take, refl, ap, ap₂, sym, subst, arith, ◌∙◌, Option, None, Some, All}
-use Rattle.std.specs.Prelude.{◌||◌, slice_get}
+use Rattle.std.specs.Prelude.{slice_get}
 use Rattle.std.specs.List.{list_any}
 use Rattle.std.specs.Option.{option_map, option_map_or}
 use Rattle.std.proofs.lemmas.Bool.{or_from, or_left, or_parts, or_right}

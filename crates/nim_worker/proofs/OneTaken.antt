@@ -1,7 +1,7 @@
 -- One more command is taken into a batch that is being begun.
-use Rattle.std.proofs.Common.{◌≡◌, ℕ, Bool, true, false, List, [], ◌∷◌, ◌++◌, map, refl, ap, ap₂, sym, subst, ◌∙◌, Option, None, Some, All}
-use Rattle.std.specs.Prelude.{◌==◌, ◌&&◌, ◌||◌, not, if◌then◌else◌, IfSome}
-use Rattle.std.specs.List.{flat_map, list_all, list_any}
+use Rattle.std.proofs.Common.{◌≡◌, ℕ, Bool, true, false, List, [], ◌∷◌, ◌++◌, refl, ap, sym, subst, ◌∙◌, Option, None, Some, All}
+use Rattle.std.specs.Prelude.{◌==◌, ◌&&◌, not, if◌then◌else◌, IfSome}
+use Rattle.std.specs.List.{list_all, list_any}
 use Rattle.std.specs.Option.{option_map, option_map_or}
 use Rattle.std.proofs.lemmas.Bool.{and_from, and_left, and_right, both_ways, eqb-true, or_from, or_parts}
 use Rattle.std.proofs.lemmas.List.{map-append}
@@ -140,11 +140,11 @@ maybe_taken old new works more state ticket begins same shapes released framed n
           → (tickets_of more ≡ (if is_taken state (tickets_of works) ticket then tickets_of works ++ ticket ∷ [] else tickets_of works)) × IsBeginning new more state
       either None missing framed b = (
         ap tickets_of b.1
-        ∙ sym (ap (λ (t : Bool). if t then tickets_of works ++ ticket ∷ [] else tickets_of works)
-        (ap (λ (o : Option Asked). (is_released state.session.groups (is_one_of state.ran) ticket && option_map_or (has_frame state) o false)
-        && not (list_any (λ earlier. do_meet state.session.groups earlier ticket) (tickets_of works))) missing
-        ∙ and_left (is_released state.session.groups (is_one_of state.ran) ticket && false) (not (list_any (λ earlier. do_meet state.session.groups earlier ticket) (tickets_of works)))
-        (and_right (is_released state.session.groups (is_one_of state.ran) ticket) false refl))),
+            ∙ sym (ap (λ (t : Bool). if t then tickets_of works ++ ticket ∷ [] else tickets_of works)
+            (ap (λ (o : Option Asked). (is_released state.session.groups (is_one_of state.ran) ticket && option_map_or (has_frame state) o false)
+            && not (list_any (λ earlier. do_meet state.session.groups earlier ticket) (tickets_of works))) missing
+            ∙ and_left (is_released state.session.groups (is_one_of state.ran) ticket && false) (not (list_any (λ earlier. do_meet state.session.groups earlier ticket) (tickets_of works)))
+            (and_right (is_released state.session.groups (is_one_of state.ran) ticket) false refl))),
         record {
           has = state_stays old new state same shapes begins.has;
           chain = subst (λ (all : List Work). AreWorks state.session.shapes state.slots (slot_at new.store) (begun_of state.session.groups (tickets_of all)) all) (sym b.1)
@@ -153,14 +153,13 @@ maybe_taken old new works more state ticket begins same shapes released framed n
         },
       )
       either (Some asked) found framed b =
-          let taken = one_taken old new works more state ticket asked begins same shapes found waiting none b in
-          (
+          let taken = one_taken old new works more state ticket asked begins same shapes found waiting none b in (
             taken.0
-            ∙ sym (ap (λ (t : Bool). if t then tickets_of works ++ ticket ∷ [] else tickets_of works)
-            (ap (λ (o : Option Asked). (is_released state.session.groups (is_one_of state.ran) ticket && option_map_or (has_frame state) o false)
-            && not (list_any (λ earlier. do_meet state.session.groups earlier ticket) (tickets_of works))) found
-            ∙ and_from (is_released state.session.groups (is_one_of state.ran) ticket && has_frame state asked)
-            (not (list_any (λ earlier. do_meet state.session.groups earlier ticket) (tickets_of works)))
-            (and_from (is_released state.session.groups (is_one_of state.ran) ticket) (has_frame state asked) released (sym framed)) (ap not none))),
+                ∙ sym (ap (λ (t : Bool). if t then tickets_of works ++ ticket ∷ [] else tickets_of works)
+                (ap (λ (o : Option Asked). (is_released state.session.groups (is_one_of state.ran) ticket && option_map_or (has_frame state) o false)
+                && not (list_any (λ earlier. do_meet state.session.groups earlier ticket) (tickets_of works))) found
+                ∙ and_from (is_released state.session.groups (is_one_of state.ran) ticket && has_frame state asked)
+                (not (list_any (λ earlier. do_meet state.session.groups earlier ticket) (tickets_of works)))
+                (and_from (is_released state.session.groups (is_one_of state.ran) ticket) (has_frame state asked) released (sym framed)) (ap not none))),
             taken.1,
           )

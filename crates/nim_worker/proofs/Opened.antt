@@ -5,7 +5,7 @@ use Rattle.std.specs.BTreeMap.{BTreeMap, get}
 use Rattle.std.specs.Option.{option_and_then, option_map, option_map_or}
 use Rattle.std.specs.Ordering.{nat_cmp}
 use Rattle.std.proofs.Math.Path.{fun_ext}
-use Rattle.std.proofs.lemmas.Bool.{both_ways, cases_eq, cases_lt, cond-true, cond-false, eq-eqb, eqb-false, eqb-true, lt-ltb, ne_eqb}
+use Rattle.std.proofs.lemmas.Bool.{cases_eq, cases_lt, cond-true, cond-false, eq-eqb, eqb-false, eqb-true, lt-ltb, ne_eqb}
 use Rattle.std.proofs.lemmas.List.{length-append}
 use Rattle.std.proofs.lemmas.Option.{none-some, same_Some, slice_get_past, slice_get_within}
 use Rattle.nim_command.specs.declared.command.Command.{Command}
@@ -17,10 +17,9 @@ use Rattle.nim_queue.specs.Stands as queue
 use Rattle.nim_history.specs.History.{Asked, asked_at, is_of_group, left_of}
 use Rattle.nim_history.proofs.Left.{asked_is, left_before, left_less, left_of_next, left_same}
 use Rattle.nim_worker.specs.declared.admitted.Admitted.{Admitted}
-use Rattle.nim_worker.specs.declared.admitted.Ended.{Ended}
 use Rattle.nim_worker.specs.declared.admitted.OpenGroup.{OpenGroup}
 use Rattle.nim_worker.specs.declared.head.GroupHead.{GroupHead}
-use Rattle.nim_worker.specs.Admitted.{Closes, CountsDown, IsAdmitted, IsGroupOf, KeepsTable, Opens, ended_at, head_at, head_of, is_told, one_less, open_of, open_with, while_left}
+use Rattle.nim_worker.specs.Admitted.{Closes, CountsDown, IsAdmitted, IsGroupOf, Opens, ended_at, head_at, head_of, is_told, one_less, open_of, open_with, while_left}
 
 -- The command of a ticket isn't complete: its group is in the table, and so many are left of it once this one is complete too.
 record IsOpen (groups : List Group) (ran : List ℕ) (ticket number : ℕ) : Type 0 where

@@ -1,5 +1,5 @@
 -- Which commands may be completed, as a test and as a record; and those that a batch takes may be, in turn.
-use Rattle.std.proofs.Common.{◌≡◌, ◌≢◌, ℕ, zero, suc, ◌+◌, ◌<◌, ◌≤◌, Bool, true, false, not, List, [], ◌∷◌, ◌++◌, length, map, refl, ap, ap₂, sym, subst, ◌∙◌, arith, Option, None, Some, All, inl, inr}
+use Rattle.std.proofs.Common.{◌≡◌, ◌≢◌, ℕ, zero, suc, ◌+◌, ◌<◌, ◌≤◌, Bool, true, false, not, List, [], ◌∷◌, ◌++◌, length, refl, ap, ap₂, sym, subst, ◌∙◌, arith, Option, All, inl, inr}
 use Rattle.std.specs.Prelude.{◌==◌, ◌&&◌, ◌||◌, nat_lt, if◌then◌else◌}
 use Rattle.std.specs.List.{filter, list_all, list_any, range_with_len}
 use Rattle.std.specs.Option.{option_map_or}
@@ -14,8 +14,8 @@ use Rattle.nim_order.proofs.Listed.{get_listed, length_listed, listed}
 use Rattle.nim_queue.specs.Stands.{is_released}
 use Rattle.nim_queue.proofs.Released.{released_at}
 use Rattle.nim_store.specs.declared.key.Key.{Key}
-use Rattle.nim_history.specs.History.{Asked, MayComplete, WorkerState, asked_at, has_frame}
-use Rattle.nim_history.specs.InTurn.{HaveOtherFrames, MayAllComplete, key_at}
+use Rattle.nim_history.specs.History.{MayComplete, WorkerState, asked_at, has_frame}
+use Rattle.nim_history.specs.InTurn.{HaveOtherFrames, MayAllComplete}
 use Rattle.nim_history.proofs.InTurn.{commands_in_turn}
 use Rattle.nim_worker.specs.Taken.{do_meet, have_one_frame, is_key, is_taken, may_complete, taken_from, taken_of, touch_one_slot}
 
@@ -112,17 +112,17 @@ taken_all : (state : WorkerState) (most : ℕ) (taken : List ℕ) (from count : 
 taken_all state most taken from zero all below may = may
 taken_all state most taken from (suc count) all below may =
     either (nat_lt (length taken) most && is_taken state taken from) refl (λ ts. taken_all state most ts (from + 1) count (omega (arith, all))) where
-  wider : All (λ p. p < from + 1) taken
-  wider = All-weaker (λ p. p < from) (λ p. p < from + 1) (λ p less. omega (arith, less)) taken below
+      wider : All (λ p. p < from + 1) taken
+      wider = All-weaker (λ p. p < from) (λ p. p < from + 1) (λ p less. omega (arith, less)) taken below
 
-  either : (b : Bool) → (nat_lt (length taken) most && is_taken state taken from) ≡ b
-      → ((ts : List ℕ) → All (λ p. p < from + 1) ts → MayBeTaken state ts → MayBeTaken state (taken_from state most ts (range_with_len (from + 1) count)))
-      → MayBeTaken state (if b then taken_from state most (taken ++ from ∷ []) (range_with_len (from + 1) count) else taken_from state most taken (range_with_len (from + 1) count))
-  either true is go_on =
-      let parts = and_parts (nat_lt (length taken) most) (is_taken state taken from) is in
-      go_on (taken ++ from ∷ []) (All-push (λ p. p < from + 1) taken from wider (omega arith))
-      (taken_more state taken from (omega (arith, all)) below parts.1 may)
-  either false is go_on = go_on taken wider may
+      either : (b : Bool) → (nat_lt (length taken) most && is_taken state taken from) ≡ b
+          → ((ts : List ℕ) → All (λ p. p < from + 1) ts → MayBeTaken state ts → MayBeTaken state (taken_from state most ts (range_with_len (from + 1) count)))
+          → MayBeTaken state (if b then taken_from state most (taken ++ from ∷ []) (range_with_len (from + 1) count) else taken_from state most taken (range_with_len (from + 1) count))
+      either true is go_on =
+          let parts = and_parts (nat_lt (length taken) most) (is_taken state taken from) is in
+          go_on (taken ++ from ∷ []) (All-push (λ p. p < from + 1) taken from wider (omega arith))
+          (taken_more state taken from (omega (arith, all)) below parts.1 may)
+      either false is go_on = go_on taken wider may
 
 pub may_all : (state : WorkerState) (most : ℕ) → MayBeTaken state (taken_of state most)
 unfolding taken_of
@@ -142,22 +142,22 @@ none_taken : (state : WorkerState) (most from count place : ℕ) → 1 ≤ most 
 none_taken state most from zero place least none above below may = omega (arith, above, below)
 none_taken state most from (suc count) place least none above below may =
     either (is_taken state [] from) refl (λ rest up. none_taken state most (from + 1) count place least rest up (omega (arith, below)) may) none where
-  room : nat_lt 0 most ≡ true
-  room = lt-ltb 0 most (omega (arith, least))
+      room : nat_lt 0 most ≡ true
+      room = lt-ltb 0 most (omega (arith, least))
 
-  here : (from ≡ place) → is_taken state [] from ≡ true
-  here same = and_from (may_complete state from) true (ap (may_complete state) same ∙ may) refl
+      here : (from ≡ place) → is_taken state [] from ≡ true
+      here same = and_from (may_complete state from) true (ap (may_complete state) same ∙ may) refl
 
-  either : (b : Bool) → is_taken state [] from ≡ b → (taken_from state most [] (range_with_len (from + 1) count) ≡ [] → from + 1 ≤ place → ⊥)
-      → (if nat_lt 0 most && is_taken state [] from then taken_from state most (from ∷ []) (range_with_len (from + 1) count) else taken_from state most [] (range_with_len (from + 1) count)) ≡ []
-      → ⊥
-  either true is never none = never_none state most [] from (range_with_len (from + 1) count)
-      (sym (ap₂ (λ (a : Bool) (b : Bool). if a && b then taken_from state most (from ∷ []) (range_with_len (from + 1) count) else taken_from state most [] (range_with_len (from + 1) count)) room is) ∙ none)
-  either false is never none =
-      let other : from ≢ place = λ same. both_ways (is_taken state [] from) is (here same) in
-      never
-      (sym (ap₂ (λ (a : Bool) (b : Bool). if a && b then taken_from state most (from ∷ []) (range_with_len (from + 1) count) else taken_from state most [] (range_with_len (from + 1) count)) room is) ∙ none)
-      (omega (arith, above, other))
+      either : (b : Bool) → is_taken state [] from ≡ b → (taken_from state most [] (range_with_len (from + 1) count) ≡ [] → from + 1 ≤ place → ⊥)
+          → (if nat_lt 0 most && is_taken state [] from then taken_from state most (from ∷ []) (range_with_len (from + 1) count) else taken_from state most [] (range_with_len (from + 1) count)) ≡ []
+          → ⊥
+      either true is never none = never_none state most [] from (range_with_len (from + 1) count)
+          (sym (ap₂ (λ (a : Bool) (b : Bool). if a && b then taken_from state most (from ∷ []) (range_with_len (from + 1) count) else taken_from state most [] (range_with_len (from + 1) count)) room is) ∙ none)
+      either false is never none =
+          let other : from ≢ place = λ same. both_ways (is_taken state [] from) is (here same) in
+          never
+          (sym (ap₂ (λ (a : Bool) (b : Bool). if a && b then taken_from state most (from ∷ []) (range_with_len (from + 1) count) else taken_from state most [] (range_with_len (from + 1) count)) room is) ∙ none)
+          (omega (arith, above, other))
 
 pub none_may : (state : WorkerState) (most : ℕ) → 1 ≤ most → taken_of state most ≡ [] → (place : ℕ) → MayComplete state place → ⊥
 unfolding taken_of

@@ -1,14 +1,14 @@
 -- The walk of the released commands takes those that a batch takes.
-use Rattle.std.proofs.Common.{◌≡◌, ℕ, zero, suc, ◌+◌, ◌<◌, ◌≤◌, Bool, true, false, not, List, [], ◌∷◌, ◌++◌, length, map, refl, ap, ap₂, sym, subst, ◌∙◌, arith, Option, None, Some, All}
-use Rattle.std.specs.Prelude.{◌==◌, ◌&&◌, nat_lt, if◌then◌else◌}
+use Rattle.std.proofs.Common.{◌≡◌, ℕ, zero, suc, ◌+◌, ◌<◌, ◌≤◌, Bool, true, false, not, List, [], ◌∷◌, ◌++◌, length, refl, ap, ap₂, sym, ◌∙◌, arith, Option, None, Some}
+use Rattle.std.specs.Prelude.{◌&&◌, nat_lt, if◌then◌else◌}
 use Rattle.std.specs.List.{filter, list_any, range_with_len}
 use Rattle.std.specs.Option.{option_map_or}
 use Rattle.std.proofs.lemmas.Bool.{lt-ltb, ltb-true}
 use Rattle.std.proofs.lemmas.List.{length-map}
-use Rattle.nim_command.specs.Waits.{Group, members_of}
+use Rattle.nim_command.specs.Waits.{members_of}
 use Rattle.nim_order.specs.Progress.{is_one_of}
 use Rattle.nim_queue.specs.Stands.{first_that, is_after, is_released, ready_of}
-use Rattle.nim_history.specs.History.{Asked, WorkerState, asked_at, has_frame}
+use Rattle.nim_history.specs.History.{WorkerState, asked_at, has_frame}
 use Rattle.nim_worker.specs.declared.batch.Work.{Work}
 use Rattle.nim_worker.specs.declared.worker.WorkerCore.{WorkerCore}
 use Rattle.nim_worker.specs.Stands.{IsBeginning, tickets_of}
@@ -138,13 +138,13 @@ pub walked_on : (state : WorkerState) (most : ℕ) (after : Option ℕ) (ticket 
 walked_on state most after ticket core new works more walked room ready begins taken = record {
   begins = begins;
   left =
-    let rest : List ℕ = filter (is_after (Some ticket)) (places_of state) in
-    let open_to : nat_lt (length (tickets_of works)) most ≡ true = lt-ltb (length (tickets_of works)) most (omega (arith, room, length-map works (λ (w : Work). w.ticket))) in
-    ap (λ (ts : List ℕ). taken_from state most ts rest) taken
-    ∙ either rest (is_taken state (tickets_of works) ticket) refl
-    ∙ ap (λ (b : Bool). if b && is_taken state (tickets_of works) ticket then taken_from state most (tickets_of works ++ ticket ∷ []) rest else taken_from state most (tickets_of works) rest) (sym open_to)
-    ∙ sym (next_one state most after (tickets_of works) ticket 0 (length (members_of state.session.groups)) ready)
-    ∙ walked.left;
+      let rest : List ℕ = filter (is_after (Some ticket)) (places_of state) in
+      let open_to : nat_lt (length (tickets_of works)) most ≡ true = lt-ltb (length (tickets_of works)) most (omega (arith, room, length-map works (λ (w : Work). w.ticket))) in
+      ap (λ (ts : List ℕ). taken_from state most ts rest) taken
+      ∙ either rest (is_taken state (tickets_of works) ticket) refl
+      ∙ ap (λ (b : Bool). if b && is_taken state (tickets_of works) ticket then taken_from state most (tickets_of works ++ ticket ∷ []) rest else taken_from state most (tickets_of works) rest) (sym open_to)
+      ∙ sym (next_one state most after (tickets_of works) ticket 0 (length (members_of state.session.groups)) ready)
+      ∙ walked.left;
 } where
   either : (rest : List ℕ) (b : Bool) → is_taken state (tickets_of works) ticket ≡ b
       → taken_from state most (if is_taken state (tickets_of works) ticket then tickets_of works ++ ticket ∷ [] else tickets_of works) rest

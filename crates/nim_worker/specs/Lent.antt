@@ -1,5 +1,5 @@
 -- What a batch may become while its works are lent.
-use Rattle.std.specs.Prelude.{◌≡◌, List, Option, Some}
+use Rattle.std.specs.Prelude.{◌≡◌, List, Some}
 use Rattle.std.specs.Vec.{vec_capacity}
 use Rattle.nim_history.specs.History.{Happening}
 use Rattle.nim_worker.specs.declared.batch.Batch.{Batch}

@@ -53,7 +53,12 @@ impl Admitted {
     }
 
     /// Takes a group of commands behind all others, with all memory that they will need.
-    pub(crate) fn admit(&mut self, head: GroupHead, told: bool, commands: Vec<Command>) -> Result<(), NoMemory>
+    pub(crate) fn admit(
+        &mut self,
+        head: GroupHead,
+        told: bool,
+        commands: Vec<Command>,
+    ) -> Result<(), NoMemory>
         ensures ok { (groups : List group_type) (ran : List ℕ) (next : group_type) → IsAdmitted self.old groups ran → IsGroupOf head told commands.items next
             → OnOk result (IsAdmitted self.new (groups ++ next ∷ []) ran) }
         ensures err { (groups : List group_type) (ran : List ℕ) → IsAdmitted self.old groups ran → OnErr result (IsAdmitted self.new groups ran) }
@@ -73,7 +78,8 @@ impl Admitted {
         ensures err { OnErr result (KeepsTable self.old.unfinished self.new.unfinished) }
     {
         if left > 0 {
-            self.unfinished.insert(self.given, OpenGroup { head, told, left })?;
+            self.unfinished
+                .insert(self.given, OpenGroup { head, told, left })?;
         }
         Ok(())
     }
@@ -135,7 +141,8 @@ impl Admitted {
         ensures stands { (groups : List group_type) (ran : List ℕ) → IsAdmitted self.old groups ran → ticket < count_of groups → is_one_of ran ticket ≡ false
             → IsAdmitted self.new groups (ran ++ ticket ∷ []) }
     {
-        let (Some(number), Some(command)) = (self.queue.group(ticket), self.queue.complete(ticket)) else {
+        let (Some(number), Some(command)) = (self.queue.group(ticket), self.queue.complete(ticket))
+        else {
             return None;
         };
         match count_down(&mut self.unfinished, number) {

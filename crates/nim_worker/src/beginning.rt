@@ -134,7 +134,14 @@ impl WorkerCore {
         ensures room { vec_capacity works.new ≡ vec_capacity works.old }
     {
         if self.has_frame(ticket) && !meets_any(&self.admitted, works.as_slice(), ticket) {
-            begin_work(self.alloc, &self.admitted, &mut self.store, ticket, works, spare);
+            begin_work(
+                self.alloc,
+                &self.admitted,
+                &mut self.store,
+                ticket,
+                works,
+                spare,
+            );
         }
     }
 

@@ -9,9 +9,9 @@ ghost use Rattle.nim_worker.specs.Admitted.{IsAdmitted};
 ghost use Rattle.nim_worker.specs.Stands.{tickets_of};
 ghost use Rattle.nim_worker.specs.Taken as spec;
 
+use crate::Work;
 use crate::admitted::Admitted;
 use crate::head::GroupHead;
-use crate::Work;
 use nim_base::Slot;
 use nim_command::{Kind, object_of};
 use nim_store::Key;

@@ -122,7 +122,8 @@ impl WorkerCore {
                 versions,
             } => {
                 let commands = self.installed.run_patch(patch, versions.as_slice())?;
-                self.admitted.admit(head(epoch, instance, false), false, commands)
+                self.admitted
+                    .admit(head(epoch, instance, false), false, commands)
             }
             ToWorker::Stop => Ok(()),
         }

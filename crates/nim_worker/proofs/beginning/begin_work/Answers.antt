@@ -1,4 +1,4 @@
-use Rattle.std.proofs.Common.{◌≡◌, Box, Global, Some, subst}
+use Rattle.std.proofs.Common.{Box, Global, Some, subst}
 use Rattle.std.proofs.lemmas.List.Elements.{All-pop}
 use Rattle.nim_worker.specs.declared.inputs.Inputs.{Inputs}
 use Rattle.nim_worker.specs.Beginning.{MayBeBegun}

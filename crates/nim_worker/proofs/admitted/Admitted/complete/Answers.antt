@@ -1,4 +1,4 @@
-use Rattle.std.proofs.Common.{◌≡◌, ◌∙◌, Bool, ap, refl, sym}
+use Rattle.std.proofs.Common.{◌∙◌, Bool, ap, refl, sym}
 use Rattle.std.specs.Prelude.{◌==◌, ◌&&◌}
 use Rattle.nim_order.specs.Progress.{is_one_of}
 use Rattle.nim_worker.proofs.Opened.{completed_stands, ended_is, is_counted}

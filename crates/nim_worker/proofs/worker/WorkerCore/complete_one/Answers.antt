@@ -1,7 +1,5 @@
-use Rattle.std.proofs.Common.{◌≡◌, ◌∙◌, ap, refl, sym}
-use Rattle.nim_history.specs.History.{WorkerState}
+use Rattle.std.proofs.Common.{◌∙◌, ap, refl, sym}
 use Rattle.nim_worker.specs.declared.admitted.Ended.{Ended}
-use Rattle.nim_worker.specs.declared.batch.Work.{Work}
 use Rattle.nim_worker.specs.Stands.{begun_of, tickets_of}
 use Rattle.nim_worker.specs.Works.{begun_as}
 use Rattle.nim_worker.proofs.Finished.{first_out}

@@ -1,6 +1,5 @@
-use Rattle.std.proofs.Common.{◌≡◌, ◌∙◌, List, [], Option, ap, sym, subst, arith, false}
+use Rattle.std.proofs.Common.{◌∙◌, [], Option, ap, sym, subst, arith, false}
 use Rattle.nim_history.specs.History.{WorkerState, state_of}
-use Rattle.nim_worker.specs.declared.batch.Work.{Work}
 use Rattle.nim_worker.specs.declared.room.Room.{Room}
 use Rattle.nim_worker.specs.declared.worker.WorkerCore.{WorkerCore}
 use Rattle.nim_worker.specs.Stands.{HasState, IsAtWork, IsOut, after_completions, tickets_of}
