@@ -5,23 +5,27 @@ use Rattle.std.specs.FinMap as map
 use Rattle.std.specs.List.{flat_map, fold}
 use Rattle.std.specs.Option.{is_some, option_map_or}
 use Rattle.std.proofs.lemmas.Bool.{and_parts, both_ways, eqb-true}
-use Rattle.std.proofs.lemmas.List.Elements.{All-cons, All-nil}
+use Rattle.std.proofs.lemmas.List.Elements.{All-head, All-tail}
 use Rattle.nim_base.specs.declared.number.Shape.{Shape}
 use Rattle.nim_base.specs.declared.number.Slot.{Slot}
+use Rattle.nim_base.specs.declared.number.Worker.{Worker}
+use Rattle.nim_base.specs.Value.{Grid}
 use Rattle.nim_command.specs.declared.command.Command.{Command}
 use Rattle.nim_command.specs.declared.edit.PatchPart.{PatchPart}
 use Rattle.nim_command.specs.declared.entry.Entry.{Entry}
 use Rattle.nim_command.specs.Waits.{Group}
 use Rattle.nim_message.specs.declared.frame.Data.{Data}
 use Rattle.nim_message.specs.declared.order.ToWorker.{ToWorker}
-use Rattle.nim_message.specs.Orders.{Session, after_order, counted, does_count, epoch_named}
+use Rattle.nim_message.specs.Orders.{Session, after_order, counted, does_count, epoch_named, is_current as is_named}
 use Rattle.nim_plan.specs.declared.installed.Installed.{Installed}
 use Rattle.nim_plan.specs.Installed.{Has}
-use Rattle.nim_store.specs.Keys.{key_of}
+use Rattle.nim_store.specs.declared.held.Held.{Held}
+use Rattle.nim_store.specs.Keys.{is_not_before, key_cmp, key_of}
 use Rattle.nim_store.specs.Stored.{slot_at}
 use Rattle.nim_history.specs.History.{Asked, Happening, IsHistory, MayAllHappen, WorkerState, after_happening, asked_at, framed, ordered, state_of}
 use Rattle.nim_history.specs.InTurn.{is_reset}
 use Rattle.nim_history.proofs.GoesOn.{history_goes_on}
+use Rattle.nim_history.proofs.Ordered.{ordered_is, ordered_session}
 use Rattle.nim_history.proofs.InTurn.{commands_in_turn}
 use Rattle.nim_worker.specs.declared.admitted.Admitted.{Admitted}
 use Rattle.nim_worker.specs.declared.batch.Batch.{Batch}
@@ -76,69 +80,25 @@ pub taken_counts : (core : WorkerCore) (session : Session) (order : ToWorker) �
 taken_counts core session order has taken =
     sym (counts_as core session has (epoch_named order)) ∙ not_false (option_map_or (is_current core) (epoch_named order) false) taken
 
-ordered_passed : (state : WorkerState) (order : ToWorker) → is_reset order ≡ false → after_order state.session order ≡ state.session → ordered state order ≡ state
-ordered_passed state (ToWorker.Reset epoch worker workers shapes) is same = absurd cc
-ordered_passed state ToWorker.Stop is same = ap (λ (s : Session). record state { session = s }) same
-ordered_passed state (ToWorker.Single epoch instance commands) is same = ap (λ (s : Session). record state { session = s }) same
-ordered_passed state (ToWorker.InstallTemplate epoch block entries) is same = ap (λ (s : Session). record state { session = s }) same
-ordered_passed state (ToWorker.Instantiate epoch instance block base args versions edits) is same = ap (λ (s : Session). record state { session = s }) same
-ordered_passed state (ToWorker.InstallPatch epoch patch copies) is same = ap (λ (s : Session). record state { session = s }) same
-ordered_passed state (ToWorker.RunPatch epoch instance patch versions) is same = ap (λ (s : Session). record state { session = s }) same
-
 passed_no_reset : (core : WorkerCore) (order : ToWorker) → is_passed core order ≡ true → is_reset order ≡ false
 passed_no_reset core (ToWorker.Reset epoch worker workers shapes) passed = absurd cc
-passed_no_reset core ToWorker.Stop passed = refl
-passed_no_reset core (ToWorker.Single epoch instance commands) passed = refl
-passed_no_reset core (ToWorker.InstallTemplate epoch block entries) passed = refl
-passed_no_reset core (ToWorker.Instantiate epoch instance block base args versions edits) passed = refl
-passed_no_reset core (ToWorker.InstallPatch epoch patch copies) passed = refl
-passed_no_reset core (ToWorker.RunPatch epoch instance patch versions) passed = refl
+passed_no_reset core order passed = refl
 
 pub stands_passed : (core : WorkerCore) (batch : Option Batch) (state : WorkerState) (order : ToWorker) → is_passed core order ≡ true → StandsAt core batch state
     → StandsAt core batch (ordered state order)
 stands_passed core batch state order passed at =
-    subst (StandsAt core batch) (sym (ordered_passed state order (passed_no_reset core order passed) (passed_same core state.session order at.has.session passed))) at
+    let same : ordered state order ≡ state =
+    ordered_is state order (passed_no_reset core order passed) ∙ ap (λ (s : Session). record state { session = s }) (passed_same core state.session order at.has.session passed) in
+    subst (StandsAt core batch) (sym same) at
 
 -- works that are out are still out once another order came
 begun_same : (groups others : List Group) (places : List ℕ) → All (λ place. asked_at others place ≡ asked_at groups place) places → begun_of others places ≡ begun_of groups places
 begun_same groups others [] all = refl
 begun_same groups others (place ∷ places) all =
     ap₂ (λ (first : List Begun) (rest : List Begun). first ++ rest)
-    (ap (λ (a : Option Asked). option_map_or (λ (asked : Asked). begun_as place asked.command.kind ∷ []) a []) (all.0))
-    (begun_same groups others places all.1)
-
-shapes_stay : (state : WorkerState) (order : ToWorker) → is_reset order ≡ false → (ordered state order).session.shapes ≡ state.session.shapes
-shapes_stay state (ToWorker.Reset epoch worker workers shapes) is = absurd cc
-shapes_stay state ToWorker.Stop is = refl
-shapes_stay state (ToWorker.Single epoch instance commands) is = either (does_count state.session (ToWorker.Single epoch instance commands)) where
-  either : (b : Bool) → (if b then counted state.session (ToWorker.Single epoch instance commands) else state.session).shapes ≡ state.session.shapes
-  either true = refl
-  either false = refl
-shapes_stay state (ToWorker.InstallTemplate epoch block entries) is = either (does_count state.session (ToWorker.InstallTemplate epoch block entries)) where
-  either : (b : Bool) → (if b then counted state.session (ToWorker.InstallTemplate epoch block entries) else state.session).shapes ≡ state.session.shapes
-  either true = refl
-  either false = refl
-shapes_stay state (ToWorker.Instantiate epoch instance block base args versions edits) is = either (does_count state.session (ToWorker.Instantiate epoch instance block base args versions edits)) where
-  either : (b : Bool) → (if b then counted state.session (ToWorker.Instantiate epoch instance block base args versions edits) else state.session).shapes ≡ state.session.shapes
-  either true = refl
-  either false = refl
-shapes_stay state (ToWorker.InstallPatch epoch patch copies) is = either (does_count state.session (ToWorker.InstallPatch epoch patch copies)) where
-  either : (b : Bool) → (if b then counted state.session (ToWorker.InstallPatch epoch patch copies) else state.session).shapes ≡ state.session.shapes
-  either true = refl
-  either false = refl
-shapes_stay state (ToWorker.RunPatch epoch instance patch versions) is = either (does_count state.session (ToWorker.RunPatch epoch instance patch versions)) where
-  either : (b : Bool) → (if b then counted state.session (ToWorker.RunPatch epoch instance patch versions) else state.session).shapes ≡ state.session.shapes
-  either true = refl
-  either false = refl
-
-slots_stay : (state : WorkerState) (order : ToWorker) → is_reset order ≡ false → (ordered state order).slots ≡ state.slots
-slots_stay state (ToWorker.Reset epoch worker workers shapes) is = absurd cc
-slots_stay state ToWorker.Stop is = refl
-slots_stay state (ToWorker.Single epoch instance commands) is = refl
-slots_stay state (ToWorker.InstallTemplate epoch block entries) is = refl
-slots_stay state (ToWorker.Instantiate epoch instance block base args versions edits) is = refl
-slots_stay state (ToWorker.InstallPatch epoch patch copies) is = refl
-slots_stay state (ToWorker.RunPatch epoch instance patch versions) is = refl
+    (ap (λ (a : Option Asked). option_map_or (λ (asked : Asked). begun_as place asked.command.kind ∷ []) a [])
+    (All-head (λ p. asked_at others p ≡ asked_at groups p) place places all))
+    (begun_same groups others places (All-tail (λ p. asked_at others p ≡ asked_at groups p) place places all))
 
 -- the parts of a core that say what is out
 pub record OutStays (old new : WorkerCore) : Type 0 where
@@ -163,14 +123,165 @@ out_stays old new (Some batch) before after same slots work out =
       either true out = (rest_stays old new before after same slots out.0, out.1)
       either false out = (work batch.works.items out.0, ((λ begun. out.1.0 (sym same.begun ∙ begun)), out.1.1))
 
-pub work_ordered : (old new : WorkerCore) (state : WorkerState) (order : ToWorker) (works : List Work) → is_reset order ≡ false → OutStays old new → IsAtWork old works state
+kept_if : (b : Bool) (session wider : Session) → wider.shapes ≡ session.shapes → (if b then wider else session).shapes ≡ session.shapes
+kept_if true session wider same = same
+kept_if false session wider same = refl
+
+shapes_stay : (session : Session) (order : ToWorker) → is_reset order ≡ false → (after_order session order).shapes ≡ session.shapes
+shapes_stay session (ToWorker.Reset epoch worker workers shapes) is = absurd cc
+shapes_stay session ToWorker.Stop is = refl
+shapes_stay session (ToWorker.Single epoch instance commands) is =
+    kept_if (is_named session epoch) session (counted session (ToWorker.Single epoch instance commands)) refl
+shapes_stay session (ToWorker.InstallTemplate epoch block entries) is =
+    kept_if (is_named session epoch) session (counted session (ToWorker.InstallTemplate epoch block entries)) refl
+shapes_stay session (ToWorker.Instantiate epoch instance block base args versions edits) is =
+    kept_if (is_named session epoch) session (counted session (ToWorker.Instantiate epoch instance block base args versions edits)) refl
+shapes_stay session (ToWorker.InstallPatch epoch patch copies) is =
+    kept_if (is_named session epoch) session (counted session (ToWorker.InstallPatch epoch patch copies)) refl
+shapes_stay session (ToWorker.RunPatch epoch instance patch versions) is =
+    kept_if (is_named session epoch) session (counted session (ToWorker.RunPatch epoch instance patch versions)) refl
+
+work_ordered : (old new : WorkerCore) (state : WorkerState) (order : ToWorker) (works : List Work) → is_reset order ≡ false → OutStays old new → IsAtWork old works state
     → IsAtWork new works (ordered state order)
 work_ordered old new state order works is same at = record {
   may = commands_in_turn.orders state order (tickets_of works) is at.may;
   chain =
     let begun = begun_same state.session.groups (ordered state order).session.groups (tickets_of works) (commands_in_turn.same state order (tickets_of works) is at.may) in
+    let shapes : (ordered state order).session.shapes ≡ state.session.shapes = ap (λ (s : Session). s.shapes) (ordered_session state order) ∙ shapes_stay state.session order is in
+    let slots : (ordered state order).slots ≡ state.slots = ap (λ (s : WorkerState). s.slots) (ordered_is state order is) in
     subst (λ (b : List Begun). AreWorks (ordered state order).session.shapes (ordered state order).slots (slot_at new.store) b works) (sym begun)
-    (subst (λ (shapes : List Shape). AreWorks shapes (ordered state order).slots (slot_at new.store) (begun_of state.session.groups (tickets_of works)) works) (sym (shapes_stay state order is))
-    (subst (λ (slots : Slot → Option _). AreWorks state.session.shapes slots (slot_at new.store) (begun_of state.session.groups (tickets_of works)) works) (sym (slots_stay state order is))
-    (subst (λ (slots : Slot → Option _). AreWorks state.session.shapes state.slots slots (begun_of state.session.groups (tickets_of works)) works) (ap slot_at (sym same.store)) at.chain)));
+    (subst (λ (all : List Shape). AreWorks all (ordered state order).slots (slot_at new.store) (begun_of state.session.groups (tickets_of works)) works) (sym shapes)
+    (subst (λ (s : Slot → Option Held). AreWorks state.session.shapes s (slot_at new.store) (begun_of state.session.groups (tickets_of works)) works) (sym slots)
+    (subst (λ (s : Slot → Option Held). AreWorks state.session.shapes state.slots s (begun_of state.session.groups (tickets_of works)) works) (ap slot_at (sym same.store)) at.chain)));
 }
+
+-- a core that has what counts after an order which is no Reset
+pub stands_ordered : (old new : WorkerCore) (batch : Option Batch) (state : WorkerState) (order : ToWorker) → is_reset order ≡ false → OutStays old new
+    → new.failed ≡ old.failed → new.inbox ≡ old.inbox → HasSession new (after_order state.session order)
+    → IsAdmitted new.admitted (after_order state.session order).groups state.ran → StandsAt old batch state → StandsAt new batch (ordered state order)
+stands_ordered old new batch state order is same failed inbox session admitted at = record {
+  has = subst (HasState new) (sym (ordered_is state order is))
+      (record { failed = failed ∙ at.has.failed; session = session; admitted = admitted; inbox = inbox ∙ at.has.inbox });
+  busy = same.busy ∙ at.busy;
+  out = out_stays old new batch state (ordered state order) same (ap (λ (s : WorkerState). s.slots) (ordered_is state order is)) (λ works work. work_ordered old new state order works is same work) at.out;
+}
+
+-- an order that counts
+counted_as : (session : Session) (order : ToWorker) → is_reset order ≡ false → does_count session order ≡ true → after_order session order ≡ counted session order
+counted_as session (ToWorker.Reset epoch worker workers shapes) is counts = absurd cc
+counted_as session ToWorker.Stop is counts = refl
+counted_as session (ToWorker.Single epoch instance commands) is counts = ap (λ (b : Bool). if b then counted session (ToWorker.Single epoch instance commands) else session) counts
+counted_as session (ToWorker.InstallTemplate epoch block entries) is counts = ap (λ (b : Bool). if b then counted session (ToWorker.InstallTemplate epoch block entries) else session) counts
+counted_as session (ToWorker.Instantiate epoch instance block base args versions edits) is counts =
+    ap (λ (b : Bool). if b then counted session (ToWorker.Instantiate epoch instance block base args versions edits) else session) counts
+counted_as session (ToWorker.InstallPatch epoch patch copies) is counts = ap (λ (b : Bool). if b then counted session (ToWorker.InstallPatch epoch patch copies) else session) counts
+counted_as session (ToWorker.RunPatch epoch instance patch versions) is counts = ap (λ (b : Bool). if b then counted session (ToWorker.RunPatch epoch instance patch versions) else session) counts
+
+taken_as : (core : WorkerCore) (session : Session) (order : ToWorker) → is_reset order ≡ false → HasSession core session → is_passed core order ≡ false → after_order session order ≡ counted session order
+taken_as core session (ToWorker.Reset epoch worker workers shapes) is has taken = absurd cc
+taken_as core session ToWorker.Stop is has taken = refl
+taken_as core session order is has taken = counted_as session order is (taken_counts core session order has taken)
+
+-- an order that counts and leaves all but what is installed and what was admitted
+pub stands_taken : (old : WorkerCore) (installed : Installed) (admitted : Admitted) (batch : Option Batch) (state : WorkerState) (order : ToWorker) → is_reset order ≡ false → is_passed old order ≡ false
+    → (counted state.session order).begun ≡ state.session.begun → (counted state.session order).epoch ≡ state.session.epoch → (counted state.session order).shapes ≡ state.session.shapes
+    → (Has old.installed state.session.halves state.session.patches → Has installed (counted state.session order).halves (counted state.session order).patches)
+    → (IsAdmitted old.admitted state.session.groups state.ran → IsAdmitted admitted (counted state.session order).groups state.ran)
+    → StandsAt old batch state → StandsAt (record old { installed = installed; admitted = admitted }) batch (ordered state order)
+stands_taken old installed admitted batch state order is taken begun epoch shapes install admit at =
+    let new : WorkerCore = record old { installed = installed; admitted = admitted } in
+    let has = at.has.session in
+    let counts : after_order state.session order ≡ counted state.session order = taken_as old state.session order is has taken in
+    stands_ordered old new batch state order is (record { store = refl; room = refl; begun = refl; stale = refl; busy = refl }) refl refl
+    (subst (HasSession new) (sym counts)
+    (record { begun = has.begun ∙ sym begun; epoch = has.epoch ∙ sym epoch; shapes = has.shapes ∙ sym shapes; installed = install has.installed }))
+    (subst (λ (s : Session). IsAdmitted admitted s.groups state.ran) (sym counts) (admit at.has.admitted))
+    at
+
+-- a core that lost nothing of what it stands for
+pub stands_kept : (old : WorkerCore) (installed : Installed) (admitted : Admitted) (batch : Option Batch) (state : WorkerState)
+    → (Has old.installed state.session.halves state.session.patches → Has installed state.session.halves state.session.patches)
+    → (IsAdmitted old.admitted state.session.groups state.ran → IsAdmitted admitted state.session.groups state.ran)
+    → StandsAt old batch state → StandsAt (record old { installed = installed; admitted = admitted }) batch state
+stands_kept old installed admitted batch state install admit at =
+    let new : WorkerCore = record old { installed = installed; admitted = admitted } in
+    let has = at.has.session in
+    let same : OutStays old new = record { store = refl; room = refl; begun = refl; stale = refl; busy = refl } in
+    record {
+      has = record {
+        failed = at.has.failed;
+        session = record { begun = has.begun; epoch = has.epoch; shapes = has.shapes; installed = install has.installed };
+        admitted = admit at.has.admitted;
+        inbox = at.has.inbox;
+      };
+      busy = at.busy;
+      out = out_stays old new batch state state same refl (λ works work. record { may = work.may; chain = work.chain }) at.out;
+    }
+
+-- a Reset
+idle_in : (old : WorkerCore) (stale : Bool) (batch : Batch) (state : WorkerState) → IsOut old stale batch state → AreIdle batch.spare.items
+idle_in old true batch state out = out.1
+idle_in old false batch state out = out.1.1
+
+pub stands_reset : (old new : WorkerCore) (batch : Option Batch) (state : WorkerState) (epoch : ℕ) (worker : Worker) (workers : ℕ) (shapes : List Shape) → IsReset old epoch shapes new
+    → StandsAt old batch state → StandsAt new batch (ordered state (ToWorker.Reset epoch worker workers shapes))
+stands_reset old new batch state epoch worker workers shapes is at = record {
+  has = record {
+    failed = is.failed ∙ at.has.failed;
+    session = record { begun = is.begun; epoch = is.epoch; shapes = is.shapes; installed = is.installed };
+    admitted = is.admitted;
+    inbox = is.inbox ∙ ap (λ (i : map.FinMap key_cmp Grid). map.retain_keys i (is_not_before epoch)) at.has.inbox;
+  };
+  busy = is.busy ∙ at.busy;
+  out = either batch (is.stale ∙ at.busy) at.out;
+} where
+  after : WorkerState
+  after = ordered state (ToWorker.Reset epoch worker workers shapes)
+
+  rest : IsAtRest new after
+  rest = record { slots = is.slots; room = λ begun. is.room }
+
+  either : (b : Option Batch) → new.stale ≡ is_some b → MayBeOut old b state → MayBeOut new b after
+  either None stale out = (stale, rest)
+  either (Some b) stale out = subst (λ (s : Bool). IsOut new s b after) (sym stale) (rest, idle_in old old.stale b state out)
+
+-- a frame of an earlier epoch
+pub stands_late : (core : WorkerCore) (batch : Option Batch) (state : WorkerState) (frame : Data) → nat_lt frame.epoch core.epoch ≡ true → StandsAt core batch state
+    → StandsAt core batch (framed state frame)
+stands_late core batch state frame late at =
+    let is : nat_lt frame.epoch state.session.epoch ≡ true = subst (λ (epoch : ℕ). nat_lt frame.epoch epoch ≡ true) at.has.session.epoch late in
+    subst (StandsAt core batch) (ap (λ (b : Bool). if b then state else record state { inbox = map.insert state.inbox (key_of frame) frame.value }) (sym is)) at
+
+work_framed : (old new : WorkerCore) (state : WorkerState) (frame : Data) (works : List Work) → framed state frame ≡ record state { inbox = map.insert state.inbox (key_of frame) frame.value }
+    → OutStays old new → IsAtWork old works state → IsAtWork new works (framed state frame)
+work_framed old new state frame works is same at = record {
+  may = commands_in_turn.frames state frame (tickets_of works) at.may;
+  chain = subst (λ (s : WorkerState). AreWorks s.session.shapes s.slots (slot_at new.store) (begun_of s.session.groups (tickets_of works)) works) (sym is)
+      (subst (λ (s : Slot → Option Held). AreWorks state.session.shapes state.slots s (begun_of state.session.groups (tickets_of works)) works) (ap slot_at (sym same.store)) at.chain);
+}
+
+-- a frame that is kept
+pub stands_framed : (old : WorkerCore) (inbox : map.FinMap key_cmp Grid) (batch : Option Batch) (state : WorkerState) (frame : Data) → nat_lt frame.epoch old.epoch ≡ false
+    → inbox ≡ map.insert old.inbox (key_of frame) frame.value → StandsAt old batch state → StandsAt (record old { inbox = inbox }) batch (framed state frame)
+stands_framed old inbox batch state frame late kept at =
+    let new : WorkerCore = record old { inbox = inbox } in
+    let not_late : nat_lt frame.epoch state.session.epoch ≡ false = subst (λ (epoch : ℕ). nat_lt frame.epoch epoch ≡ false) at.has.session.epoch late in
+    let is : framed state frame ≡ record state { inbox = map.insert state.inbox (key_of frame) frame.value } =
+    ap (λ (b : Bool). if b then state else record state { inbox = map.insert state.inbox (key_of frame) frame.value }) not_late in
+    let same : OutStays old new = record { store = refl; room = refl; begun = refl; stale = refl; busy = refl } in
+    let has = at.has.session in
+    record {
+      has = subst (HasState new) (sym is) (record {
+        failed = at.has.failed;
+        session = record { begun = has.begun; epoch = has.epoch; shapes = has.shapes; installed = has.installed };
+        admitted = at.has.admitted;
+        inbox = kept ∙ ap (λ (i : map.FinMap key_cmp Grid). map.insert i (key_of frame) frame.value) at.has.inbox;
+      });
+      busy = at.busy;
+      out = out_stays old new batch state (framed state frame) same (ap (λ (s : WorkerState). s.slots) is) (λ works work. work_framed old new state frame works is same work) at.out;
+    }
+
+-- an inbox that stays
+pub stands_as_it_was : (old : WorkerCore) (inbox : map.FinMap key_cmp Grid) (batch : Option Batch) (history : List Happening) → inbox ≡ old.inbox → Stands old batch history
+    → Stands (record old { inbox = inbox }) batch history
+stands_as_it_was old inbox batch history same stands = subst (λ (i : map.FinMap key_cmp Grid). Stands (record old { inbox = i }) batch history) (sym same) stands

@@ -1,6 +1,10 @@
 pub mod Beside
 pub mod Chains
 pub mod Completes
+pub mod Finished
 pub mod GivenBack
+pub mod Handed
 pub mod KeptBeside
+pub mod Meeting
 pub mod Puts
+pub mod Walk

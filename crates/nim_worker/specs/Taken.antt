@@ -1,14 +1,15 @@
 -- Which commands a batch takes.
 use Rattle.std.specs.Prelude.{◌≡◌, ℕ, ◌==◌, Bool, true, false, not, ◌&&◌, ◌||◌, nat_lt, if◌then◌else◌, List, [], ◌∷◌, ◌++◌, length, Option, None, Some}
 use Rattle.std.specs.List.{list_any, range_with_len}
-use Rattle.std.specs.Option.{option_and_then, option_map_or}
+use Rattle.std.specs.Option.{option_map_or}
 use Rattle.nim_command.specs.declared.command.Kind.{Kind}
 use Rattle.nim_command.specs.Slots.{does_touch, reads_of, writes_of}
 use Rattle.nim_command.specs.Waits.{Group, members_of}
 use Rattle.nim_order.specs.Progress.{is_one_of}
 use Rattle.nim_queue.specs.Stands.{is_released}
 use Rattle.nim_store.specs.declared.key.Key.{Key}
-use Rattle.nim_history.specs.History.{Asked, WorkerState, asked_at, has_frame, key_for}
+use Rattle.nim_history.specs.History.{Asked, WorkerState, asked_at, has_frame}
+use Rattle.nim_history.specs.InTurn.{key_at}
 
 -- whether two commands touch one slot
 abbrev pub do_share : Kind → Kind → Bool
@@ -19,10 +20,6 @@ abbrev pub is_key : Key → Key → Bool
 is_key one other =
     (one.epoch == other.epoch) && ((one.instance == other.instance) && ((one.entry == other.entry)
     && ((one.object.0 == other.object.0) && (one.version == other.version))))
-
--- the key of the frame that the command at a place receives, if it receives one
-abbrev pub key_at : List Group → ℕ → Option Key
-key_at groups place = option_and_then key_for (asked_at groups place)
 
 -- whether the commands at two places receive one frame
 abbrev pub have_one_frame : List Group → ℕ → ℕ → Bool

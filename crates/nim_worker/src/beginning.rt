@@ -41,14 +41,24 @@ impl WorkerCore {
         ensures stays { self.new.failed ≡ self.old.failed }
     {
         self.busy = true;
-        let epoch = self.epoch;
+        if self.failed {
+            return self.empty_batch();
+        }
         match self.room.take() {
-            Some(room) if !self.failed => self.fill(most, room),
-            _ => Batch {
-                epoch,
-                works: Vec::new(self.alloc),
-                spare: Vec::new(self.alloc),
-            },
+            Some(room) => self.fill(most, room),
+            None => self.empty_batch(),
+        }
+    }
+
+    fn empty_batch(&self) -> Batch
+        ensures epoch { result.epoch ≡ self.now.epoch }
+        ensures works { result.works.items ≡ [] }
+        ensures spare { result.spare.items ≡ [] }
+    {
+        Batch {
+            epoch: self.epoch,
+            works: Vec::new(self.alloc),
+            spare: Vec::new(self.alloc),
         }
     }
 

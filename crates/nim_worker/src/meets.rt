@@ -4,6 +4,7 @@ ghost use Rattle.nim_command.specs.Slots as slots_spec;
 ghost use Rattle.nim_command.specs.Waits.{Group as group_type};
 ghost use Rattle.nim_order.specs.Progress.{is_one_of};
 ghost use Rattle.nim_history.specs.History as history;
+ghost use Rattle.nim_history.specs.InTurn.{key_at};
 ghost use Rattle.nim_worker.specs.Admitted.{IsAdmitted};
 ghost use Rattle.nim_worker.specs.Stands.{tickets_of};
 ghost use Rattle.nim_worker.specs.Taken as spec;
@@ -21,7 +22,12 @@ pub(crate) fn meets_any(admitted: &Admitted, works: &[Work], ticket: u64) -> boo
     ensures { (groups : List group_type) (ran : List ℕ) → IsAdmitted admitted.now groups ran → All (λ earlier. is_one_of ran earlier ≡ false) (tickets_of works.now) → is_one_of ran ticket ≡ false
         → result ≡ list_any (λ earlier. spec.do_meet groups earlier ticket) (tickets_of works.now) }
 {
-    works.iter().any(|work| do_meet(admitted, work.ticket, ticket))
+    for work in works {
+        if do_meet(admitted, work.ticket, ticket) {
+            return true;
+        }
+    }
+    false
 }
 
 fn do_meet(admitted: &Admitted, one: u64, other: u64) -> bool
@@ -63,7 +69,7 @@ fn is_key(one: &Key, other: &Key) -> bool
 
 /// The key of the frame that the command of a ticket receives, if it receives one.
 pub(crate) fn key_of(admitted: &Admitted, ticket: u64) -> Option<Key>
-    ensures { (groups : List group_type) (ran : List ℕ) → IsAdmitted admitted.now groups ran → is_one_of ran ticket ≡ false → result ≡ spec.key_at groups ticket }
+    ensures { (groups : List group_type) (ran : List ℕ) → IsAdmitted admitted.now groups ran → is_one_of ran ticket ≡ false → result ≡ key_at groups ticket }
 {
     match (admitted.head(ticket), admitted.command(ticket)) {
         (Some(head), Some(command)) => key_received(head, command.id, &command.kind),
