@@ -4,7 +4,7 @@ use Rattle.std.specs.Prelude.{◌&&◌, ◌||◌, ◌==◌, if◌then◌else◌,
 use Rattle.std.specs.FinMap as map
 use Rattle.std.specs.List.{filter, list_all, range_with_len}
 use Rattle.std.specs.Option.{option_map_or}
-use Rattle.std.proofs.lemmas.Bool.{and_from, cases_lt, eq-eqb, or_from, or_left, or_right}
+use Rattle.std.proofs.lemmas.Bool.{and_from, both_ways, cases_lt, eq-eqb, ne_eqb, or_from, or_left, or_right}
 use Rattle.std.proofs.lemmas.List.{append-nil}
 use Rattle.nim_base.specs.Value.{Grid}
 use Rattle.nim_command.specs.declared.command.Kind.{Kind}
@@ -21,12 +21,6 @@ use Rattle.nim_top.proofs.Asked.{asked_there}
 
 -- ---- ranges
 
-differ : (a b : ℕ) → a < b → (a == b) ≡ false
-differ zero zero below = absurd (omega (arith, below))
-differ zero (suc b) below = refl
-differ (suc a) zero below = absurd (omega (arith, below))
-differ (suc a) (suc b) below = differ a b (omega (arith, below))
-
 pub ranged : (from n place : ℕ) → from ≤ place → place < from + n → is_one_of (range_with_len from n) place ≡ true
 ranged from zero place low high = absurd (omega (arith, low, high))
 ranged from (suc n) place low high = elim (cases_lt from place) [
@@ -37,7 +31,7 @@ ranged from (suc n) place low high = elim (cases_lt from place) [
 pub not_ranged : (from n place : ℕ) → from + n ≤ place → is_one_of (range_with_len from n) place ≡ false
 not_ranged from zero place past = refl
 not_ranged from (suc n) place past =
-    or_from (from == place) (is_one_of (range_with_len (from + 1) n) place) (differ from place (omega (arith, past))) (not_ranged (from + 1) n place (omega (arith, past)))
+    or_from (from == place) (is_one_of (range_with_len (from + 1) n) place) (ne_eqb from place (λ same. let both : from ≡ place = same in omega (arith, both, past))) (not_ranged (from + 1) n place (omega (arith, past)))
 
 range_joined : (from n m : ℕ) → range_with_len from (n + m) ≡ range_with_len from n ++ range_with_len (from + n) m
 range_joined from zero m = let start : from ≡ from + 0 = omega arith in ap (λ (k : ℕ). range_with_len k m) start
@@ -163,6 +157,6 @@ fewer_pass first second from (suc n) place fewer low high is gone = elim (cases_
   now : length (filter second (range_with_len (from + 1) n)) ≤ length (filter first (range_with_len (from + 1) n)) → (a b : Bool) → a ≡ true → b ≡ false
       → length (if b then from ∷ filter second (range_with_len (from + 1) n) else filter second (range_with_len (from + 1) n))
       < length (if a then from ∷ filter first (range_with_len (from + 1) n) else filter first (range_with_len (from + 1) n))
-  now more true true is gone = absurd (both_ways true refl gone)
+  now more true true is gone = absurd (both_ways true gone refl)
   now more true false is gone = omega (arith, more)
   now more false b is gone = absurd (both_ways false refl is)

@@ -3,40 +3,45 @@ use Rattle.std.proofs.Common.{◌≡◌, ℕ, ◌+◌, ◌-◌, ◌<◌, ◌≤�
 use Rattle.std.specs.Prelude.{◌==◌, ◌&&◌, ◌||◌, if◌then◌else◌, nat_lt, slice_get, IfSome}
 use Rattle.std.specs.List.{filter, range_with_len}
 use Rattle.std.specs.Option.{option_map_or}
-use Rattle.std.proofs.lemmas.Bool.{both_ways, cases_lt, cond-false}
-use Rattle.std.proofs.lemmas.List.{append-nil, append_cancel_left}
+use Rattle.std.proofs.lemmas.Bool.{both_ways, cond-false, eq-eqb, or_left, or_right}
+use Rattle.std.proofs.lemmas.List.{append-nil, append_cancel_left, length-map}
 use Rattle.std.proofs.lemmas.List.Concat.{flat_map-append}
 use Rattle.nim_command.specs.declared.command.Command.{Command}
-use Rattle.nim_command.specs.Waits.{Group, commands_of, members_of}
+use Rattle.nim_command.specs.Waits.{Member, commands_of, members_of, placed_commands}
 use Rattle.nim_message.specs.declared.order.ToWorker.{ToWorker}
 use Rattle.nim_message.specs.Orders.{Session, session_of}
+use Rattle.nim_order.specs.Progress.{is_one_of}
+use Rattle.nim_order.proofs.Listed.{length_from}
+use Rattle.nim_order.proofs.Orders.{one_more as gains}
 use Rattle.nim_job.specs.declared.job.Job.{Job}
 use Rattle.nim_job.specs.Whole.{is_whole}
 use Rattle.nim_plan.proofs.Listed.{length_members}
 use Rattle.nim_plan.proofs.Lists.{range_more}
 use Rattle.nim_history.specs.declared.out.Out.{Out}
-use Rattle.nim_history.specs.History.{Asked, Completed, Happening, MayAllHappen, MayComplete, WorkerState, after_asked, after_happening, asked_at, completed, frame_in, has_frame, order_in, outs_of, state_of}
+use Rattle.nim_history.specs.History.{Asked, Completed, Happening, MayAllHappen, MayComplete, WorkerState, after_asked, after_happening, asked_at, frame_in, frames_in, has_frame, order_in, orders_in, outs_of, state_of}
 use Rattle.nim_history.proofs.GoesOn.{history_goes_on}
 use Rattle.nim_history.proofs.Members.{listed_at}
 use Rattle.nim_worker.specs.declared.batch.Batch.{Batch}
+use Rattle.nim_worker.specs.declared.batch.Work.{Work}
 use Rattle.nim_worker.specs.declared.worker.WorkerCore.{WorkerCore}
-use Rattle.nim_worker.specs.Stands.{Gave, Stands, completions, completions_of, tickets_of}
+use Rattle.nim_worker.specs.Left.{left_in}
+use Rattle.nim_worker.specs.Stands.{Gave, IsOut, Stands, completions, completions_of, tickets_of}
 use Rattle.nim_worker.specs.Taken.{taken_of}
-use Rattle.nim_top.specs.Carries.{IsInOrder, IsNoMore, IsOneMore}
-use Rattle.nim_top.specs.Leads.{MayServe, asked_for, is_own, reports_in, values_at, values_in}
+use Rattle.nim_worker.proofs.Left.{left_is}
+use Rattle.nim_top.specs.Carries.{IsInOrder, IsNoMore, IsOneMore, Rests}
+use Rattle.nim_top.specs.Leads.{AreOwn, MayServe, asked_for, is_own, reports_in, values_in}
 use Rattle.nim_top.proofs.Asked.{asked_there}
-use Rattle.nim_top.proofs.Next.{next_may, next_taken, none_taken}
+use Rattle.nim_top.proofs.Next.{fewer_pass, next_may, next_taken, none_or_one, none_taken}
 use Rattle.nim_top.proofs.Telling.{next_told}
 
 -- what is known of a batch of at most one work that was begun and finished
-pub record IsFinished (old mid new : WorkerCore) (batch other : Batch) (outs : List Out) (history : List Happening) : Type 0 where
+pub record IsFinished (old mid new : WorkerCore) (batch : Batch) (outs : List Out) (history : List Happening) : Type 0 where
   pub before : Stands old None history
   pub stale : mid.stale ≡ old.stale
   pub out : Stands mid (Some batch) history
-  pub same : other ≡ batch
   pub taken : tickets_of batch.works.items ≡ taken_of (state_of history) 1
-  pub stands : Stands mid (Some other) history → Stands new None (history ++ completions_of mid other)
-  pub gave : Stands mid (Some other) history → Gave (state_of history) outs (state_of (history ++ completions_of mid other))
+  pub stands : Stands new None (history ++ completions_of mid batch)
+  pub gave : Gave (state_of history) outs (state_of (history ++ completions_of mid batch))
 
 -- what has happened once it is finished, where these were taken
 pub record HasHappened (new : WorkerCore) (outs : List Out) (history : List Happening) (places : List ℕ) : Type 0 where
@@ -44,23 +49,22 @@ pub record HasHappened (new : WorkerCore) (outs : List Out) (history : List Happ
   pub stands : Stands new None (history ++ completions places)
   pub gave : Gave (state_of history) outs (state_of (history ++ completions places))
 
-pub finished : (old mid new : WorkerCore) (batch other : Batch) (outs : List Out) (history : List Happening) (places : List ℕ) → IsFinished old mid new batch other outs history
+may_out : (mid : WorkerCore) (batch : Batch) (state : WorkerState) (stale : Bool) → IsOut mid stale batch state → stale ≡ false → MayAllHappen state (completions (tickets_of batch.works.items))
+may_out mid batch state true out fresh = absurd (both_ways true fresh refl)
+may_out mid batch state false out fresh = out.0.may
+
+pub finished : (old mid new : WorkerCore) (batch : Batch) (outs : List Out) (history : List Happening) (places : List ℕ) → IsFinished old mid new batch outs history
     → taken_of (state_of history) 1 ≡ places → HasHappened new outs history places
-finished old mid new batch other outs history places f taken =
+finished old mid new batch outs history places f taken =
     let fresh : mid.stale ≡ false = f.stale ∙ f.before.at.out.0 in
-    let out : Stands mid (Some other) history = subst (λ (b : Batch). Stands mid (Some b) history) (sym f.same) f.out in
     let tickets : tickets_of batch.works.items ≡ places = f.taken ∙ taken in
-    let all : completions_of mid other ≡ completions places =
-    cond-false mid.stale [] (completions (tickets_of other.works.items)) fresh ∙ ap (λ (b : Batch). completions (tickets_of b.works.items)) f.same ∙ ap completions tickets in
+    let all : completions_of mid batch ≡ completions places =
+    cond-false mid.stale [] (completions (tickets_of batch.works.items)) fresh ∙ ap completions tickets in
     record {
       may = subst (λ (ps : List ℕ). MayAllHappen (state_of history) (completions ps)) tickets (may_out mid.stale f.out.at.out fresh);
-      stands = subst (λ (more : List Happening). Stands new None (history ++ more)) all (f.stands out);
-      gave = subst (λ (more : List Happening). Gave (state_of history) outs (state_of (history ++ more))) all (f.gave out);
+      stands = subst (λ (more : List Happening). Stands new None (history ++ more)) all f.stands;
+      gave = subst (λ (more : List Happening). Gave (state_of history) outs (state_of (history ++ more))) all f.gave;
     }
-
-may_out : (mid : WorkerCore) (batch : Batch) (state : WorkerState) (stale : Bool) → IsOut mid stale batch state → stale ≡ false → MayAllHappen state (completions (tickets_of batch.works.items))
-may_out mid batch state true out fresh = absurd (both_ways true refl fresh)
-may_out mid batch state false out fresh = out.0.may
 
 -- ---- the state behind it
 
@@ -113,16 +117,16 @@ next_own history orders done asked given own below there =
     (ap (λ (cs : List Command). slice_get cs done) (sym commands) ∙ listed_at (state_of history).session.groups done asked there) (own done below)
 
 -- Where a command is left the next is taken.
-pub one_performed : (job : Job) (old mid new : WorkerCore) (batch other : Batch) (outs : List Out) (orders : List ToWorker) (done : ℕ) → is_whole job ≡ true → MayServe job orders
-    → (was : IsInOrder old orders done) → IsFinished old mid new batch other outs was.history → done < length (asked_for orders) → IsOneMore job new orders done outs
-one_performed job old mid new batch other outs orders done whole serve was f below =
+pub one_performed : (job : Job) (old mid new : WorkerCore) (batch : Batch) (outs : List Out) (orders : List ToWorker) (done : ℕ) → is_whole job ≡ true → MayServe job orders
+    → (was : IsInOrder old orders done) → IsFinished old mid new batch outs was.history → done < length (asked_for orders) → IsOneMore job new orders done outs
+one_performed job old mid new batch outs orders done whole serve was f below =
     let history = was.history in
     let state : WorkerState = state_of history in
     let count = count_is history orders was.given in
     let within : done < length (members_of state.session.groups) = omega (arith, below, count) in
     let found = asked_there state.session.groups done within in
     let may = next_may state done found.0 was.ran found.1 (next_own history orders done found.0 was.given serve.own below found.1) in
-    let h = finished old mid new batch other outs history (done ∷ []) f (next_taken state done was.ran within may) in
+    let h = finished old mid new batch outs history (done ∷ []) f (next_taken state done was.ran within may) in
     record {
       left = below;
       stands = one_more new outs history orders done found.0 found.1 was.given was.frames was.ran h;
@@ -131,12 +135,12 @@ one_performed job old mid new batch other outs orders done whole serve was f bel
     }
 
 -- Where none is left none is taken.
-pub none_performed : (old mid new : WorkerCore) (batch other : Batch) (outs : List Out) (orders : List ToWorker) (done : ℕ) → (was : IsInOrder old orders done)
-    → IsFinished old mid new batch other outs was.history → length (asked_for orders) ≤ done → IsNoMore new orders done
-none_performed old mid new batch other outs orders done was f past =
+pub none_performed : (old mid new : WorkerCore) (batch : Batch) (outs : List Out) (orders : List ToWorker) (done : ℕ) → (was : IsInOrder old orders done)
+    → IsFinished old mid new batch outs was.history → length (asked_for orders) ≤ done → IsNoMore new orders done
+none_performed old mid new batch outs orders done was f past =
     let history = was.history in
     let count = count_is history orders was.given in
-    let h = finished old mid new batch other outs history [] f (none_taken (state_of history) done was.ran (omega (arith, past, count))) in
+    let h = finished old mid new batch outs history [] f (none_taken (state_of history) done was.ran (omega (arith, past, count))) in
     record {
       none = past;
       stands = record {
@@ -149,9 +153,9 @@ none_performed old mid new batch other outs orders done was f past =
     }
 
 -- how many works a batch has where a command is left, and where none is
-pub some_works : (old mid new : WorkerCore) (batch other : Batch) (outs : List Out) (job : Job) (orders : List ToWorker) (done : ℕ) → MayServe job orders → (was : IsInOrder old orders done)
-    → IsFinished old mid new batch other outs was.history → done < length (asked_for orders) → length batch.works.items ≡ 1
-some_works old mid new batch other outs job orders done serve was f below =
+pub some_works : (old mid new : WorkerCore) (batch : Batch) (outs : List Out) (job : Job) (orders : List ToWorker) (done : ℕ) → MayServe job orders → (was : IsInOrder old orders done)
+    → IsFinished old mid new batch outs was.history → done < length (asked_for orders) → length batch.works.items ≡ 1
+some_works old mid new batch outs job orders done serve was f below =
     let state : WorkerState = state_of was.history in
     let count = count_is was.history orders was.given in
     let within : done < length (members_of state.session.groups) = omega (arith, below, count) in
@@ -159,26 +163,41 @@ some_works old mid new batch other outs job orders done serve was f below =
     let may = next_may state done found.0 was.ran found.1 (next_own was.history orders done found.0 was.given serve.own below found.1) in
     sym (length-map (λ (w : Work). w.ticket) batch.works.items) ∙ ap length (f.taken ∙ next_taken state done was.ran within may)
 
-pub no_works : (old mid new : WorkerCore) (batch other : Batch) (outs : List Out) (orders : List ToWorker) (done : ℕ) → (was : IsInOrder old orders done)
-    → IsFinished old mid new batch other outs was.history → length (asked_for orders) ≤ done → length batch.works.items ≡ 0
-no_works old mid new batch other outs orders done was f past =
+pub no_works : (old mid new : WorkerCore) (batch : Batch) (outs : List Out) (orders : List ToWorker) (done : ℕ) → (was : IsInOrder old orders done)
+    → IsFinished old mid new batch outs was.history → length (asked_for orders) ≤ done → length batch.works.items ≡ 0
+no_works old mid new batch outs orders done was f past =
     let count = count_is was.history orders was.given in
     sym (length-map (λ (w : Work). w.ticket) batch.works.items) ∙ ap length (f.taken ∙ none_taken (state_of was.history) done was.ran (omega (arith, past, count)))
 
 -- ---- whatever happened before
 
 -- no batch is out then
-pub rests_then : (old mid new : WorkerCore) (batch other : Batch) (outs : List Out) (history : List Happening) → IsFinished old mid new batch other outs history → Rests new
-rests_then old mid new batch other outs history f =
-    let h = finished old mid new batch other outs history (taken_of (state_of history) 1) f refl in
+pub rests_then : (old mid new : WorkerCore) (batch : Batch) (outs : List Out) (history : List Happening) → IsFinished old mid new batch outs history → Rests new
+rests_then old mid new batch outs history f =
+    let h = finished old mid new batch outs history (taken_of (state_of history) 1) f refl in
     record { history = history ++ completions (taken_of (state_of history) 1); stands = h.stands }
 
+within_members : (state : WorkerState) (place : ℕ) → place < length (placed_commands state.session.groups) → place < length (members_of state.session.groups)
+within_members state place below =
+    let members : List Member = members_of state.session.groups in
+    omega (arith, below, length_from members 0 members)
+
+ran_last : (ran : List ℕ) (place : ℕ) → is_one_of (ran ++ place ∷ []) place ≡ true
+ran_last ran place = gains ran place place ∙ or_right (is_one_of ran place) (place == place) (eq-eqb place place refl)
+
+still_left : (ran : List ℕ) (place other : ℕ) → not (is_one_of (ran ++ place ∷ []) other) ≡ true → not (is_one_of ran other) ≡ true
+still_left ran place other left = either (is_one_of ran other) refl where
+  either : (b : Bool) → is_one_of ran other ≡ b → not b ≡ true
+  either false is = refl
+  either true is =
+      absurd (both_ways (not (is_one_of (ran ++ place ∷ []) other)) (ap not (gains ran place other ∙ or_left (is_one_of ran other) (place == other) is)) left)
+
 -- fewer commands are left where one was completed
-pub fewer_left : (old mid new : WorkerCore) (batch other : Batch) (outs : List Out) (history : List Happening) → IsFinished old mid new batch other outs history
+pub fewer_left : (old mid new : WorkerCore) (batch : Batch) (outs : List Out) (history : List Happening) → IsFinished old mid new batch outs history
     → (length batch.works.items ≡ 0 → ⊥) → left_in new < left_in old
-fewer_left old mid new batch other outs history f some = elim (none_or_one (state_of history)) [
+fewer_left old mid new batch outs history f some = elim (none_or_one (state_of history)) [
   | inl none ↦ absurd (some (sym (length-map (λ (w : Work). w.ticket) batch.works.items) ∙ ap length (f.taken ∙ none)))
-  | inr one ↦ completed_one one.0 (finished old mid new batch other outs history (one.0 ∷ []) f one.1)
+  | inr one ↦ completed_one one.0 (finished old mid new batch outs history (one.0 ∷ []) f one.1)
 ] where
   completed_one : (place : ℕ) → HasHappened new outs history (place ∷ []) → left_in new < left_in old
   completed_one place h =

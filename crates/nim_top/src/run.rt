@@ -3,6 +3,7 @@ ghost use Rattle.nim_job.specs.declared.job.Job.{Job as job_type};
 ghost use Rattle.nim_job.specs.Serial.{serial_of};
 ghost use Rattle.nim_job.specs.Whole.{is_whole};
 ghost use Rattle.nim_message.specs.declared.order.ToWorker.{ToWorker as order_type};
+ghost use Rattle.nim_worker.specs.Left.{left_in};
 ghost use Rattle.nim_top.specs.Carries.{IsBusy, IsIdle, IsInOrder, IsPerformed, Rests};
 ghost use Rattle.nim_top.specs.Leads.{MayServe, asked_for, done_behind, reports_in, values_in};
 ghost use Rattle.nim_top.specs.Orders.{start_orders};
@@ -110,8 +111,8 @@ fn perform(core: &mut WorkerCore) -> Result<Option<Vec<Out>>, NoMemory>
     ensures served { (job : job_type) (orders : List order_type) (done : ℕ) → IsTrue (is_whole job) → MayServe job orders → IsInOrder core.old orders done
         → done ≤ length (asked_for orders) → IfOk result (IsPerformed job core.new orders done) }
 {
-    let mut batch = core.begin(1);
-    let is_idle = batch.works().is_empty();
+    let batch = core.begin(1);
+    let is_idle = batch.is_empty();
     let outs = core.finish(batch)?;
     Ok(if is_idle { None } else { Some(outs) })
 }

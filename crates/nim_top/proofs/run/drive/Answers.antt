@@ -1,6 +1,6 @@
 use Rattle.std.proofs.Common.{length, subst}
-use Rattle.nim_worker.specs.Stands.{asked_for}
 use Rattle.nim_top.specs.Controls.{GoesOn, IsTurn}
+use Rattle.nim_top.specs.Leads.{asked_for}
 use Rattle.nim_top.proofs.Serving.{idle_has_all, starts_busy, turn_given}
 use Rattle.nim_top.proofs.run.drive.Goals as goal
 
