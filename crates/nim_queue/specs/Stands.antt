@@ -78,6 +78,10 @@ waiting_from members done place (m ∷ rest) =
 abbrev pub waiting_of : List Member → (ℕ → Bool) → List Waiting
 waiting_of members done = waiting_from members done 0 members
 
+-- how many commands of a queue aren't complete
+abbrev pub waiting_count : BeforeQueue → ℕ
+waiting_count queue = length queue.waiting.items
+
 -- The queue was given these groups, and just these of their commands are complete, each by its place in the order
 -- given, which is its ticket. It keeps nothing of them but their number.
 pub record Stands (queue : BeforeQueue) (groups : List Group) (done : ℕ → Bool) : Type 0 where

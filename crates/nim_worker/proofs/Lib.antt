@@ -1,10 +1,14 @@
 pub mod Beside
+pub mod Begun
 pub mod Chains
 pub mod Completes
 pub mod Finished
 pub mod GivenBack
 pub mod Handed
 pub mod KeptBeside
+pub mod Left
 pub mod Meeting
+pub mod Opened
 pub mod Puts
+pub mod Released
 pub mod Walk

@@ -4,6 +4,7 @@ pub mod Chains
 pub mod Finishing
 pub mod Inputs
 pub mod Leaves
+pub mod Left
 pub mod Lending
 pub mod Messages
 pub mod Right
