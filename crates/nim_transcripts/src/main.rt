@@ -9,6 +9,7 @@ mod orders;
 mod plans;
 mod session;
 mod shown;
+mod templates;
 mod texts;
 mod values;
 mod words;

@@ -1,9 +1,10 @@
 use crate::commands::{commands, object_line, slots_line};
 use crate::fault::LineFault;
 use crate::funcs::{apply_line, counts_line, has_counts};
-use crate::orders::{push_report, reset, single};
+use crate::orders::{frame, push_frame, push_report, reset, single};
 use crate::plans::{holds_line, rank_line};
 use crate::shown::{push_answer, push_contents, push_number};
+use crate::templates::{copies, instance, patch, template};
 use crate::texts::tokens_line;
 use crate::values::{cell_line, fit_line, made_line, text_line};
 use crate::words::{number, parts};
@@ -105,9 +106,6 @@ impl Session {
         out: &mut String,
     ) -> Result<(), LineFault> {
         match word {
-            "reset" => self.order(reset(alloc, text)?),
-            "single" => self.order(single(alloc, text)?),
-            "stop" => self.order(ToWorker::Stop),
             "list" => {
                 self.list = commands(alloc, text)?;
                 Ok(())
@@ -116,6 +114,29 @@ impl Session {
             "covered" => push_answer(out, covered(alloc, self.list.as_slice())?),
             "rank" => {
                 self.rank = Some(rank_line(alloc, self.rank, text, out)?);
+                Ok(())
+            }
+            _ => self.answer_order(alloc, word, text, out),
+        }
+    }
+
+    fn answer_order(
+        &mut self,
+        alloc: Global,
+        word: &str,
+        text: &str,
+        out: &mut String,
+    ) -> Result<(), LineFault> {
+        match word {
+            "reset" => self.order(reset(alloc, text)?),
+            "single" => self.order(single(alloc, text)?),
+            "template" => self.order(template(alloc, text)?),
+            "instance" => self.order(instance(alloc, text)?),
+            "copies" => self.order(copies(alloc, text)?),
+            "patch" => self.order(patch(alloc, text)?),
+            "stop" => self.order(ToWorker::Stop),
+            "data" => {
+                self.core.on_data(frame(alloc, text)?.copy()?)?;
                 Ok(())
             }
             _ => self.answer_work(alloc, word, text, out),
@@ -141,7 +162,7 @@ impl Session {
                 push_number(alloc, out, i64::from(self.core.worker().0))
             }
             "busy" => push_answer(out, self.core.busy()),
-            "begin" => self.begin(alloc, out),
+            "begin" => self.begin(alloc, most_of(text)?, out),
             "perform" => self.perform(),
             "finish" => self.finish(alloc, out),
             "reports" => self.reports(alloc, out),
@@ -149,12 +170,15 @@ impl Session {
         }
     }
 
-    // `begin`: the epoch of the batch, and of each work the position and what it reads.
-    fn begin(&mut self, alloc: Global, out: &mut String) -> Result<(), LineFault> {
+    // `begin MOST`: the epoch of the batch, and of each work the position and what it reads.
+    fn begin(&mut self, alloc: Global, most: u16, out: &mut String) -> Result<(), LineFault> {
         if self.core.busy() {
             return Err(LineFault::Form("a batch is out"));
         }
-        let mut batch = self.core.begin(1);
+        if most == 0 || most > 16 {
+            return Err(LineFault::Form("a batch has 1 to 16 works"));
+        }
+        let mut batch = self.core.begin(most);
         let epoch = batch.epoch();
         out.push_str(format!(in alloc; "epoch {epoch}\n")?.as_str())?;
         for work in batch.works() {
@@ -180,19 +204,21 @@ impl Session {
         Ok(())
     }
 
-    // `finish`: what the batch reports.
+    // `finish`: what the batch gives.
     fn finish(&mut self, alloc: Global, out: &mut String) -> Result<(), LineFault> {
         let Some(batch) = self.batch.take() else {
             return Err(LineFault::Form("no batch is out"));
         };
         for given in self.core.finish(batch)? {
-            let Out::Report(report) = given;
-            push_report(alloc, out, &report.copy()?)?;
+            match given {
+                Out::Report(report) => push_report(alloc, out, &report.copy()?)?,
+                Out::Data(peer, frame) => push_frame(alloc, out, peer, &frame.copy()?)?,
+            }
         }
         Ok(())
     }
 
-    // `reports`: what is reported until no command is released.
+    // `reports`: what is given until no command may be completed.
     fn reports(&mut self, alloc: Global, out: &mut String) -> Result<(), LineFault> {
         for _ in 0..100u32 {
             if self.core.busy() {
@@ -208,4 +234,12 @@ impl Session {
         }
         Err(LineFault::Form("there are more reports"))
     }
+}
+
+// How many commands a batch may have, one where nothing is said.
+fn most_of(text: &str) -> Result<u16, LineFault> {
+    if text.is_empty() {
+        return Ok(1);
+    }
+    number::<u16>(text)
 }

@@ -7,6 +7,9 @@ use Rattle.std.proofs.lemmas.Bool.{both_ways}
 use Rattle.std.proofs.lemmas.List.Elements.{All-cons, All-head, All-nil, All-tail}
 use Rattle.nim_base.specs.declared.number.Shape.{Shape}
 use Rattle.nim_base.specs.declared.number.Slot.{Slot}
+use Rattle.nim_base.specs.declared.task.Task.{Task}
+use Rattle.nim_base.specs.Apply.{has_counts}
+use Rattle.nim_base.specs.Functions.{reads_of}
 use Rattle.nim_command.specs.declared.command.Kind.{Kind}
 use Rattle.nim_command.specs.declared.command.Kind.TheVariants.{Run}
 use Rattle.nim_command.specs.Waits.{Group, members_of}
@@ -16,6 +19,7 @@ use Rattle.nim_order.specs.Progress.{is_one_of}
 use Rattle.nim_job.specs.declared.job.Job.{Job}
 use Rattle.nim_job.specs.Serial.{tasks_of}
 use Rattle.nim_job.specs.Whole.{is_whole}
+use Rattle.nim_plan.specs.Legal.{reads_at}
 use Rattle.nim_store.specs.declared.held.Held.{Held}
 use Rattle.nim_store.specs.Stored.{slot_at}
 use Rattle.nim_history.specs.History.{Asked, Happening, IsHistory, MayComplete, WorkerState, asked_at, has_frame, orders_in, state_of}
@@ -30,7 +34,6 @@ use Rattle.nim_worker.specs.declared.batch.Batch.{Batch}
 use Rattle.nim_worker.specs.declared.batch.Work.{Work}
 use Rattle.nim_worker.specs.declared.worker.WorkerCore.{WorkerCore}
 use Rattle.nim_worker.specs.Chains.{AreWorks, HasRead, HaveRead}
-use Rattle.nim_worker.specs.Inputs.{AreIdle}
 use Rattle.nim_worker.specs.Right.{ReadsRight}
 use Rattle.nim_worker.specs.Stands.{HasRoom, HasState, IsAtRest, IsAtWork, IsBeginning, IsOut, Stands, begun_at, begun_of, completions, tickets_of}
 use Rattle.nim_worker.specs.Taken.{taken_from, taken_of}
@@ -64,15 +67,15 @@ pub record IsLeftBegun (old new : WorkerCore) : Type 0 where
 -- a batch that takes what a batch takes is out
 pub stands_begun : (old new : WorkerCore) (batch : Batch) (history : List Happening) (most : ℕ) → Stands old None history → IsLeftBegun old new
     → IsBeginning new batch.works.items (state_of history) → tickets_of batch.works.items ≡ taken_of (state_of history) most
-    → (new.begun ≡ true → HasRoom batch) → AreIdle batch.spare.items → Stands new (Some batch) history
-stands_begun old new batch history most stands left begins taken room idle = record {
+    → (new.begun ≡ true → HasRoom batch) → Stands new (Some batch) history
+stands_begun old new batch history most stands left begins taken room = record {
   history = stands.history;
   at = record {
     has = begins.has;
     busy = left.busy;
     out = subst (λ (stale : Bool). IsOut new stale batch (state_of history)) (sym (left.stale ∙ stands.at.out.0)) (
       record { may = subst (MayAllComplete (state_of history)) (sym taken) (may_all (state_of history) most).turn; chain = begins.chain },
-      (room, idle),
+      room,
     );
   };
 }
@@ -125,12 +128,15 @@ never_begun old history stands none begun = both_ways true (sym (stands.at.out.1
 run_right : (job : Job) (before : Slot → Option Held) (kind : Kind) (work : Work) → work.position ≡ position_of kind → HasRead before kind work → truth.ReadsRight job before kind → ReadsRight job work
 run_right job before (Run at func params reads writes) work is read right position named =
     let same : at ≡ position = cc in
-    some_then _ (slice_get (tasks_of job) position) (subst (λ (n : ℕ). IsSomeAnd (slice_get (tasks_of job) n) _) same right)
+    some_then (λ (task : Task). (work.inputs.value.contents.items ≡ reads_at job position task)
+    × (reads_of work.inputs.value.values.items work.inputs.value.places.items ≡ values_read job position task)) (slice_get (tasks_of job) position)
+    (subst (λ (n : ℕ). IsSomeAnd (slice_get (tasks_of job) n) (λ task. (has_counts func (length params) (length reads) (length writes) ≡ true)
+    × (map (content_seen before) reads ≡ reads_at job n task) × (map (λ slot. (seen before slot).value) reads ≡ values_read job n task))) same right)
     (λ task there parts.
     let counts = ap (λ (b : Bool). if b then reads else []) parts.0 in
     (
-      read.contents ∙ ap (map (content_seen before)) counts ∙ parts.1.0,
-      read.values ∙ ap (map (λ slot. (seen before slot).value)) counts ∙ parts.1.1,
+      read.contents ∙ ap (map (content_seen before)) counts ∙ parts.1,
+      read.values ∙ ap (map (λ slot. (seen before slot).value)) counts ∙ parts.2,
     ))
 run_right job before kind work is read right position named = absurd cc
 
@@ -151,7 +157,7 @@ reads_all job state now (work ∷ works) finds may first are read =
 
 some_at : {X : Type 0} (P : X → Type 0) (o : Option X) (x : X) → IfSome o P → o ≡ Some x → P x
 some_at P None x holds is = absurd cc
-some_at P (Some y) x holds is = subst P cc holds
+some_at P (Some y) x holds is = let same : y ≡ x = cc in subst P same holds
 
 pub reads_begun : (job : Job) (new : WorkerCore) (works : List Work) (history : List Happening) (most : ℕ) → IsTrue (is_whole job) → IsHandedTruth job history → IsHistory history
     → IsBeginning new works (state_of history) → tickets_of works ≡ taken_of (state_of history) most → All (ReadsRight job) works

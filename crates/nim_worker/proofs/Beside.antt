@@ -56,7 +56,8 @@ map_on {X} f g (slot ∷ slots) same =
     ap₂ (λ (x : X) (xs : List X). x ∷ xs) (same slot (or_left (slot.0 == slot.0) (is_among slots slot) (eq-eqb slot.0 slot.0 refl)))
     (map_on f g slots (λ s among. same s (or_right (slot.0 == s.0) (is_among slots s) among)))
 
-pub contents_same : (f g : Slot → Option Held) (slots : List Slot) → ((s : Slot) → is_among slots s ≡ true → f s ≡ g s) → map (content_seen f) slots ≡ map (content_seen g) slots
+pub contents_same : (f g : Slot → Option Held) (slots : List Slot) → ((s : Slot) → is_among slots s ≡ true → f s ≡ g s)
+    → map (content_seen f) slots ≡ map (content_seen g) slots
 contents_same f g slots same = map_on (content_seen f) (content_seen g) slots
     (λ s among. ap (λ (h : Option Held). ((option_map_or (λ (held : Held). held) h (held_at s 0 empty_grid)).object, (option_map_or (λ (held : Held). held) h (held_at s 0 empty_grid)).version)) (same s among))
 
@@ -72,7 +73,8 @@ given_back_same (t ∷ ts) [] f g s same = same
 given_back_same (t ∷ ts) (v ∷ vs) f g s same = ap (λ (h : Option Held). if s.0 == t.slot.0 then held_of t v else h) (given_back_same ts vs f g s same)
 
 -- a slot that nothing was taken from stays as it is
-given_back_other : (slots : List Slot) (ts : List Taken) (vs : List Grid) (f : Slot → Option Held) (s : Slot) → AreAmong slots ts → is_among slots s ≡ false → given_back ts vs f s ≡ f s
+given_back_other : (slots : List Slot) (ts : List Taken) (vs : List Grid) (f : Slot → Option Held) (s : Slot) → AreAmong slots ts
+    → is_among slots s ≡ false → given_back ts vs f s ≡ f s
 given_back_other slots [] vs f s among not = refl
 given_back_other slots (t ∷ ts) [] f s among not = refl
 given_back_other slots (t ∷ ts) (v ∷ vs) f s among not =
@@ -91,7 +93,8 @@ results_same shapes kind f g same =
 
 -- a work is the same work among other slots, where those that its command touches are the same and it left the others alone
 pub work_moved : (shapes : List Shape) (before now before' now' : Slot → Option Held) (begun : Begun) (work : Work) → IsWork shapes before now begun work
-    → Agree begun.kind before before' → Agree begun.kind now now' → ((s : Slot) → does_touch begun.kind s ≡ false → now' s ≡ before' s) → IsWork shapes before' now' begun work
+    → Agree begun.kind before before' → Agree begun.kind now now' → ((s : Slot) → does_touch begun.kind s ≡ false → now' s ≡ before' s)
+    → IsWork shapes before' now' begun work
 work_moved shapes before now before' now' begun work is same_before same_now others = record {
   ticket = is.ticket;
   position = is.position;
@@ -116,7 +119,8 @@ work_moved shapes before now before' now' begun work is same_before same_now oth
       ∙ others s not
 
 -- a work that is out left the slots alone that its command doesn't touch
-pub leaves_alone : (shapes : List Shape) (before now : Slot → Option Held) (begun : Begun) (work : Work) (s : Slot) → IsWork shapes before now begun work → does_touch begun.kind s ≡ false
+pub leaves_alone : (shapes : List Shape) (before now : Slot → Option Held) (begun : Begun) (work : Work) (s : Slot)
+    → IsWork shapes before now begun work → does_touch begun.kind s ≡ false
     → before s ≡ now s
 leaves_alone shapes before now begun work s is not =
     sym (ap (λ (f : Slot → Option Held). f s) is.inputs.back)

@@ -15,7 +15,8 @@ use Rattle.nim_worker.proofs.Beside.{Agree, beside, beside_inside, beside_outsid
 use Rattle.nim_worker.proofs.KeptBeside.{kept_inside, kept_outside}
 
 -- a slot that none of the commands touches has what it had
-chain_leaves : (shapes : List Shape) (before now : Slot → Option Held) (begun : List Begun) (works : List Work) (s : Slot) → AreWorks shapes before now begun works → do_touch begun s ≡ false
+chain_leaves : (shapes : List Shape) (before now : Slot → Option Held) (begun : List Begun) (works : List Work) (s : Slot)
+    → AreWorks shapes before now begun works → do_touch begun s ≡ false
     → before s ≡ now s
 chain_leaves shapes before now [] [] s are not = ap (λ (f : Slot → Option Held). f s) are
 chain_leaves shapes before now [] (w ∷ ws) s are not = absurd are
@@ -33,7 +34,8 @@ not_first b bs s apart touched = either (does_touch b.kind s) refl where
 
 -- The works are out among other slots as well, where those that their commands touch are the same and the others were left
 -- alone.
-chain_moved : (shapes : List Shape) (before now before' now' : Slot → Option Held) (begun : List Begun) (works : List Work) → AreWorks shapes before now begun works
+chain_moved : (shapes : List Shape) (before now before' now' : Slot → Option Held) (begun : List Begun) (works : List Work)
+    → AreWorks shapes before now begun works
     → ((s : Slot) → do_touch begun s ≡ true → before s ≡ before' s) → ((s : Slot) → do_touch begun s ≡ true → now s ≡ now' s)
     → ((s : Slot) → do_touch begun s ≡ false → before' s ≡ now' s) → AreWorks shapes before' now' begun works
 chain_moved shapes before now before' now' [] [] are same_before same_now others = fun_ext (λ (s : Slot). others s refl)
@@ -81,7 +83,8 @@ apart_more b c bs apart last s touched = rest bs (apart s touched) where
       or_from (does_touch o.kind s) (do_touch (others ++ c ∷ []) s) parts.0 (rest others parts.1)
 
 -- one more work is out, whose command touches nothing that the others touch
-pub more_works : (shapes : List Shape) (before between now : Slot → Option Held) (begun : List Begun) (works : List Work) (last : Begun) (work : Work) → AreWorks shapes before between begun works
+pub more_works : (shapes : List Shape) (before between now : Slot → Option Held) (begun : List Begun) (works : List Work) (last : Begun) (work : Work)
+    → AreWorks shapes before between begun works
     → IsApart last.kind begun → IsWork shapes between now last work → AreWorks shapes before now (begun ++ last ∷ []) (works ++ work ∷ [])
 more_works shapes before between now [] [] last work are apart is =
     (now, (subst (λ (f : Slot → Option Held). IsWork shapes f now last work) (sym are) is, ((λ s touched. refl), refl)))
@@ -104,7 +107,8 @@ pub record IsFirst (shapes : List Shape) (frame : Option Grid) (before now : Slo
   pub rest : AreWorks shapes (kept_by shapes frame b.kind before) (kept_by shapes frame b.kind (beside b.kind before now)) bs ws
   pub same : Agree b.kind (beside b.kind before now) before
 
-pub first_of : (shapes : List Shape) (frame : Option Grid) (before now : Slot → Option Held) (b : Begun) (bs : List Begun) (w : Work) (ws : List Work) → AreWorks shapes before now (b ∷ bs) (w ∷ ws)
+pub first_of : (shapes : List Shape) (frame : Option Grid) (before now : Slot → Option Held) (b : Begun) (bs : List Begun) (w : Work) (ws : List Work)
+    → AreWorks shapes before now (b ∷ bs) (w ∷ ws)
     → IsFirst shapes frame before now b bs w ws
 first_of shapes frame before now b bs w ws are = record {
   is = work_moved shapes before are.0 (beside b.kind before now) now b w are.1.0 (λ s touched. sym (same s touched)) (λ s touched. chain_leaves shapes are.0 now bs ws s are.1.1.1 (are.1.1.0 s touched))
@@ -124,12 +128,14 @@ first_of shapes frame before now b bs w ws are = record {
   outside_now : (s : Slot) → does_touch b.kind s ≡ false → now s ≡ kept_by shapes frame b.kind (beside b.kind before now) s
   outside_now s not = sym (beside_outside b.kind before now s not) ∙ sym (kept_outside shapes frame b.kind (beside b.kind before now) s not)
 
-  others : (s : Slot) → do_touch bs s ≡ false → (t : Bool) → does_touch b.kind s ≡ t → kept_by shapes frame b.kind before s ≡ kept_by shapes frame b.kind (beside b.kind before now) s
+  others : (s : Slot) → do_touch bs s ≡ false → (t : Bool) → does_touch b.kind s ≡ t
+      → kept_by shapes frame b.kind before s ≡ kept_by shapes frame b.kind (beside b.kind before now) s
   others s not true is = sym (kept_inside shapes frame b.kind (beside b.kind before now) before s same is)
   others s not false is = sym (outside_before s is) ∙ chain_leaves shapes are.0 now bs ws s are.1.1.1 not ∙ outside_now s is
 
 -- works that were performed, any of them, are still out
-pub works_kept : (shapes : List Shape) (before now : Slot → Option Held) (begun : List Begun) (olds news : List Work) → KeepWorks olds news → AreWorks shapes before now begun olds
+pub works_kept : (shapes : List Shape) (before now : Slot → Option Held) (begun : List Begun) (olds news : List Work) → KeepWorks olds news
+    → AreWorks shapes before now begun olds
     → AreWorks shapes before now begun news
 works_kept shapes before now [] [] [] keep are = are
 works_kept shapes before now (b ∷ bs) [] [] keep are = absurd are
@@ -160,5 +166,6 @@ read_from shapes before now first (b ∷ bs) (w ∷ ws) are same = (
       ∙ same s (or_right (does_touch b.kind s) (do_touch bs s) touched)
 
 -- each of the works has read what the slots had before any of them was begun
-pub works_read : (shapes : List Shape) (before now : Slot → Option Held) (begun : List Begun) (works : List Work) → AreWorks shapes before now begun works → HaveRead before begun works
+pub works_read : (shapes : List Shape) (before now : Slot → Option Held) (begun : List Begun) (works : List Work)
+    → AreWorks shapes before now begun works → HaveRead before begun works
 works_read shapes before now begun works are = read_from shapes before now before begun works are (λ s touched. refl)

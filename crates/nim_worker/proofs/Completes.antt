@@ -23,7 +23,8 @@ use Rattle.nim_worker.specs.Leaves.{left_with, told_with}
 use Rattle.nim_worker.specs.Works.{AreInputsOf, Begun, IsPerformed, IsWork, reads_taken, results_from, results_in, results_of}
 
 -- where no result is left nothing is put
-pub put_none : (shapes : List Shape) (version : ℕ) (slots : List Slot) (values : List Grid) (f : Slot → Option Held) → values ≡ [] → put_results shapes version slots values f ≡ f
+pub put_none : (shapes : List Shape) (version : ℕ) (slots : List Slot) (values : List Grid) (f : Slot → Option Held) → values ≡ []
+    → put_results shapes version slots values f ≡ f
 put_none shapes version slots values f none = subst (λ vs. put_results shapes version slots vs f ≡ f) (sym none) (either slots) where
   either : (slots : List Slot) → put_results shapes version slots [] f ≡ f
   either [] = refl
@@ -36,10 +37,12 @@ inputs_results shapes before now begun work is =
     rw (is.func, is.inputs.params, is.inputs.values, is.inputs.shapes) refl
 
 -- a work that is performed has its command's results
-pub performed_results : (shapes : List Shape) (before now : Slot → Option Held) (begun : Begun) (work new : Work) → IsWork shapes before now begun work → IsPerformed work new
+pub performed_results : (shapes : List Shape) (before now : Slot → Option Held) (begun : Begun) (work new : Work)
+    → IsWork shapes before now begun work → IsPerformed work new
     → results_in new ≡ results_of shapes begun.kind before
 performed_results shapes before now begun work new is done = done.results ∙ either (results_in work) is.results where
-  either : (r : Option (List Grid)) → IfSome r (λ results. results_of shapes begun.kind before ≡ Some results) → option_or r (results_from work) ≡ results_of shapes begun.kind before
+  either : (r : Option (List Grid)) → IfSome r (λ results. results_of shapes begun.kind before ≡ Some results)
+      → option_or r (results_from work) ≡ results_of shapes begun.kind before
   either None has = inputs_results shapes before now begun work is
   either (Some results) has = sym has
 
@@ -54,19 +57,22 @@ left_run shapes before frame position func params reads writes = either (has_cou
   either true = refl
   either false = refl
 
-left_kept : (shapes : List Shape) (before : Slot → Option Held) (frame : Option Grid) (kind : Kind) → left_with shapes frame kind (results_of shapes kind before) before ≡ kept_by shapes frame kind before
+left_kept : (shapes : List Shape) (before : Slot → Option Held) (frame : Option Grid) (kind : Kind)
+    → left_with shapes frame kind (results_of shapes kind before) before ≡ kept_by shapes frame kind before
 left_kept shapes before frame (Run position func params reads writes) = left_run shapes before frame position func params reads writes
 left_kept shapes before frame kind = refl
 
 -- what is left once its inputs are given back is what the command leaves
-pub completes : (shapes : List Shape) (before now : Slot → Option Held) (begun : Begun) (work new : Work) (frame : Option Grid) → IsWork shapes before now begun work → IsPerformed work new
+pub completes : (shapes : List Shape) (before now : Slot → Option Held) (begun : Begun) (work new : Work) (frame : Option Grid)
+    → IsWork shapes before now begun work → IsPerformed work new
     → left_with shapes frame begun.kind (results_in new) before ≡ kept_by shapes frame begun.kind before
 completes shapes before now begun work new frame is done =
     ap (λ (r : Option (List Grid)). left_with shapes frame begun.kind r before) (performed_results shapes before now begun work new is done)
     ∙ left_kept shapes before frame begun.kind
 
 -- a work that is performed is still its command's
-pub performed : (shapes : List Shape) (before now : Slot → Option Held) (begun : Begun) (work new : Work) → IsPerformed work new → IsWork shapes before now begun work → IsWork shapes before now begun new
+pub performed : (shapes : List Shape) (before now : Slot → Option Held) (begun : Begun) (work new : Work) → IsPerformed work new
+    → IsWork shapes before now begun work → IsWork shapes before now begun new
 performed shapes before now begun work new done is = record {
   ticket = done.ticket ∙ is.ticket;
   position = done.position ∙ is.position;
@@ -108,7 +114,8 @@ told_run group before position func params reads writes contents told = either (
   either false told = refl
 
 -- what is told with the contents that a work's inputs have is what its command gives
-pub told_is : (group : Group) (before : Slot → Option Held) (kind : Kind) (contents : List (Object × ℕ)) → (is_single group.source ≡ true → contents ≡ map (content_seen before) (reads_taken kind))
+pub told_is : (group : Group) (before : Slot → Option Held) (kind : Kind) (contents : List (Object × ℕ))
+    → (is_single group.source ≡ true → contents ≡ map (content_seen before) (reads_taken kind))
     → told_with group kind contents before ≡ own_outs group kind before
 told_is group before (Run position func params reads writes) contents told = told_run group before position func params reads writes contents told
 told_is group before kind contents told = refl

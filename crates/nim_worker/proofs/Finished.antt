@@ -24,7 +24,6 @@ use Rattle.nim_worker.specs.declared.batch.Batch.{Batch}
 use Rattle.nim_worker.specs.declared.batch.Work.{Work}
 use Rattle.nim_worker.specs.declared.worker.WorkerCore.{WorkerCore}
 use Rattle.nim_worker.specs.Chains.{AreWorks}
-use Rattle.nim_worker.specs.Inputs.{AreIdle}
 use Rattle.nim_worker.specs.Stands.{Gave, HasRoom, HasState, IsAtRest, IsAtWork, IsOut, Stands, StandsAt, after_completions, begun_of, completions, completions_of, outs_at, tickets_of}
 use Rattle.nim_worker.specs.Works.{Begun, begun_as}
 use Rattle.nim_worker.proofs.Begun.{asked_of, begun_first}
@@ -142,7 +141,7 @@ stands_dropped old batch history stands stale =
       at = record {
         has = record { failed = has.failed; session = record { begun = has.session.begun; epoch = has.session.epoch; shapes = has.session.shapes; installed = has.session.installed }; admitted = has.admitted; inbox = has.inbox };
         busy = refl;
-        out = (refl, record { slots = out.0.slots; room = out.0.room });
+        out = (refl, record { slots = out.slots; room = out.room });
       };
     })
 

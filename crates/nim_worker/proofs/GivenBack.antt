@@ -38,7 +38,8 @@ pub place_past : (slot : Slot) (ts : List Taken) → length ts ≤ position_or_l
 place_past slot [] past = refl
 place_past slot (t ∷ ts) past = either (slot.0 == t.slot.0) (place_past slot ts) past where
   either : (b : Bool) → (length ts ≤ position_or_len (is_from slot) ts → position_or_len (is_from slot) ts ≡ length ts)
-      → suc (length ts) ≤ (if not b then 1 + position_or_len (is_from slot) ts else 0) → (if not b then 1 + position_or_len (is_from slot) ts else 0) ≡ suc (length ts)
+      → suc (length ts) ≤ (if not b then 1 + position_or_len (is_from slot) ts else 0)
+      → (if not b then 1 + position_or_len (is_from slot) ts else 0) ≡ suc (length ts)
   either true more past = absurd (omega (arith, past))
   either false more past = omega (arith, more (omega (arith, past)))
 
@@ -59,7 +60,8 @@ pub record IsTakenAt (slot : Slot) (ts : List Taken) (vs : List Grid) (f : Slot 
   pub value : (v : Grid) → get_or vs place v ≡ (seen (given_back ts vs f) slot).value
   pub content : (t : Taken) → content_of (get_or ts place t) ≡ content_seen (given_back ts vs f) slot
 
-seen_of : (slot : Slot) (t : Taken) (v : Grid) (g : Slot → Option Held) → slot ≡ t.slot → g slot ≡ held_of t v → option_map_or (λ (held : Held). held.value) (held_of t v) empty_grid ≡ v
+seen_of : (slot : Slot) (t : Taken) (v : Grid) (g : Slot → Option Held) → slot ≡ t.slot → g slot ≡ held_of t v
+    → option_map_or (λ (held : Held). held.value) (held_of t v) empty_grid ≡ v
     → (v ≡ (seen g slot).value) × (content_of t ≡ content_seen g slot)
 seen_of slot t v g same has right = either t.content refl where
   either : (c : Option (Object × ℕ)) → t.content ≡ c → (v ≡ (seen g slot).value) × (content_of t ≡ content_seen g slot)
@@ -88,7 +90,8 @@ taken_at slot (t ∷ ts) (v ∷ vs) f paired right within = either (slot.0 == t.
 
 -- what a slot has that is taken now
 pub new_at : (slot : Slot) (ts : List Taken) (vs : List Grid) (f : Slot → Option Held) (t : Taken) (v : Grid) → length ts ≡ length vs
-    → length ts ≤ position_or_len (is_from slot) ts → slot ≡ t.slot → held_of t v ≡ f slot → option_map_or (λ (held : Held). held.value) (held_of t v) empty_grid ≡ v
+    → length ts ≤ position_or_len (is_from slot) ts → slot ≡ t.slot → held_of t v ≡ f slot
+    → option_map_or (λ (held : Held). held.value) (held_of t v) empty_grid ≡ v
     → (v ≡ (seen (given_back ts vs f) slot).value) × (content_of t ≡ content_seen (given_back ts vs f) slot)
 new_at slot ts vs f t v paired past same had right = seen_of slot t v (given_back ts vs f) same (not_taken slot ts vs f paired past ∙ sym had) right
 
@@ -100,7 +103,8 @@ AreSeen-snoc (u ∷ ts) [] t v paired all right = absurd cc
 AreSeen-snoc (u ∷ ts) (w ∷ vs) t v paired all right = (all.0, AreSeen-snoc ts vs t v (omega (arith, paired)) all.1 right)
 
 -- more values leave those that are read by their places
-pub reads_of-more : (vs more : List Grid) (places : List ℕ) → All (λ (place : ℕ). place < length vs) places → reads_of (vs ++ more) places ≡ reads_of vs places
+pub reads_of-more : (vs more : List Grid) (places : List ℕ) → All (λ (place : ℕ). place < length vs) places
+    → reads_of (vs ++ more) places ≡ reads_of vs places
 reads_of-more vs more [] fit = refl
 reads_of-more vs more (place ∷ places) fit =
     ap₂ (λ (v : Grid) (rest : List Grid). v ∷ rest) (get_or_append_left vs more empty_grid place (fit 0 0 (omega arith))) (reads_of-more vs more places (λ i d within. fit (suc i) d (omega (arith, within))))
@@ -123,7 +127,8 @@ fits_more vs others (p ∷ places) place goes_on fit within =
     (fits_more vs others places place goes_on (λ i d w. fit (suc i) d (omega (arith, w))) within)
 
 -- one more of a list is changed and pushed
-pub pushed_map : {X Y : Type 0} (f : X → Y) (xs : List X) (i : ℕ) (d : X) (ys : List Y) (y : Y) → i < length xs → ys ≡ map f (take i xs) → y ≡ f (get_or xs i d)
+pub pushed_map : {X Y : Type 0} (f : X → Y) (xs : List X) (i : ℕ) (d : X) (ys : List Y) (y : Y) → i < length xs → ys ≡ map f (take i xs)
+    → y ≡ f (get_or xs i d)
     → ys ++ y ∷ [] ≡ map f (take (i + 1) xs)
 pushed_map {X} {Y} f xs i d ys y within so_far is = ap₂ (λ (all : List Y) (last : Y). all ++ last ∷ []) so_far is ∙ sym (map_more f xs i d within)
 

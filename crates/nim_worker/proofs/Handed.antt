@@ -1,6 +1,6 @@
 -- What a core stands for once it was handed an order or a frame of data.
-use Rattle.std.proofs.Common.{◌≡◌, ℕ, Bool, true, false, not, List, [], ◌∷◌, ◌++◌, refl, ap, ap₂, sym, subst, ◌∙◌, Option, None, Some, All}
-use Rattle.std.specs.Prelude.{◌==◌, ◌&&◌, nat_lt, if◌then◌else◌}
+use Rattle.std.proofs.Common.{◌≡◌, ◌≤◌, arith, ℕ, Bool, true, false, not, List, [], ◌∷◌, ◌++◌, refl, ap, ap₂, sym, subst, ◌∙◌, Option, None, Some, All}
+use Rattle.std.specs.Prelude.{◌==◌, ◌&&◌, nat_lt, if◌then◌else◌, OnOk, Result, Ok, Err}
 use Rattle.std.specs.FinMap as map
 use Rattle.std.specs.List.{flat_map, fold}
 use Rattle.std.specs.Option.{is_some, option_map_or}
@@ -13,16 +13,19 @@ use Rattle.nim_base.specs.Value.{Grid}
 use Rattle.nim_command.specs.declared.command.Command.{Command}
 use Rattle.nim_command.specs.declared.edit.PatchPart.{PatchPart}
 use Rattle.nim_command.specs.declared.entry.Entry.{Entry}
-use Rattle.nim_command.specs.Waits.{Group}
+use Rattle.nim_command.specs.Edits.{edited_by}
+use Rattle.nim_command.specs.Expansion.{expanded}
+use Rattle.nim_command.specs.Waits.{Group, single_group}
 use Rattle.nim_message.specs.declared.frame.Data.{Data}
 use Rattle.nim_message.specs.declared.order.ToWorker.{ToWorker}
-use Rattle.nim_message.specs.Orders.{Session, after_order, counted, does_count, epoch_named, is_current as is_named}
+use Rattle.nim_message.specs.Orders.{Session, after_order, counted, instance_group, patch_group, with_list, does_count, epoch_named, is_current as is_named}
 use Rattle.nim_plan.specs.declared.installed.Installed.{Installed}
-use Rattle.nim_plan.specs.Installed.{Has}
+use Rattle.nim_plan.specs.Installed.{Has, halves_of, patches_of}
 use Rattle.nim_store.specs.declared.held.Held.{Held}
 use Rattle.nim_store.specs.Keys.{is_not_before, key_cmp, key_of}
 use Rattle.nim_store.specs.Stored.{slot_at}
-use Rattle.nim_history.specs.History.{Asked, Happening, IsHistory, MayAllHappen, WorkerState, after_happening, asked_at, framed, ordered, state_of}
+use Rattle.nim_history.specs.History as history
+use Rattle.nim_history.specs.History.{Happening, IsHistory, MayAllHappen, WorkerState, after_happening, asked_at, framed, ordered, state_of}
 use Rattle.nim_history.specs.InTurn.{is_reset}
 use Rattle.nim_history.proofs.GoesOn.{history_goes_on}
 use Rattle.nim_history.proofs.Ordered.{ordered_is, ordered_session}
@@ -33,17 +36,18 @@ use Rattle.nim_worker.specs.declared.batch.Work.{Work}
 use Rattle.nim_worker.specs.declared.worker.WorkerCore.{WorkerCore}
 use Rattle.nim_worker.specs.Admitted.{IsAdmitted}
 use Rattle.nim_worker.specs.Chains.{AreWorks}
-use Rattle.nim_worker.specs.Inputs.{AreIdle}
-use Rattle.nim_worker.specs.Messages.{IsReset}
+use Rattle.nim_worker.specs.declared.head.GroupHead.{GroupHead}
+use Rattle.nim_worker.specs.declared.messages.Asked.{Asked}
+use Rattle.nim_worker.specs.Messages.{IsInstantiated, IsReset}
 use Rattle.nim_worker.specs.Stands.{HasSession, HasState, IsAtRest, IsAtWork, IsOut, MayBeOut, Stands, StandsAt, begun_at, begun_of, completions, is_current, is_passed, tickets_of}
 use Rattle.nim_worker.specs.Works.{Begun, begun_as}
 
 -- what goes on behind a history
-pub stands_on : (core : WorkerCore) (batch : Option Batch) (history more : List Happening) → IsHistory history → MayAllHappen (state_of history) more
-    → StandsAt core batch (fold after_happening (state_of history) more) → Stands core batch (history ++ more)
-stands_on core batch history more is may at = record {
-  history = history_goes_on.may history more is may;
-  at = subst (StandsAt core batch) (sym (history_goes_on.state history more)) at;
+pub stands_on : (core : WorkerCore) (batch : Option Batch) (past more : List Happening) → IsHistory past → MayAllHappen (state_of past) more
+    → StandsAt core batch (fold after_happening (state_of past) more) → Stands core batch (past ++ more)
+stands_on core batch past more is may at = record {
+  history = history_goes_on.may past more is may;
+  at = subst (StandsAt core batch) (sym (history_goes_on.state past more)) at;
 }
 
 -- an order that is passed over changes nothing
@@ -96,7 +100,7 @@ begun_same : (groups others : List Group) (places : List ℕ) → All (λ place.
 begun_same groups others [] all = refl
 begun_same groups others (place ∷ places) all =
     ap₂ (λ (first : List Begun) (rest : List Begun). first ++ rest)
-    (ap (λ (a : Option Asked). option_map_or (λ (asked : Asked). begun_as place asked.command.kind ∷ []) a [])
+    (ap (λ (a : Option history.Asked). option_map_or (λ (asked : history.Asked). begun_as place asked.command.kind ∷ []) a [])
     (All-head (λ p. asked_at others p ≡ asked_at groups p) place places all))
     (begun_same groups others places (All-tail (λ p. asked_at others p ≡ asked_at groups p) place places all))
 
@@ -120,8 +124,8 @@ out_stays old new None before after same slots work out = (same.stale ∙ out.0,
 out_stays old new (Some batch) before after same slots work out =
     subst (λ (stale : Bool). IsOut new stale batch after) (sym same.stale) (either old.stale out) where
       either : (stale : Bool) → IsOut old stale batch before → IsOut new stale batch after
-      either true out = (rest_stays old new before after same slots out.0, out.1)
-      either false out = (work batch.works.items out.0, ((λ begun. out.1.0 (sym same.begun ∙ begun)), out.1.1))
+      either true out = rest_stays old new before after same slots out
+      either false out = (work batch.works.items out.0, λ begun. out.1 (sym same.begun ∙ begun))
 
 kept_if : (b : Bool) (session wider : Session) → wider.shapes ≡ session.shapes → (if b then wider else session).shapes ≡ session.shapes
 kept_if true session wider same = same
@@ -219,11 +223,7 @@ stands_kept old installed admitted batch state install admit at =
     }
 
 -- a Reset
-idle_in : (old : WorkerCore) (stale : Bool) (batch : Batch) (state : WorkerState) → IsOut old stale batch state → AreIdle batch.spare.items
-idle_in old true batch state out = out.1
-idle_in old false batch state out = out.1.1
-
-pub stands_reset : (old new : WorkerCore) (batch : Option Batch) (state : WorkerState) (epoch : ℕ) (worker : Worker) (workers : ℕ) (shapes : List Shape) → IsReset old epoch shapes new
+stands_reset : (old new : WorkerCore) (batch : Option Batch) (state : WorkerState) (epoch : ℕ) (worker : Worker) (workers : ℕ) (shapes : List Shape) → IsReset old epoch shapes new
     → StandsAt old batch state → StandsAt new batch (ordered state (ToWorker.Reset epoch worker workers shapes))
 stands_reset old new batch state epoch worker workers shapes is at = record {
   has = record {
@@ -243,7 +243,83 @@ stands_reset old new batch state epoch worker workers shapes is at = record {
 
   either : (b : Option Batch) → new.stale ≡ is_some b → MayBeOut old b state → MayBeOut new b after
   either None stale out = (stale, rest)
-  either (Some b) stale out = subst (λ (s : Bool). IsOut new s b after) (sym stale) (rest, idle_in old old.stale b state out)
+  either (Some b) stale out = subst (λ (s : Bool). IsOut new s b after) (sym stale) rest
+
+pub reset_taken : (old new : WorkerCore) (batch : Option Batch) (state : WorkerState) (order : ToWorker) (epoch : ℕ) (worker : Worker) (workers : ℕ) (shapes : List Shape)
+    → order ≡ ToWorker.Reset epoch worker workers shapes → IsReset old epoch shapes new → StandsAt old batch state → StandsAt new batch (ordered state order)
+reset_taken old new batch state order epoch worker workers shapes is reset at =
+    subst (λ (o : ToWorker). StandsAt new batch (ordered state o)) (sym is) (stands_reset old new batch state epoch worker workers shapes reset at)
+
+-- each other order that counts
+pub single_taken : (old : WorkerCore) (admitted : Admitted) (batch : Option Batch) (state : WorkerState) (order : ToWorker) (epoch instance : ℕ) (commands : List Command)
+    → order ≡ ToWorker.Single epoch instance commands → is_passed old order ≡ false → IsAdmitted admitted (state.session.groups ++ single_group epoch instance commands ∷ []) state.ran
+    → StandsAt old batch state → StandsAt (record old { admitted = admitted }) batch (ordered state order)
+single_taken old admitted batch state order epoch instance commands is taken more at =
+    subst (λ (o : ToWorker). StandsAt (record old { admitted = admitted }) batch (ordered state o)) (sym is)
+    (stands_taken old old.installed admitted batch state (ToWorker.Single epoch instance commands) refl (subst (λ (o : ToWorker). is_passed old o ≡ false) is taken) refl refl refl
+    (λ has. has) (λ before. more) at)
+
+pub run_taken : (old : WorkerCore) (admitted : Admitted) (batch : Option Batch) (state : WorkerState) (order : ToWorker) (epoch instance patch : ℕ) (versions : List ℕ)
+    → order ≡ ToWorker.RunPatch epoch instance patch versions → is_passed old order ≡ false
+    → IsAdmitted admitted (state.session.groups ++ patch_group epoch instance versions (state.session.patches patch) ∷ []) state.ran
+    → StandsAt old batch state → StandsAt (record old { admitted = admitted }) batch (ordered state order)
+run_taken old admitted batch state order epoch instance patch versions is taken more at =
+    subst (λ (o : ToWorker). StandsAt (record old { admitted = admitted }) batch (ordered state o)) (sym is)
+    (stands_taken old old.installed admitted batch state (ToWorker.RunPatch epoch instance patch versions) refl (subst (λ (o : ToWorker). is_passed old o ≡ false) is taken) refl refl refl
+    (λ has. has) (λ before. more) at)
+
+pub template_taken : (old : WorkerCore) (installed : Installed) (batch : Option Batch) (state : WorkerState) (order : ToWorker) (epoch block : ℕ) (entries : List Entry)
+    → order ≡ ToWorker.InstallTemplate epoch block entries → is_passed old order ≡ false
+    → Has installed (with_list block entries (halves_of old.installed)) (patches_of old.installed)
+    → StandsAt old batch state → StandsAt (record old { installed = installed }) batch (ordered state order)
+template_taken old installed batch state order epoch block entries is taken now at =
+    subst (λ (o : ToWorker). StandsAt (record old { installed = installed }) batch (ordered state o)) (sym is)
+    (stands_taken old installed old.admitted batch state (ToWorker.InstallTemplate epoch block entries) refl (subst (λ (o : ToWorker). is_passed old o ≡ false) is taken) refl refl refl
+    (λ has. record { halves = now.halves ∙ ap (with_list block entries) has.halves; patches = now.patches ∙ has.patches }) (λ before. before) at)
+
+pub patch_taken : (old : WorkerCore) (installed : Installed) (batch : Option Batch) (state : WorkerState) (order : ToWorker) (epoch patch : ℕ) (copies : List PatchPart)
+    → order ≡ ToWorker.InstallPatch epoch patch copies → is_passed old order ≡ false
+    → Has installed (halves_of old.installed) (with_list patch copies (patches_of old.installed))
+    → StandsAt old batch state → StandsAt (record old { installed = installed }) batch (ordered state order)
+patch_taken old installed batch state order epoch patch copies is taken now at =
+    subst (λ (o : ToWorker). StandsAt (record old { installed = installed }) batch (ordered state o)) (sym is)
+    (stands_taken old installed old.admitted batch state (ToWorker.InstallPatch epoch patch copies) refl (subst (λ (o : ToWorker). is_passed old o ≡ false) is taken) refl refl refl
+    (λ has. record { halves = now.halves ∙ has.halves; patches = now.patches ∙ ap (with_list patch copies) has.patches }) (λ before. before) at)
+
+pub instance_taken : (old : WorkerCore) (installed : Installed) (admitted : Admitted) (batch : Option Batch) (state : WorkerState) (order : ToWorker) (epoch instance block : ℕ) (head : GroupHead) (asked : Asked)
+    → order ≡ ToWorker.Instantiate epoch instance block asked.base asked.args asked.versions asked.edits → is_passed old order ≡ false
+    → head ≡ record { epoch = epoch; instance = instance; single = false } → IsInstantiated old.installed old.admitted head block asked installed admitted
+    → StandsAt old batch state → StandsAt (record old { installed = installed; admitted = admitted }) batch (ordered state order)
+instance_taken old installed admitted batch state order epoch instance block head asked is taken known now at =
+    let halves = at.has.session.installed.halves in
+    let half : List Entry = edited_by asked.edits (state.session.halves block) in
+    subst (λ (o : ToWorker). StandsAt (record old { installed = installed; admitted = admitted }) batch (ordered state o)) (sym is)
+    (stands_taken old installed admitted batch state (ToWorker.Instantiate epoch instance block asked.base asked.args asked.versions asked.edits) refl
+    (subst (λ (o : ToWorker). is_passed old o ≡ false) is taken) refl refl refl
+    (λ has. record {
+      halves = now.has.halves ∙ ap (λ (f : ℕ → List Entry). with_list block (edited_by asked.edits (f block)) f) has.halves;
+      patches = now.has.patches ∙ has.patches;
+    })
+    (λ before. now.admitted state.session.groups state.ran (instance_group epoch instance asked.base asked.args asked.versions half) before
+    (record {
+      head = known;
+      told = refl;
+      commands = ap (λ (f : ℕ → List Entry). expanded asked.base asked.args asked.versions 0 (edited_by asked.edits (f block))) (sym halves);
+    }))
+    at)
+
+-- what holds where a call succeeds, drawn from what its contract says there
+pub on_ok : {A E P Q : Type 0} (result : Result A E) → OnOk result P → (P → Q) → OnOk result Q
+on_ok (Ok value) holds draw = draw holds
+on_ok (Err e) holds draw = record {}
+
+pub not_less : (a b : ℕ) → b ≤ a → nat_lt a b ≡ false
+not_less a b above = grind (arith, above)
+
+-- nothing has happened
+pub no_history : IsHistory []
+unfolding IsHistory
+no_history = record {}
 
 -- a frame of an earlier epoch
 pub stands_late : (core : WorkerCore) (batch : Option Batch) (state : WorkerState) (frame : Data) → nat_lt frame.epoch core.epoch ≡ true → StandsAt core batch state
@@ -282,6 +358,6 @@ stands_framed old inbox batch state frame late kept at =
     }
 
 -- an inbox that stays
-pub stands_as_it_was : (old : WorkerCore) (inbox : map.FinMap key_cmp Grid) (batch : Option Batch) (history : List Happening) → inbox ≡ old.inbox → Stands old batch history
-    → Stands (record old { inbox = inbox }) batch history
-stands_as_it_was old inbox batch history same stands = subst (λ (i : map.FinMap key_cmp Grid). Stands (record old { inbox = i }) batch history) (sym same) stands
+pub stands_as_it_was : (old : WorkerCore) (inbox : map.FinMap key_cmp Grid) (batch : Option Batch) (past : List Happening) → inbox ≡ old.inbox → Stands old batch past
+    → Stands (record old { inbox = inbox }) batch past
+stands_as_it_was old inbox batch past same stands = subst (λ (i : map.FinMap key_cmp Grid). Stands (record old { inbox = i }) batch past) (sym same) stands

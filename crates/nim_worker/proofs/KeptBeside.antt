@@ -31,13 +31,15 @@ put_other slots slot s h f not = either (s.0 == slot.0) refl where
 put_inside : (slot s : Slot) (h : Option Held) (f g : Slot → Option Held) → f s ≡ g s → put_at slot h f s ≡ put_at slot h g s
 put_inside slot s h f g same = ap (λ (x : Option Held). if s.0 == slot.0 then h else x) same
 
-shaped_inside : (shapes : List Shape) (slot s : Slot) (held : Held) (f g : Slot → Option Held) → f s ≡ g s → put_shaped shapes slot held f s ≡ put_shaped shapes slot held g s
+shaped_inside : (shapes : List Shape) (slot s : Slot) (held : Held) (f g : Slot → Option Held) → f s ≡ g s
+    → put_shaped shapes slot held f s ≡ put_shaped shapes slot held g s
 shaped_inside shapes slot s held f g same = either (is_some (shape_of shapes slot)) where
   either : (b : Bool) → (if b then put_at slot (Some held) f else f) s ≡ (if b then put_at slot (Some held) g else g) s
   either true = put_inside slot s (Some held) f g same
   either false = same
 
-shaped_outside : (shapes : List Shape) (slots : List Slot) (slot s : Slot) (held : Held) (f : Slot → Option Held) → is_among (slot ∷ slots) s ≡ false → put_shaped shapes slot held f s ≡ f s
+shaped_outside : (shapes : List Shape) (slots : List Slot) (slot s : Slot) (held : Held) (f : Slot → Option Held) → is_among (slot ∷ slots) s ≡ false
+    → put_shaped shapes slot held f s ≡ f s
 shaped_outside shapes slots slot s held f not = either (is_some (shape_of shapes slot)) where
   either : (b : Bool) → (if b then put_at slot (Some held) f else f) s ≡ f s
   either true = put_other slots slot s (Some held) f not
@@ -84,13 +86,15 @@ kept_inside shapes frame (Run position func params reads writes) f g s same touc
 kept_inside shapes frame (Send slot peer entry) f g s same touched = same s touched
 kept_inside shapes frame (Fetch slot ticket) f g s same touched = same s touched
 
-run_outside : (shapes : List Shape) (version : ℕ) (writes : List Slot) (values : List Grid) (s : Slot) (f : Slot → Option Held) → is_among writes s ≡ false → (b : Bool)
+run_outside : (shapes : List Shape) (version : ℕ) (writes : List Slot) (values : List Grid) (s : Slot) (f : Slot → Option Held)
+    → is_among writes s ≡ false → (b : Bool)
     → (if b then put_results shapes version writes values f else f) s ≡ f s
 run_outside shapes version writes values s f not true = results_outside shapes version writes values s f not
 run_outside shapes version writes values s f not false = refl
 
 -- a slot that a command doesn't touch stays as it is
-pub kept_outside : (shapes : List Shape) (frame : Option Grid) (kind : Kind) (f : Slot → Option Held) (s : Slot) → does_touch kind s ≡ false → kept_by shapes frame kind f s ≡ f s
+pub kept_outside : (shapes : List Shape) (frame : Option Grid) (kind : Kind) (f : Slot → Option Held) (s : Slot) → does_touch kind s ≡ false
+    → kept_by shapes frame kind f s ≡ f s
 kept_outside shapes frame (Create slot iota number) f s not =
     shaped_outside shapes [] slot s (held_at slot 0 (created (fitting_shape shapes slot) iota number)) f not
 kept_outside shapes frame (Load slot version value) f s not = put_other [] slot s (Some (held_at slot version value)) f not

@@ -13,5 +13,6 @@ use Rattle.nim_worker.specs.Stands.{Stands}
 
 -- as much as commands aren't complete
 pub left_is : (core : WorkerCore) (out : Option Batch) (history : List Happening) → Stands core out history
-    → left_in core ≡ length (filter (λ place. not (is_one_of (state_of history).ran place)) (range_with_len 0 (length (members_of (state_of history).session.groups))))
+    → left_in core
+    ≡ length (filter (λ place. not (is_one_of (state_of history).ran place)) (range_with_len 0 (length (members_of (state_of history).session.groups))))
 left_is core out history stands = count_is core.admitted.queue (state_of history).session.groups (is_one_of (state_of history).ran) stands.at.has.admitted.queue

@@ -1,13 +1,16 @@
-pub mod Beside
 pub mod Begun
+pub mod Beside
 pub mod Chains
 pub mod Completes
 pub mod Finished
+pub mod FirstDone
 pub mod GivenBack
 pub mod Handed
 pub mod KeptBeside
 pub mod Left
+pub mod Lent
 pub mod Meeting
+pub mod OneTaken
 pub mod Opened
 pub mod Puts
 pub mod Released

@@ -42,7 +42,8 @@ touch_is groups ran one other a b first second here there =
       either (Some p) (Some q) = refl
 
 -- what holds of all tickets holds of that of a work
-pub ticket_within : (P : ℕ → Type 0) (works : List Work) (i : ℕ) (work : Work) → i < length works → work ≡ get_or works i work → All P (tickets_of works) → P work.ticket
+pub ticket_within : (P : ℕ → Type 0) (works : List Work) (i : ℕ) (work : Work) → i < length works → work ≡ get_or works i work
+    → All P (tickets_of works) → P work.ticket
 ticket_within P [] i work within is all = absurd (omega (arith, within))
 ticket_within P (w ∷ ws) zero work within is all = subst (λ (v : Work). P v.ticket) (sym is) (All-head P w.ticket (tickets_of ws) all)
 ticket_within P (w ∷ ws) (suc i) work within is all = ticket_within P ws i work (omega (arith, within)) is (All-tail P w.ticket (tickets_of ws) all)
@@ -58,7 +59,8 @@ none_so_far p (w ∷ ws) (suc i) work within is not before =
     or_from (p w.ticket) (list_any p (take (suc i) (tickets_of ws))) parts.0 (none_so_far p ws i work (omega (arith, within)) is not parts.1)
 
 -- one passes
-pub one_passes : (p : ℕ → Bool) (works : List Work) (i : ℕ) (work : Work) → i < length works → work ≡ get_or works i work → p work.ticket ≡ true → list_any p (tickets_of works) ≡ true
+pub one_passes : (p : ℕ → Bool) (works : List Work) (i : ℕ) (work : Work) → i < length works → work ≡ get_or works i work → p work.ticket ≡ true
+    → list_any p (tickets_of works) ≡ true
 one_passes p [] i work within is does = absurd (omega (arith, within))
 one_passes p (w ∷ ws) zero work within is does = or_left (p w.ticket) (list_any p (tickets_of ws)) (ap (λ (v : Work). p v.ticket) (sym is) ∙ does)
 one_passes p (w ∷ ws) (suc i) work within is does = or_right (p w.ticket) (list_any p (tickets_of ws)) (one_passes p ws i work (omega (arith, within)) is does)

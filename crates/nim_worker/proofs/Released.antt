@@ -1,6 +1,6 @@
 -- Which commands may be completed, as a test and as a record; and those that a batch takes may be, in turn.
 use Rattle.std.proofs.Common.{◌≡◌, ◌≢◌, ℕ, zero, suc, ◌+◌, ◌<◌, ◌≤◌, Bool, true, false, not, List, [], ◌∷◌, ◌++◌, length, map, refl, ap, ap₂, sym, subst, ◌∙◌, arith, Option, None, Some, All, inl, inr}
-use Rattle.std.specs.Prelude.{◌==◌, ◌&&◌, nat_lt, if◌then◌else◌}
+use Rattle.std.specs.Prelude.{◌==◌, ◌&&◌, ◌||◌, nat_lt, if◌then◌else◌}
 use Rattle.std.specs.List.{filter, list_all, list_any, range_with_len}
 use Rattle.std.specs.Option.{option_map_or}
 use Rattle.std.proofs.lemmas.Bool.{and_from, and_parts, both_ways, lt-ltb, ne_eqb, not-true, or_parts}
@@ -86,7 +86,7 @@ not_among : (n : ℕ) (taken : List ℕ) → All (λ p. p < n) taken → is_one_
 not_among n [] below = refl
 not_among n (t ∷ taken) below =
     let first = All-head (λ p. p < n) t taken below in
-    ap₂ (λ (a : Bool) (b : Bool). if a then true else b) (ne_eqb t n (λ same. omega (arith, same, first))) (not_among n taken (All-tail (λ p. p < n) t taken below))
+    ap₂ (λ (a : Bool) (b : Bool). a || b) (ne_eqb t n (λ same. omega (arith, same, first))) (not_among n taken (All-tail (λ p. p < n) t taken below))
 
 -- commands that were taken may be completed, each at once and all in turn
 pub record MayBeTaken (state : WorkerState) (taken : List ℕ) : Type 0 where
@@ -163,4 +163,4 @@ pub none_may : (state : WorkerState) (most : ℕ) → 1 ≤ most → taken_of st
 unfolding taken_of
 none_may state most least none place may =
     none_taken state most 0 (length (members_of state.session.groups)) place least none (omega arith)
-    (within_all state.session.groups place may.released.within) (may_as_test state place may)
+    (let within = within_all state.session.groups place may.released.within in omega (arith, within)) (may_as_test state place may)

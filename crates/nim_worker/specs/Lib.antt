@@ -6,6 +6,7 @@ pub mod Inputs
 pub mod Leaves
 pub mod Left
 pub mod Lending
+pub mod Lent
 pub mod Messages
 pub mod Right
 pub mod Stands

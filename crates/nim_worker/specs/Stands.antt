@@ -16,7 +16,6 @@ use Rattle.nim_worker.specs.declared.batch.Work.{Work}
 use Rattle.nim_worker.specs.declared.worker.WorkerCore.{WorkerCore}
 use Rattle.nim_worker.specs.Admitted.{IsAdmitted}
 use Rattle.nim_worker.specs.Chains.{AreWorks}
-use Rattle.nim_worker.specs.Inputs.{AreIdle}
 use Rattle.nim_worker.specs.Works.{Begun, begun_as}
 
 -- what works were begun for, by their tickets, and what happens when they are complete, in order
@@ -75,9 +74,8 @@ pub record HasRoom (batch : Batch) : Type 0 where
 
 -- A batch that is out: one that was begun before the last Reset is dropped.
 abbrev pub IsOut : WorkerCore → Bool → Batch → WorkerState → Type 0
-IsOut core true batch state = IsAtRest core state × AreIdle batch.spare.items
-IsOut core false batch state =
-    IsAtWork core batch.works.items state × ((core.begun ≡ true → HasRoom batch) × AreIdle batch.spare.items)
+IsOut core true batch state = IsAtRest core state
+IsOut core false batch state = IsAtWork core batch.works.items state × (core.begun ≡ true → HasRoom batch)
 
 abbrev pub MayBeOut : WorkerCore → Option Batch → WorkerState → Type 0
 MayBeOut core None state = (core.stale ≡ false) × IsAtRest core state

@@ -2,6 +2,7 @@ ghost use Rattle.std.specs.Prelude.{IfSome};
 ghost use Rattle.std.proofs.Props.{props};
 ghost use Rattle.nim_base.specs.declared.task.Func.{Func as func_type};
 ghost use Rattle.nim_base.specs.Apply.{HasCounts};
+ghost use Rattle.nim_worker.specs.Inputs.{AreIdle};
 
 use crate::inputs::Inputs;
 use nim_base::{Epoch, Func, NoMemory, Object, Position, Value, Version};
@@ -30,6 +31,7 @@ pub struct Batch {
     pub(crate) works: Vec<Work>,
     /// Inputs that none of the works has.
     pub(crate) spare: Vec<Box<Inputs>>,
+    ghost idle: { AreIdle spare.items },
 }
 
 impl Batch {

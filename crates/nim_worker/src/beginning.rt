@@ -8,7 +8,7 @@ ghost use Rattle.nim_queue.specs.Stands.{command_of, is_after, is_released, read
 ghost use Rattle.nim_order.specs.Progress.{is_one_of};
 ghost use Rattle.nim_command.specs.Waits.{Group as group_type};
 ghost use Rattle.nim_worker.specs.Admitted.{IsAdmitted};
-ghost use Rattle.nim_worker.specs.Beginning.{IsBegun};
+ghost use Rattle.nim_worker.specs.Beginning.{MayBeBegun};
 ghost use Rattle.nim_worker.specs.Inputs.{AreIdle};
 ghost use Rattle.nim_worker.specs.Right.{ReadsRight};
 ghost use Rattle.nim_worker.specs.Stands.{HasRoom, HasState, IsBeginning, Stands, tickets_of};
@@ -40,6 +40,7 @@ impl WorkerCore {
             → All (ReadsRight job) result.works.items }
         ensures failed { self.old.failed ≡ true → result.works.items ≡ [] }
         ensures stays { self.new.failed ≡ self.old.failed }
+        ensures stale { self.new.stale ≡ self.old.stale }
     {
         self.busy = true;
         if self.failed {
@@ -54,7 +55,6 @@ impl WorkerCore {
     fn empty_batch(&self) -> Batch
         ensures epoch { result.epoch ≡ self.now.epoch }
         ensures works { result.works.items ≡ [] }
-        ensures spare { result.spare.items ≡ [] }
     {
         Batch {
             epoch: self.epoch,
@@ -70,7 +70,6 @@ impl WorkerCore {
         ensures rest { self.new ≡ record self.old { store = self.new.store } }
         ensures begins { (state : WorkerState) → IsBeginning self.old [] state → IsBeginning self.new result.works.items state }
         ensures taken { (state : WorkerState) → IsBeginning self.old [] state → tickets_of result.works.items ≡ taken_of state most }
-        ensures idle { AreIdle result.spare.items }
         ensures room { HasRoom result }
     {
         let Room {
@@ -165,7 +164,7 @@ fn begin_work(
     requires enough { 1 ≤ vec_len spare.old }
     requires idle { AreIdle spare.old.items }
     ensures work { (groups : List group_type) (ran : List ℕ) → IsAdmitted admitted.now groups ran
-        → IfSome (command_of groups (is_one_of ran) ticket) (IsBegun store.old works.old.items ticket store.new works.new.items) }
+        → MayBeBegun store.old works.old.items ticket store.new works.new.items (command_of groups (is_one_of ran) ticket) }
     ensures shapes { store.new.shapes ≡ store.old.shapes }
     ensures idle { AreIdle spare.new.items }
     ensures count { vec_len works.new + vec_len spare.new ≡ vec_len works.old + vec_len spare.old }

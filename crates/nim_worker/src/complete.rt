@@ -22,10 +22,10 @@ use nim_history::Out;
 use nim_store::{Held, Store};
 use std::alloc::Global;
 
-/// Completes the first of the works that are out, given its command, which the queue kept, the value of the frame that it
-/// receives, if it receives one, and what is known of its group: performs what wasn't performed, leaves in the slots what
-/// the command leaves, and gives what the command gives of its own, and the room of its inputs. The other works are out as
-/// before.
+/// Completes the first of the works that are out, given its command, which the queue kept, the value of the frame that
+/// it receives, if it receives one, and what is known of its group: performs what wasn't performed, leaves in the slots
+/// what the command leaves, and gives what the command gives of its own, and the room of its inputs. The other works
+/// are out as before.
 pub(crate) fn complete(
     alloc: Global,
     head: GroupHead,
@@ -34,11 +34,14 @@ pub(crate) fn complete(
     command: Command,
     frame: Option<Value>,
 ) -> Result<(Option<Out>, Box<Inputs>), NoMemory>
-    ensures chain { (before : slot_number → Option held_type) (begun : begun_type) (more : List begun_type) (works : List work_type)
-        → begun.kind ≡ command.kind → AreWorks store.old.shapes before (slot_at store.old) (begun ∷ more) (work ∷ works)
-        → OnOk result (AreWorks store.old.shapes (kept_by store.old.shapes frame begun.kind before) (slot_at store.new) more works) }
-    ensures outs { (before : slot_number → Option held_type) (begun : begun_type) (more : List begun_type) (works : List work_type) (group : group_type)
-        → begun.kind ≡ command.kind → AreWorks store.old.shapes before (slot_at store.old) (begun ∷ more) (work ∷ works) → IsHeadOf head group
+    ensures chain { (before : slot_number → Option held_type) (begun : begun_type) (more : List begun_type)
+        (works : List work_type) → begun.kind ≡ command.kind
+        → AreWorks store.old.shapes before (slot_at store.old) (begun ∷ more) (work ∷ works)
+        → OnOk result (AreWorks store.old.shapes (kept_by store.old.shapes frame begun.kind before) (slot_at store.new)
+        more works) }
+    ensures outs { (before : slot_number → Option held_type) (begun : begun_type) (more : List begun_type)
+        (works : List work_type) (group : group_type) → begun.kind ≡ command.kind
+        → AreWorks store.old.shapes before (slot_at store.old) (begun ∷ more) (work ∷ works) → IsHeadOf head group
         → IfOk result (λ completed. option_to_list completed.0 ≡ own_outs group begun.kind before) }
     ensures idle { IfOk result (λ completed. IsIdle completed.1.value) }
     ensures shapes { store.new.shapes ≡ store.old.shapes }
@@ -73,7 +76,8 @@ fn contents_told(
 impl Inputs {
     // Gives what was taken back to its slots.
     fn give_back(&mut self, store: &mut Store) -> Result<(), NoMemory>
-        ensures slots { OnOk result (slot_at store.new ≡ given_back self.old.taken.items self.old.values.items (slot_at store.old)) }
+        ensures slots { OnOk result (slot_at store.new
+            ≡ given_back self.old.taken.items self.old.values.items (slot_at store.old)) }
         ensures idle { OnOk result (IsIdle self.new) }
         ensures shapes { store.new.shapes ≡ store.old.shapes }
     {

@@ -26,8 +26,8 @@ pub(crate) struct Inputs {
     pub(crate) contents: Vec<(Object, Version)>,
     /// The shape of each result.
     pub(crate) shapes: Vec<Shape>,
-    ghost room: { (3 ≤ vec_capacity params) × (8 ≤ vec_capacity taken) × (8 ≤ vec_capacity values) × (8 ≤ vec_capacity places)
-        × (8 ≤ vec_capacity contents) × (2 ≤ vec_capacity shapes) },
+    ghost room: { (3 ≤ vec_capacity params) × (8 ≤ vec_capacity taken) × (8 ≤ vec_capacity values)
+        × (8 ≤ vec_capacity places) × (8 ≤ vec_capacity contents) × (2 ≤ vec_capacity shapes) },
     ghost paired: { length taken.items ≡ length values.items },
     ghost places_fit: { All (λ place. place < length values.items) places.items },
     ghost wide: { All (λ (shape : shape_type). 1 ≤ shape.width) shapes.items },

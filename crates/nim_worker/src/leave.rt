@@ -21,8 +21,8 @@ use nim_message::{Data, FromWorker};
 use nim_store::{Held, Store};
 use std::alloc::Global;
 
-/// Leaves in the slots what a command leaves, a Receive the value of its frame and a Run its results, and gives what the
-/// command gives of its own.
+/// Leaves in the slots what a command leaves, a Receive the value of its frame and a Run its results, and gives what
+/// the command gives of its own.
 pub(crate) fn leave(
     alloc: Global,
     head: GroupHead,
@@ -108,7 +108,8 @@ fn create(
     number: i64,
 ) -> Result<(), NoMemory>
     ensures slots { OnOk result (slot_at store.new
-        ≡ spec.put_shaped store.old.shapes slot (spec.held_at slot 0 (created (fitting_shape store.old.shapes slot) iota number)) (slot_at store.old)) }
+        ≡ spec.put_shaped store.old.shapes slot
+        (spec.held_at slot 0 (created (fitting_shape store.old.shapes slot) iota number)) (slot_at store.old)) }
     ensures shapes { store.new.shapes ≡ store.old.shapes }
 {
     let Some(shape) = shape_of(store, slot) else {
@@ -130,7 +131,8 @@ fn receive(
     frame: Option<Value>,
 ) -> Result<(), NoMemory>
     ensures slots { OnOk result (slot_at store.new
-        ≡ option_map_or (λ (value : Grid). put_at slot (Some (spec.held_at slot version value)) (slot_at store.old)) frame (slot_at store.old)) }
+        ≡ option_map_or (λ (value : Grid). put_at slot (Some (spec.held_at slot version value)) (slot_at store.old)) frame
+        (slot_at store.old)) }
     ensures shapes { store.new.shapes ≡ store.old.shapes }
 {
     match frame {
@@ -175,7 +177,8 @@ fn put_results(
 
 // Puts a value into a slot, where the slot's object has a shape.
 fn put_shaped(store: &mut Store, slot: Slot, held: Held) -> Result<(), NoMemory>
-    ensures slots { OnOk result (slot_at store.new ≡ spec.put_shaped store.old.shapes slot held (slot_at store.old)) }
+    ensures slots { OnOk result (slot_at store.new
+        ≡ spec.put_shaped store.old.shapes slot held (slot_at store.old)) }
     ensures shapes { store.new.shapes ≡ store.old.shapes }
 {
     if shape_of(store, slot).is_some() {

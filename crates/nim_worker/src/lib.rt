@@ -8,6 +8,7 @@ mod complete;
 mod finishing;
 mod head;
 mod inputs;
+mod laws;
 mod leave;
 mod meets;
 mod messages;
@@ -16,5 +17,6 @@ mod taking;
 mod worker;
 
 pub use batch::{Batch, Work};
+pub use laws::lent_batches_stand;
 pub use nim_history::Out;
 pub use worker::WorkerCore;

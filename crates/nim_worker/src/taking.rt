@@ -45,7 +45,8 @@ impl Inputs {
         ensures func { result ≡ func_taken kind.now }
         ensures inputs { AreInputsOf store.old.shapes kind.now (slot_at store.old) (slot_at store.new) self.new }
         ensures shapes { store.new.shapes ≡ store.old.shapes }
-        ensures counted { IfSome result (λ (f : func_type). HasCounts f self.new.params.items self.new.places.items self.new.shapes.items) }
+        ensures counted { IfSome result
+            (λ (f : func_type). HasCounts f self.new.params.items self.new.places.items self.new.shapes.items) }
     {
         match kind {
             Kind::Run {
@@ -81,7 +82,8 @@ impl Inputs {
         requires params { length params.now ≤ 3 }
         requires reads { length reads.now ≤ 8 }
         requires writes { length writes.now ≤ 2 }
-        ensures inputs { AreInputs store.old.shapes params.now reads.now writes.now (slot_at store.old) (slot_at store.new) self.new }
+        ensures inputs { AreInputs store.old.shapes params.now reads.now writes.now
+            (slot_at store.old) (slot_at store.new) self.new }
         ensures shapes { store.new.shapes ≡ store.old.shapes }
     {
         // There is room for the parameters.
@@ -117,8 +119,10 @@ fn take_read(
     ensures seen { AreSeen taken.new.items values.new.items }
     ensures fits { length taken.new.items ≤ length taken.old.items + 1 }
     ensures room { (8 ≤ vec_capacity taken.new) × (8 ≤ vec_capacity values.new) }
-    ensures back { given_back taken.new.items values.new.items (slot_at store.new) ≡ given_back taken.old.items values.old.items (slot_at store.old) }
-    ensures among { (reads : List slot_type) → is_among reads slot ≡ true → AreAmong reads taken.old.items → AreAmong reads taken.new.items }
+    ensures back { given_back taken.new.items values.new.items (slot_at store.new)
+        ≡ given_back taken.old.items values.old.items (slot_at store.old) }
+    ensures among { (reads : List slot_type) → is_among reads slot ≡ true → AreAmong reads taken.old.items
+        → AreAmong reads taken.new.items }
     ensures more { Continues values.old.items values.new.items }
     ensures shapes { store.new.shapes ≡ store.old.shapes }
     ensures place { result.0 < length values.new.items }
@@ -156,7 +160,8 @@ fn content_of(taken: Taken) -> (Object, Version)
 
 // The content and the value of what a slot has, apart.
 fn apart(alloc: Global, held: Option<Held>) -> (Option<(Object, Version)>, Value)
-    ensures held { option_map (λ (content : object × ℕ). record { object = content.0; version = content.1; value = result.1 }) result.0 ≡ held }
+    ensures held { option_map
+        (λ (content : object × ℕ). record { object = content.0; version = content.1; value = result.1 }) result.0 ≡ held }
     ensures value { result.1 ≡ option_map_or (λ (h : held_in). h.value) held empty_grid }
 {
     match held {

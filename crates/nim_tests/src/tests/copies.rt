@@ -1,6 +1,6 @@
 use nim_base::{Copied, Func, Name, Object, Param, Seq, Shape, Slot, Task, TaskForm, Value};
 use nim_message::FromWorker;
-use nim_worker::Held;
+use nim_store::Held;
 use std::alloc::Global;
 use std::test::Fail;
 

@@ -4,6 +4,7 @@ use nim_funcs::{
     add_is_sum, group_gathers_all_rows, keep_counts_all_rows, merge_joins_groups, order_is_free,
     split_keeps_all_rows,
 };
+use nim_history::{commands_in_turn, histories_are_true, history_goes_on};
 use nim_job::{Job, division_is_total, is_checked, is_whole, machine_follows, versions_are_read};
 use nim_lex::tokens;
 use nim_order::{
@@ -65,6 +66,14 @@ fn laws_of_orders(_rt: HostRuntime) -> Result<(), Fail> {
     front_stays();
     never_stuck();
     versions_are_local();
+    Ok(())
+}
+
+#[test]
+fn laws_of_histories(_rt: HostRuntime) -> Result<(), Fail> {
+    histories_are_true();
+    history_goes_on();
+    commands_in_turn();
     Ok(())
 }
 
