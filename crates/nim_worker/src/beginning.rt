@@ -40,7 +40,6 @@ impl WorkerCore {
             → All (ReadsRight job) result.works.items }
         ensures failed { self.old.failed ≡ true → result.works.items ≡ [] }
         ensures stays { self.new.failed ≡ self.old.failed }
-        ensures stale { self.new.stale ≡ self.old.stale }
     {
         self.busy = true;
         if self.failed {
