@@ -1,13 +1,14 @@
 -- One more order leads on.
-use Rattle.std.proofs.Common.{◌≡◌, ℕ, ◌+◌, ◌<◌, ◌≤◌, suc, zero, true, List, [], ◌∷◌, ◌++◌, length, refl, ap, ap₂, sym, subst, ◌∙◌, arith, Option, None, Some, take, drop}
-use Rattle.std.specs.Prelude.{◌==◌, slice_get}
+use Rattle.std.proofs.Common.{◌≡◌, ℕ, ◌+◌, ◌<◌, ◌≤◌, suc, zero, true, List, [], ◌∷◌, ◌++◌, length, refl, ap, ap₂, sym, subst, ◌∙◌, arith, Option, None, Some, take, drop, inl, inr}
+use Rattle.std.specs.Prelude.{◌==◌, slice_get, IfSome}
 use Rattle.std.specs.List.{fold}
 use Rattle.std.specs.Option.{option_map_or}
 use Rattle.std.proofs.Math.Path.{fun_ext}
 use Rattle.std.proofs.Math.Seq.{drop-append_seam, take-append_seam}
-use Rattle.std.proofs.lemmas.Bool.{and_from, cond-true, eq-eqb}
+use Rattle.std.proofs.lemmas.Bool.{and_from, cases_lt, cond-true, eq-eqb}
 use Rattle.std.proofs.lemmas.List.{append-nil, append_assoc, length-append}
 use Rattle.std.proofs.lemmas.List.Concat.{flat_map-append}
+use Rattle.std.proofs.lemmas.List.Elements.{All-push}
 use Rattle.std.proofs.lemmas.List.Sums.{fold-append}
 use Rattle.nim_base.specs.declared.number.Object.{Object}
 use Rattle.nim_base.specs.declared.number.Slot.{Slot}
@@ -21,10 +22,10 @@ use Rattle.nim_message.specs.Orders.{Session, after_order, is_current, no_sessio
 use Rattle.nim_job.specs.declared.job.Job.{Job}
 use Rattle.nim_job.specs.Versions.{read_version}
 use Rattle.nim_plan.specs.Legal.{AreLegalFrom, IsLegal, IsLegalKind, IsLegalOrder}
-use Rattle.nim_worker.specs.Stands.{AllRun, asked_for, done_after, may_run}
-use Rattle.nim_worker.proofs.Standing.{AllRun-append, AllRun-more, slice_get-append}
+use Rattle.nim_order.specs.Orders.{IsOrderByRule}
+use Rattle.nim_order.proofs.Items.{get_front}
 use Rattle.nim_top.specs.Orders.{main_slot, single_of}
-use Rattle.nim_top.specs.Leads.{Leads, LeadsOn, done_behind, value_for, values_behind, values_left}
+use Rattle.nim_top.specs.Leads.{AreOwn, Leads, LeadsOn, asked_for, done_after, done_behind, is_own, value_for, values_behind, values_left}
 
 -- ---- what orders ask for
 
@@ -76,7 +77,7 @@ pub holds_front : (xs ys : List Command) (n : ℕ) → n ≤ length xs → (slot
 holds_front xs ys zero within slot = refl
 holds_front xs ys (suc n) within slot =
     ap₂ (λ (h : Slot → Content) (o : Option Command). option_map_or (λ (c : Command). left_by c.kind h slot) o (h slot))
-    (fun_ext (holds_front xs ys n (omega (arith, within)))) (slice_get-append xs ys n (omega (arith, within)))
+    (fun_ext (holds_front xs ys n (omega (arith, within)))) (get_front xs ys n (omega (arith, within)))
 
 -- what they hold after the last command
 holds_last : (commands : List Command) (c : Command)
@@ -88,12 +89,14 @@ holds_last commands c =
     ap (holds (commands ++ c ∷ [])) more
     ∙ fun_ext (λ slot. ap₂ (λ (h : Slot → Content) (o : Option Command). option_map_or (λ (d : Command). left_by d.kind h slot) o (h slot)) before (get_last commands c))
 
--- one more command that may be released
-run_last : (commands : List Command) (c : Command) → may_run c.kind ≡ true → AllRun commands (length commands) → AllRun (commands ++ c ∷ []) (length (commands ++ c ∷ []))
-run_last commands c may run =
-    let more : length commands + 1 ≡ length (commands ++ c ∷ []) = omega (arith, length-append commands (c ∷ [])) in
-    subst (AllRun (commands ++ c ∷ [])) more
-    (AllRun-more (commands ++ c ∷ []) (length commands) c (get_last commands c) may (AllRun-append commands (c ∷ []) (length commands) (omega arith) run))
+-- one more command that needs no other worker
+own_last : (commands : List Command) (c : Command) → is_own c.kind ≡ true → AreOwn commands (length commands) → AreOwn (commands ++ c ∷ []) (length (commands ++ c ∷ []))
+own_last commands c own are = λ k below. elim (cases_lt k (length commands)) [
+  | inl within ↦ subst (λ (o : Option Command). IfSome o (λ command. is_own command.kind ≡ true)) (sym (get_front commands (c ∷ []) k within)) (are k within)
+  | inr past ↦
+      let last : k ≡ length commands = omega (arith, past, below, length-append commands (c ∷ [])) in
+      subst (λ (o : Option Command). IfSome o (λ command. is_own command.kind ≡ true)) (sym (ap (slice_get (commands ++ c ∷ [])) last ∙ get_last commands c)) own
+]
 
 -- the value that one more command has reported
 values_last : (job : Job) (past commands : List Command) (c : Command)
@@ -109,18 +112,21 @@ values_last job past (d ∷ commands) c =
 -- ---- one more order
 
 order_leads : (job : Job) (orders : List ToWorker) (objects position more later instance id : ℕ) (kind : Kind) → Leads job orders objects position
-    → IsLegalKind job (held_by orders) kind → may_run kind ≡ true
+    → IsLegalKind job (held_by orders) kind → is_own kind ≡ true
     → ((object : Object) → object.0 < more → left_by kind (held_by orders) (main_slot object) ≡ Some (object, read_version job later object))
     → Leads job (orders ++ single_of instance id kind ∷ []) more later
-order_leads job orders objects position more later instance id kind leads legal may held =
+order_leads job orders objects position more later instance id kind leads legal own held =
     let c : Command = command_of id kind in
     let asked = asked_more orders instance id kind leads.begun leads.epoch in
     let session = session_more orders instance id kind leads.begun leads.epoch in
     record {
-      legal = legal_more job orders (single_of instance id kind) leads.legal (leads.begun, sym leads.epoch, (legal, tt));
+      serve = record {
+        legal = legal_more job orders (single_of instance id kind) leads.serve.legal (leads.begun, sym leads.epoch, (legal, tt));
+        rule = All-push IsOrderByRule orders (single_of instance id kind) leads.serve.rule refl;
+        own = subst (λ (cs : List Command). AreOwn cs (length cs)) (sym asked) (own_last (asked_for orders) c own leads.serve.own);
+      };
       begun = ap (λ (s : Session). s.begun) session ∙ leads.begun;
       epoch = ap (λ (s : Session). s.epoch) session ∙ leads.epoch;
-      run = subst (λ (cs : List Command). AllRun cs (length cs)) (sym asked) (run_last (asked_for orders) c may leads.run);
       held = λ object below.
           ap (λ (cs : List Command). holds cs (length cs) (main_slot object)) asked
           ∙ ap (λ (h : Slot → Content). h (main_slot object)) (holds_last (asked_for orders) c) ∙ held object below;
@@ -138,16 +144,16 @@ none_lead job orders objects position leads = record {
 
 -- one more leads on, where it is legal and leaves in the main slots what is there at a later position
 pub one_leads : (job : Job) (orders given : List ToWorker) (objects position more later instance id : ℕ) (kind : Kind) (values : List Grid) → LeadsOn job orders given objects position values
-    → IsLegalKind job (held_by (orders ++ given)) kind → may_run kind ≡ true
+    → IsLegalKind job (held_by (orders ++ given)) kind → is_own kind ≡ true
     → ((object : Object) → object.0 < more → left_by kind (held_by (orders ++ given)) (main_slot object) ≡ Some (object, read_version job later object))
     → LeadsOn job orders (given ++ single_of instance id kind ∷ []) more later (values ++ value_for job kind (held_by (orders ++ given)))
-one_leads job orders given objects position more later instance id kind values on legal may held =
+one_leads job orders given objects position more later instance id kind values on legal own held =
     let order = single_of instance id kind in
     let c : Command = command_of id kind in
     let both = append_assoc orders given (order ∷ []) in
     record {
       leads = subst (λ (os : List ToWorker). Leads job os more later) both
-          (order_leads job (orders ++ given) objects position more later instance id kind on.leads legal may held);
+          (order_leads job (orders ++ given) objects position more later instance id kind on.leads legal own held);
       commands = on.commands ++ c ∷ [];
       asked = ap asked_for (sym both) ∙ asked_more (orders ++ given) instance id kind on.leads.begun on.leads.epoch
           ∙ ap (λ (cs : List Command). cs ++ c ∷ []) on.asked ∙ append_assoc (asked_for orders) on.commands (c ∷ []);

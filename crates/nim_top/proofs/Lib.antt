@@ -4,9 +4,12 @@ pub mod Ends
 pub mod Leading
 pub mod Giving
 pub mod Starting
+pub mod Asked
+pub mod Next
+pub mod Telling
+pub mod Performing
 pub mod Serving
 pub mod Handing
 pub mod Asking
 pub mod Made
 pub mod Turns
-pub mod Performing

@@ -7,6 +7,7 @@ use Rattle.std.proofs.lemmas.List.{append-nil, append_assoc, length-append, leng
 use Rattle.std.proofs.lemmas.List.FromFn.{get_or-map-range_with_len, length-map-range_with_len}
 use Rattle.std.proofs.lemmas.List.Sums.{sum_by-cons}
 use Rattle.std.proofs.lemmas.Option.{get_or_from_slice_get, slice_get-get_or}
+use Rattle.std.proofs.lemmas.List.Elements.{All-cons, All-nil}
 use Rattle.nim_base.specs.declared.number.Object.{Object}
 use Rattle.nim_base.specs.declared.number.Shape.{Shape}
 use Rattle.nim_base.specs.declared.number.Slot.{Slot}
@@ -15,6 +16,8 @@ use Rattle.nim_command.specs.Created.{created}
 use Rattle.nim_command.specs.Holds.{Content, content_at, left_by, put_at}
 use Rattle.nim_command.specs.Slots.{object_of}
 use Rattle.nim_message.specs.declared.order.ToWorker.{ToWorker}
+use Rattle.nim_order.specs.Orders.{IsOrderByRule}
+use Rattle.nim_order.proofs.Items.{get_front}
 use Rattle.nim_job.specs.declared.job.Init.{Init}
 use Rattle.nim_job.specs.declared.job.Init.TheVariants.{Fill, Iota, Loaded}
 use Rattle.nim_job.specs.declared.job.Job.{Job}
@@ -24,9 +27,7 @@ use Rattle.nim_job.specs.Versions.{read_version, version_value}
 use Rattle.nim_job.specs.Whole.{has_init, is_filled, is_loaded, is_object, is_whole}
 use Rattle.nim_job.proofs.Whole.{whole_inits}
 use Rattle.nim_plan.specs.Legal.{IsLegal, IsLegalKind, is_version}
-use Rattle.nim_worker.specs.Stands.{may_run}
-use Rattle.nim_worker.proofs.Standing.{slice_get-append}
-use Rattle.nim_top.specs.Leads.{Leads, LeadsOn, value_for}
+use Rattle.nim_top.specs.Leads.{Leads, LeadsOn, is_own, value_for}
 use Rattle.nim_top.specs.Orders.{first_of, first_order, first_orders_of, main_slot, no_instance, object_at, reset_of, single_of}
 use Rattle.nim_top.proofs.Giving.{main_of, objects_few}
 use Rattle.nim_top.proofs.Leading.{get_behind, held_by, none_lead, one_leads}
@@ -66,7 +67,7 @@ part_found : (v : Var) (others : List Grid) (part : ℕ) → is_filled v ≡ tru
     → slice_get (initial_parts v v.init ++ others) part ≡ Some (first_value v.shape v.init part)
 part_found v others part is below =
     let within : part < length (initial_parts v v.init) = omega (arith, below, length_parts v v.init is) in
-    slice_get-append (initial_parts v v.init) others part within
+    get_front (initial_parts v v.init) others part within
     ∙ slice_get-get_or (initial_parts v v.init) part (first_value v.shape v.init part) within ∙ ap (λ (g : Grid). Some g) (part_value v v.init part below)
 
 -- ---- one part
@@ -102,7 +103,7 @@ first_left before object shape Iota part = refl
 first_left before object shape (Loaded values) part = refl
 
 first_quiet : (job : Job) (before : Slot → Content) (object : Object) (shape : Shape) (init : Init) (part : ℕ)
-    → (may_run (first_of shape init part object) ≡ true) × (value_for job (first_of shape init part object) before ≡ [])
+    → (is_own (first_of shape init part object) ≡ true) × (value_for job (first_of shape init part object) before ≡ [])
 first_quiet job before object shape (Fill number) part = (refl, refl)
 first_quiet job before object shape Iota part = (refl, refl)
 first_quiet job before object shape (Loaded values) part = (refl, refl)
@@ -203,10 +204,13 @@ vars_lead job orders given first (v ∷ vars) all few within are on =
 begins_lead : (job : Job) → Leads job (reset_of (shapes_of job.vars) ∷ []) 0 0
 unfolding IsLegal
 begins_lead job = record {
-  legal = (refl, tt);
+  serve = record {
+    legal = (refl, tt);
+    rule = All-cons IsOrderByRule (reset_of (shapes_of job.vars)) [] tt (All-nil IsOrderByRule);
+    own = λ k below. absurd (omega (arith, below));
+  };
   begun = refl;
   epoch = refl;
-  run = λ k below. absurd (omega (arith, below));
   held = λ object below. absurd (omega (arith, below));
 }
 

@@ -101,9 +101,9 @@ abbrev pub run_orders : BlockRun → List TaskForm → List ToWorker
 run_orders run forms = task_orders_of run.position run.instance 32 run.args forms
 
 -- the orders that are given, by the tasks of each block
-abbrev pub orders_in : List (List TaskForm) → Given → List ToWorker
-orders_in forms (Tasks run) = run_orders run (slice_index_or forms run.block [])
-orders_in forms (Listed orders) = orders.items
+abbrev pub orders_given : List (List TaskForm) → Given → List ToWorker
+orders_given forms (Tasks run) = run_orders run (slice_index_or forms run.block [])
+orders_given forms (Listed orders) = orders.items
 
 -- the positions of the tasks are numbers of 64 bits
 abbrev pub HasRoom : List (List TaskForm) → Given → Type 0
@@ -121,6 +121,6 @@ pub record GoesOn (job : Job) (old new : Control) (given : List ToWorker) : Type
       → LeadsOn job orders given (objects_of job.vars) new.position (wanted job new.position new.awaited)
 
 abbrev pub IsTurn : Job → Control → Control → Turn → Type 0
-IsTurn job old new (Orders given) = HasRoom new.forms.items given × GoesOn job old new (orders_in new.forms.items given)
+IsTurn job old new (Orders given) = HasRoom new.forms.items given × GoesOn job old new (orders_given new.forms.items given)
 IsTurn job old new Finished = serial_of job ≡ record { status = 0; bytes = new.machine.driver.output }
 IsTurn job old new Limit = serial_of job ≡ record { status = 4; bytes = [] }

@@ -1,7 +1,7 @@
 use nim_base::{Instance, Position, Seq};
 use nim_message::ToWorker;
 
-/// What a controller gives in a turn: orders, which are `orders_in` of `specs/Controls.antt`.
+/// What a controller gives in a turn: orders, which are `orders_given` of `specs/Controls.antt`.
 #[derive(Drop)]
 pub enum Given {
     /// The tasks of a block, an order each.

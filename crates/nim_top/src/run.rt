@@ -1,12 +1,12 @@
-ghost use Rattle.std.specs.Prelude.{◌≡◌, ◌+◌, ◌^◌, ◌<◌, ◌++◌, ℕ, [], IfOk, IfSome, IfNone, IsTrue, None, List, OnOk, length};
+ghost use Rattle.std.specs.Prelude.{◌≡◌, ◌+◌, ◌^◌, ◌<◌, ◌≤◌, ◌++◌, ℕ, [], IfOk, IfSome, IfNone, IsSome, IsTrue, List, OnOk, length};
 ghost use Rattle.nim_job.specs.declared.job.Job.{Job as job_type};
 ghost use Rattle.nim_job.specs.Serial.{serial_of};
 ghost use Rattle.nim_job.specs.Whole.{is_whole};
 ghost use Rattle.nim_message.specs.declared.order.ToWorker.{ToWorker as order_type};
-ghost use Rattle.nim_worker.specs.Stands.{Stands, reports_in};
-ghost use Rattle.nim_top.specs.Carries.{IsBusy, IsIdle, IsPerformed, Rests};
-ghost use Rattle.nim_top.specs.Controls.{HasRoom, orders_in, run_orders};
-ghost use Rattle.nim_top.specs.Leads.{done_behind, values_in};
+ghost use Rattle.nim_worker.specs.Left.{left_in};
+ghost use Rattle.nim_top.specs.Carries.{IsBusy, IsIdle, IsInOrder, IsPerformed, Rests};
+ghost use Rattle.nim_top.specs.Controls.{HasRoom, orders_given, run_orders};
+ghost use Rattle.nim_top.specs.Leads.{MayServe, asked_for, done_behind, reports_in, values_in};
 ghost use Rattle.nim_top.specs.Orders.{start_orders};
 
 use crate::control::{Control, Turn};
@@ -64,7 +64,7 @@ fn drive(
 // A worker that was given the orders that a run begins with.
 fn start(alloc: Global, job: &Job, trace: &mut Option<Trace>) -> Result<WorkerCore, NoMemory>
     requires { IsTrue (is_whole job.now) }
-    ensures { IfOk result (λ core. Stands core None (start_orders job.now) 0) }
+    ensures { IfOk result (λ core. IsInOrder core (start_orders job.now) 0) }
 {
     let mut core = WorkerCore::new(alloc, Worker(0));
     give(&mut core, first_orders(alloc, job)?, trace)?;
@@ -80,8 +80,8 @@ fn give_turn(
     trace: &mut Option<Trace>,
 ) -> Result<(), NoMemory>
     requires { HasRoom control.now.forms.items given }
-    ensures { (before : List order_type) (done : ℕ) → Stands core.old None before done
-        → OnOk result (Stands core.new None (before ++ orders_in control.now.forms.items given) (done_behind done (orders_in control.now.forms.items given))) }
+    ensures { (before : List order_type) (done : ℕ) → IsInOrder core.old before done
+        → OnOk result (IsInOrder core.new (before ++ orders_given control.now.forms.items given) (done_behind done (orders_given control.now.forms.items given))) }
 {
     match given {
         Given::Tasks(run) => give_tasks(alloc, core, control.forms(run.block), &run, trace),
@@ -98,8 +98,8 @@ fn give_tasks(
     trace: &mut Option<Trace>,
 ) -> Result<(), NoMemory>
     requires { run.now.position + length forms.now < 2 ^ 64 }
-    ensures { (before : List order_type) (done : ℕ) → Stands core.old None before done
-        → OnOk result (Stands core.new None (before ++ run_orders run.now forms.now) (done_behind done (run_orders run.now forms.now))) }
+    ensures { (before : List order_type) (done : ℕ) → IsInOrder core.old before done
+        → OnOk result (IsInOrder core.new (before ++ run_orders run.now forms.now) (done_behind done (run_orders run.now forms.now))) }
 {
     let args = run.args.as_slice();
     let mut position = run.position;
@@ -120,8 +120,8 @@ fn give(
     orders: Vec<ToWorker>,
     trace: &mut Option<Trace>,
 ) -> Result<(), NoMemory>
-    ensures { (before : List order_type) (done : ℕ) → Stands core.old None before done
-        → OnOk result (Stands core.new None (before ++ orders.items) (done_behind done orders.items)) }
+    ensures { (before : List order_type) (done : ℕ) → IsInOrder core.old before done
+        → OnOk result (IsInOrder core.new (before ++ orders.items) (done_behind done orders.items)) }
 {
     let mut orders = VecDeque::from_vec(orders);
     while let Some(order) = orders.pop_front() {
@@ -151,10 +151,13 @@ fn work(
 // Completes the next command, and gives what it reports; nothing where no command is left.
 fn perform(core: &mut WorkerCore) -> Result<Option<Vec<Out>>, NoMemory>
     requires rests { Rests core.old }
-    ensures { (orders : List order_type) (done : ℕ) → Stands core.old None orders done → IfOk result (IsPerformed core.new orders done) }
+    ensures rests { OnOk result (Rests core.new) }
+    ensures left { IfOk result (λ outs. IsSome outs → left_in core.new < left_in core.old) }
+    ensures served { (job : job_type) (orders : List order_type) (done : ℕ) → IsTrue (is_whole job) → MayServe job orders → IsInOrder core.old orders done
+        → done ≤ length (asked_for orders) → IfOk result (IsPerformed job core.new orders done) }
 {
-    let mut batch = core.begin(1);
-    let is_idle = batch.works().is_empty();
+    let batch = core.begin(1);
+    let is_idle = batch.is_empty();
     let outs = core.finish(batch)?;
     Ok(if is_idle { None } else { Some(outs) })
 }
@@ -166,8 +169,9 @@ fn hand_in(control: &mut Control, outs: Vec<Out>) -> Result<(), NoMemory>
 {
     let mut outs = VecDeque::from_vec(outs);
     while let Some(out) = outs.pop_front() {
-        let Out::Report(report) = out;
-        control.on_report(report)?;
+        if let Out::Report(report) = out {
+            control.on_report(report)?;
+        }
     }
     Ok(())
 }

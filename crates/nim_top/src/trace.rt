@@ -1,5 +1,5 @@
 ghost use Rattle.std.specs.Prelude.{◌≡◌, ◌++◌, ◌∷◌, [], OnOk};
-ghost use Rattle.nim_worker.specs.Stands.{reports_in};
+ghost use Rattle.nim_top.specs.Leads.{reports_in};
 
 use nim_base::{Copied, NoMemory};
 use nim_message::{FromWorker, ToWorker};
@@ -35,8 +35,9 @@ impl Trace {
         ensures { OnOk result (self.new.reports.items ≡ self.old.reports.items ++ reports_in outs.now) }
     {
         for out in outs {
-            let Out::Report(report) = out;
-            self.reports.push(report.copy()?)?;
+            if let Out::Report(report) = out {
+                self.reports.push(report.copy()?)?;
+            }
         }
         Ok(())
     }

@@ -35,7 +35,7 @@ pub struct Batch {
 }
 
 impl Batch {
-    ghost use Rattle.std.specs.Prelude.{◌≡◌};
+    ghost use Rattle.std.specs.Prelude.{◌≡◌, ◌==◌, length};
     ghost use Rattle.std.specs.Borrow.{sem};
     ghost use Rattle.nim_worker.specs.Lending.{LendsWorks};
 
@@ -44,6 +44,13 @@ impl Batch {
         ensures { result ≡ self.now.epoch }
     {
         self.epoch
+    }
+
+    /// Whether it has no work.
+    pub fn is_empty(&self) -> bool
+        ensures { result ≡ (length self.now.works.items == 0) }
+    {
+        self.works.is_empty()
     }
 
     /// The works, in the order in which their commands were given. The batch ends with the works as they are left.

@@ -35,11 +35,11 @@ impl WorkerCore {
         ensures empty { (history : List Happening) → Stands self.old None history → result.works.items ≡ []
             → (place : ℕ) → MayComplete (state_of history) place → ⊥ }
         ensures epoch { result.epoch ≡ self.old.epoch }
+        ensures stale { self.new.stale ≡ self.old.stale }
         ensures reads { (job : job_type) (history : List Happening) → IsTrue (is_whole job) → IsHandedTruth job history → Stands self.old None history
             → All (ReadsRight job) result.works.items }
         ensures failed { self.old.failed ≡ true → result.works.items ≡ [] }
         ensures stays { self.new.failed ≡ self.old.failed }
-        ensures stale { self.new.stale ≡ self.old.stale }
     {
         self.busy = true;
         if self.failed {

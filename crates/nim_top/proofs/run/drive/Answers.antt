@@ -1,7 +1,7 @@
 use Rattle.std.proofs.Common.{List, length, subst}
 use Rattle.nim_message.specs.declared.order.ToWorker.{ToWorker}
-use Rattle.nim_worker.specs.Stands.{asked_for}
-use Rattle.nim_top.specs.Controls.{GoesOn, IsTurn, orders_in}
+use Rattle.nim_top.specs.Controls.{GoesOn, IsTurn, orders_given}
+use Rattle.nim_top.specs.Leads.{asked_for}
 use Rattle.nim_top.proofs.Serving.{idle_has_all, starts_busy, turn_given}
 use Rattle.nim_top.proofs.run.drive.Goals as goal
 
@@ -21,7 +21,7 @@ give_turn-requires c = (subst (IsTurn c.args.job.now c.work.new.control c.turn.n
 pub loop-core-preserved : goal.loop-core-preserved
 loop-core-preserved c =
     let idle = c.in_ok-work.ensures.idle c.args.job.now c.requires c.loop-core.invariant.0 in
-    let given : List ToWorker = orders_in c.turn.new.self.forms.items c.in-Orders.given in
+    let given : List ToWorker = orders_given c.turn.new.self.forms.items c.in-Orders.given in
     let goes : GoesOn c.args.job.now c.work.new.control c.turn.new.self given =
     (subst (IsTurn c.args.job.now c.work.new.control c.turn.new.self) c.in-Orders.is c.in_ok-given.ensures).1 in (
       turn_given c.args.job.now c.work.new.core c.give_turn.new.core c.work.new.control c.turn.new.self given idle goes

@@ -26,5 +26,5 @@ loop-form-preserved c =
     ∙ ap₂ (λ (o : ToWorker) (next : ℕ). o ∷ rest next) (sym is) (sym c.saturating_add-id.ensures) in (
       omega (arith, c.loop-form.invariant.0),
       giving_goes c.args.core.now c.loop-form.core c.on_message.new.self (run_orders run forms) (task_orders_of position run.instance id run.args (drop k forms))
-          (rest c.saturating_add-id.result) c.in_ok-order.order c.loop-form.invariant.1 first (λ before done stands. c.in_ok-on_message.ensures.stands before None done stands),
+          (rest c.saturating_add-id.result) c.in_ok-order.order c.loop-form.invariant.1 first (λ history stands. c.in_ok-on_message.ensures.stands history None stands),
     )

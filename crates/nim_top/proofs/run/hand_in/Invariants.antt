@@ -1,6 +1,5 @@
 use Rattle.std.proofs.Common.{◌≡◌, ◌++◌, length}
-use Rattle.nim_worker.specs.Stands.{reports_in}
-use Rattle.nim_top.specs.Leads.{values_in}
+use Rattle.nim_top.specs.Leads.{reports_in, values_in}
 use Rattle.nim_top.proofs.run.hand_in.Given as goal
 
 abbrev pub invariant-loop-out : goal.invariant-loop-out

@@ -1,30 +1,29 @@
-use Rattle.std.proofs.Common.{◌≡◌, ◌∙◌, ap, length, sym, subst, arith}
-use Rattle.std.specs.Vec.{with_items}
-use Rattle.std.proofs.lemmas.Bool.{eqb-false, eqb-true}
-use Rattle.std.proofs.lemmas.List.{with_items_is}
-use Rattle.nim_top.specs.Carries.{IsPerformed}
-use Rattle.nim_top.proofs.Performing.{IsFinished, finished_none, finished_one}
+use Rattle.std.proofs.Common.{◌≡◌, ◌<◌, ◌≤◌, ◌∙◌, ℕ, List, length, sym, subst, arith, inl, inr}
+use Rattle.std.proofs.lemmas.Bool.{cases_lt, eqb-false, eqb-true}
+use Rattle.nim_message.specs.declared.order.ToWorker.{ToWorker}
+use Rattle.nim_history.specs.History.{Happening}
+use Rattle.nim_worker.specs.Stands.{Stands}
+use Rattle.nim_top.specs.Carries.{IsInOrder, IsPerformed}
+use Rattle.nim_top.specs.Leads.{MayServe, asked_for}
+use Rattle.nim_top.proofs.Performing.{IsFinished, fewer_left, no_works, none_performed, one_performed, rests_then, some_works}
 use Rattle.nim_top.proofs.run.perform.Goals as goal
 use Rattle.nim_top.proofs.run.perform.Goals.{then-is_idle, else-is_idle}
 
-pub returns : goal.returns
-returns c = λ orders done stands.
-    let finished : IsFinished c.args.core.now c.begin-batch.new.self c.finish.new.self c.begin-batch.result
-    (record { epoch = c.begin-batch.result.epoch; works = with_items c.begin-batch.result.works c.works.result.now }) c.in_ok-outs.outs.items orders done = record {
-      before = stands;
-      stale = c.begin-batch.ensures.stale;
-      out = c.begin-batch.ensures.stands orders done stands;
-      same = with_items_is c.begin-batch.result.works c.works.result.now (omega (arith, ap length c.works.ensures.value, c.begin-batch.result.works.ok.0)) ∙ c.works.ensures.value;
-      released = c.begin-batch.ensures.released orders done stands;
-      stands = c.in_ok-outs.ensures.stands orders done;
-      told = c.in_ok-outs.ensures.reports orders done;
-    } in
-    let works = ap length c.works.ensures.value in
-    elim c.if-is_idle.branch [
-      | then-is_idle w ↦
-          subst (IsPerformed c.finish.new.self orders done) (sym w.result-is)
-          (finished_none _ _ _ _ _ _ _ _ finished (sym works ∙ eqb-true (length c.works.result.now) 0 (sym c.is_empty-is_idle.ensures ∙ w.if-is_idle.true)))
-      | else-is_idle w ↦
-          subst (IsPerformed c.finish.new.self orders done) (sym w.result-is)
-          (finished_one _ _ _ _ _ _ _ _ finished (λ none. eqb-false (length c.works.result.now) 0 (sym c.is_empty-is_idle.ensures ∙ w.if-is_idle.false) (works ∙ none)))
-    ]
+pub returns-clause-rests : goal.returns-clause-rests
+returns-clause-rests c = rests_then _ _ _ _ _ c.requires.history (batch_done c.requires.history c.requires.stands) where
+  batch_done : (history : List Happening) → Stands c.args.core.now None history
+      → IsFinished c.args.core.now c.begin-batch.new.self c.finish.new.self c.begin-batch.result c.in_ok-outs.outs.items history
+  batch_done history stands = record {
+    before = stands;
+    stale = c.begin-batch.ensures.stale;
+    out = c.begin-batch.ensures.stands history stands;
+    taken = c.begin-batch.ensures.taken history stands;
+    stands = c.in_ok-outs.ensures.stands history (c.begin-batch.ensures.stands history stands);
+    gave = c.in_ok-outs.ensures.outs history (c.begin-batch.ensures.stands history stands);
+  }
+
+pub returns-clause-left : goal.returns-clause-left
+returns-clause-left c = ?
+
+pub returns-clause-served : goal.returns-clause-served
+returns-clause-served c = ?

@@ -1,6 +1,7 @@
-use Rattle.std.proofs.Common.{◌≡◌, length, true}
+use Rattle.std.proofs.Common.{◌≡◌, true}
 use Rattle.nim_job.specs.declared.job.Job.{Job}
 use Rattle.nim_job.specs.Whole.{is_whole}
+use Rattle.nim_worker.specs.Left.{left_in}
 use Rattle.nim_top.specs.Carries.{IsBusy, Rests}
 use Rattle.nim_top.proofs.run.work.Given as goal
 
@@ -10,4 +11,4 @@ invariant-loop-outs l =
     × (l.control ≡ record l.initial.control { values = l.control.values })
 
 abbrev pub decreases-loop-outs : goal.decreases-loop-outs
-decreases-loop-outs l = length l.core.waiting.items
+decreases-loop-outs l = left_in l.core

@@ -1,5 +1,5 @@
 use Rattle.std.proofs.Common.{◌≡◌, ◌++◌, take}
-use Rattle.nim_worker.specs.Stands.{reports_in}
+use Rattle.nim_top.specs.Leads.{reports_in}
 use Rattle.nim_top.proofs.trace.Trace.outs.Given as goal
 
 abbrev pub invariant-loop-out : goal.invariant-loop-out
