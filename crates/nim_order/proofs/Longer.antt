@@ -85,7 +85,8 @@ front_covered commands more covered =
     sym (kept_front commands more later earlier (omega arith) (omega arith))
     ∙ all_in_range (is_kept_in_order (commands ++ more) later) 0 later row earlier low high))
 
-members_append : (number : ℕ) (groups more : List Group)
+-- the members of more groups
+pub members_append : (number : ℕ) (groups more : List Group)
     → members_from number (groups ++ more) ≡ members_from number groups ++ members_from (number + length groups) more
 members_append number [] more = let same : number ≡ number + 0 = omega arith in ap (λ (n : ℕ). members_from n more) same
 members_append number (group ∷ groups) more =
@@ -96,11 +97,12 @@ members_append number (group ∷ groups) more =
     ∙ sym (append_assoc front (members_from (number + 1) groups) (members_from (number + suc (length groups)) more))
 
 -- what stands between two places is the same in a longer list
-range_front : {X : Type 0} (xs ys : List X) (a b : ℕ) → a ≤ b → b ≤ length xs → slice_range (xs ++ ys) a b ≡ slice_range xs a b
+pub range_front : {X : Type 0} (xs ys : List X) (a b : ℕ) → a ≤ b → b ≤ length xs → slice_range (xs ++ ys) a b ≡ slice_range xs a b
 range_front xs ys a b less within =
     ap (take (b - a)) (drop-append-le a xs ys (omega arith)) ∙ take-append-le (b - a) (drop a xs) ys (omega (arith, length-drop a xs))
 
-waits_for_front : (xs ys : List Member) (later earlier : ℕ) → later < length xs → earlier < later
+-- what one waits for stays when more come behind
+pub waits_for_front : (xs ys : List Member) (later earlier : ℕ) → later < length xs → earlier < later
     → waits_for (xs ++ ys) later earlier ≡ waits_for xs later earlier
 waits_for_front xs ys later earlier within before =
     let waits : List Member → Option Member → Option Member → Bool =
@@ -109,7 +111,7 @@ waits_for_front xs ys later earlier within before =
     (range_front xs ys (earlier + 1) later (omega arith) (omega arith))
     ∙ ap₂ (waits (slice_range xs (earlier + 1) later)) (get_front xs ys later within) (get_front xs ys earlier (omega arith))
 
-waits_of_front : (xs ys : List Member) (place : ℕ) → place < length xs → waits_of (xs ++ ys) place ≡ waits_of xs place
+pub waits_of_front : (xs ys : List Member) (place : ℕ) → place < length xs → waits_of (xs ++ ys) place ≡ waits_of xs place
 waits_of_front xs ys place within =
     filter_range (waits_for (xs ++ ys) place) (waits_for xs place) 0 place (λ k from to. waits_for_front xs ys place k within (omega arith))
 

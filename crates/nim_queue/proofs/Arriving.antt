@@ -8,28 +8,15 @@ use Rattle.std.proofs.lemmas.List.Folds.{list_any-append}
 use Rattle.nim_base.specs.declared.number.Slot.{Slot}
 use Rattle.nim_command.specs.declared.command.Command.{Command}
 use Rattle.nim_command.specs.Slots.{does_touch, does_write, is_among, reads_of, writes_of}
-use Rattle.nim_command.specs.Waits.{Group, Member, is_waited, is_written_by, members_from, members_of, waits_for, waits_of}
+use Rattle.nim_command.specs.Waits.{Group, Member, is_waited, is_written_by, members_of, waits_for, waits_of}
 use Rattle.nim_command.proofs.Lists.{filter_all, filter_twice}
 use Rattle.nim_queue.specs.Arrived.{HaveArrived, as_members, held_by, joined}
 use Rattle.nim_queue.specs.Stands.{unwritten, waiting_at, waiting_from, waiting_of}
 use Rattle.nim_queue.specs.Steps.{arrived_as, does_name, hidden, holders, holds_back, slots_without}
 use Rattle.nim_queue.specs.declared.arrivals.Arrivals.{Arrivals}
 use Rattle.nim_queue.specs.declared.waiting.Waiting.{Waiting}
-use Rattle.nim_queue.proofs.Lists.{any_kept, filter_range, get_at, get_front, not_last, not_or, range_behind, range_front}
-
--- what one waits for stays when more come behind
-waits_for_front : (xs ys : List Member) (later earlier : ℕ) → later < length xs → earlier < later
-    → waits_for (xs ++ ys) later earlier ≡ waits_for xs later earlier
-waits_for_front xs ys later earlier within before =
-    let waits : List Member → Option Member → Option Member → Bool =
-    λ between o p. option_map_or (λ (l : Member). option_map_or (λ (e : Member). is_waited e between l) p false) o false in
-    ap (λ (between : List Member). waits between (slice_get (xs ++ ys) later) (slice_get (xs ++ ys) earlier))
-    (range_front xs ys (earlier + 1) later (omega arith) (omega arith))
-    ∙ ap₂ (waits (slice_range xs (earlier + 1) later)) (get_front xs ys later within) (get_front xs ys earlier (omega arith))
-
-waits_of_front : (xs ys : List Member) (place : ℕ) → place < length xs → waits_of (xs ++ ys) place ≡ waits_of xs place
-waits_of_front xs ys place within =
-    filter_range (waits_for (xs ++ ys) place) (waits_for xs place) 0 place (λ k from to. waits_for_front xs ys place k within (omega arith))
+use Rattle.nim_order.proofs.Longer.{members_append, waits_of_front}
+use Rattle.nim_queue.proofs.Lists.{any_kept, get_at, not_last, not_or, range_behind}
 
 -- the slots that are left when one more comes behind
 unwritten_more : (rest : List Member) (m : Member) (slots : List Slot)
@@ -240,18 +227,9 @@ count_more written before after w n m is count more =
     ap length is ∙ length-append (map (hidden written) before) (w ∷ []) ∙ ap (λ (k : ℕ). k + 1) (length-map before (hidden written) ∙ count) ∙ sym more
 
 -- the members of one more group
-members_append : (number : ℕ) (groups : List Group) (next : Group)
-    → members_from number (groups ++ next ∷ []) ≡ members_from number groups ++ as_members (number + length groups) next.commands
-members_append number [] next =
-    let same : number ≡ number + 0 = omega arith in
-    append-nil (as_members number next.commands) ∙ ap (λ (n : ℕ). as_members n next.commands) same
-members_append number (group ∷ groups) next =
-    let same : number + 1 + length groups ≡ number + suc (length groups) = omega arith in
-    ap (λ (rest : List Member). as_members number group.commands ++ rest)
-    (members_append (number + 1) groups next ∙ ap (λ (n : ℕ). members_from (number + 1) groups ++ as_members n next.commands) same)
-    ∙ sym (append_assoc (as_members number group.commands) (members_from (number + 1) groups) (as_members (number + suc (length groups)) next.commands))
-
 pub members_more : (groups : List Group) (next : Group) → members_of (groups ++ next ∷ []) ≡ members_of groups ++ as_members (length groups) next.commands
 members_more groups next =
     let same : 0 + length groups ≡ length groups = omega arith in
-    members_append 0 groups next ∙ ap (λ (n : ℕ). members_of groups ++ as_members n next.commands) same
+    members_append 0 groups (next ∷ [])
+    ∙ ap (λ (ms : List Member). members_of groups ++ ms) (append-nil (as_members (0 + length groups) next.commands))
+    ∙ ap (λ (n : ℕ). members_of groups ++ as_members n next.commands) same

@@ -1,9 +1,9 @@
 -- Lists, and what passes tests of them.
-use Rattle.std.proofs.Common.{◌≡◌, ℕ, zero, suc, ◌+◌, ◌-◌, ◌<◌, ◌≤◌, Bool, true, false, not, List, [], ◌∷◌, ◌++◌, length, take, drop, refl, ap, ap₂, sym, ◌∙◌, arith, Some}
+use Rattle.std.proofs.Common.{◌≡◌, ℕ, ◌+◌, ◌-◌, Bool, true, false, not, List, [], ◌∷◌, ◌++◌, length, take, drop, refl, ap, ap₂, sym, ◌∙◌, arith, Some}
 use Rattle.std.specs.Prelude.{◌&&◌, ◌||◌, if◌then◌else◌, slice_get, slice_range}
-use Rattle.std.specs.List.{filter, list_any, range_with_len}
+use Rattle.std.specs.List.{filter, list_any}
 use Rattle.std.proofs.lemmas.Bool.{or_parts}
-use Rattle.std.proofs.lemmas.List.{append_assoc, drop-append-le, drop_at, length-append, length-drop, take-append-le}
+use Rattle.std.proofs.lemmas.List.{append_assoc, drop_at, length-append}
 use Rattle.std.proofs.Math.Seq.{take-append_seam}
 use Rattle.nim_command.proofs.Lists.{any_filter, any_same}
 
@@ -34,25 +34,9 @@ none_dropped {X} p (x ∷ xs) none =
     let parts = or_parts (p x) (list_any p xs) none in
     ap₂ (λ (b : Bool) (rest : List X). if not b then x ∷ rest else rest) parts.0 (none_dropped p xs parts.1)
 
-pub filter_range : (p q : ℕ → Bool) (a n : ℕ) → ((k : ℕ) → a ≤ k → k < a + n → p k ≡ q k) → filter p (range_with_len a n) ≡ filter q (range_with_len a n)
-filter_range p q a zero same = refl
-filter_range p q a (suc n) same =
-    ap₂ (λ (b : Bool) (rest : List ℕ). if b then a ∷ rest else rest) (same a (omega arith) (omega arith))
-    (filter_range p q (a + 1) n (λ k from to. same k (omega arith) (omega arith)))
-
-pub get_front : {X : Type 0} (xs ys : List X) (i : ℕ) → i < length xs → slice_get (xs ++ ys) i ≡ slice_get xs i
-get_front [] ys i within = absurd (omega (arith, within))
-get_front (x ∷ xs) ys zero within = refl
-get_front (x ∷ xs) ys (suc i) within = get_front xs ys i (omega (arith, within))
-
 pub get_at : {X : Type 0} (xs ys : List X) (y : X) → slice_get (xs ++ y ∷ ys) (length xs) ≡ Some y
 get_at [] ys y = refl
 get_at (x ∷ xs) ys y = get_at xs ys y
-
--- what stands between two places is the same in a longer list
-pub range_front : {X : Type 0} (xs ys : List X) (a b : ℕ) → a ≤ b → b ≤ length xs → slice_range (xs ++ ys) a b ≡ slice_range xs a b
-range_front xs ys a b less within =
-    ap (take (b - a)) (drop-append-le a xs ys (omega arith)) ∙ take-append-le (b - a) (drop a xs) ys (omega (arith, length-drop a xs))
 
 -- what stands between a place and one behind the list
 pub range_behind : {X : Type 0} (past : List X) (x : X) (rest more : List X) (place last : ℕ) → place ≡ length past → last ≡ length (past ++ x ∷ rest)

@@ -4,10 +4,9 @@ use Rattle.std.specs.Prelude.{◌==◌, ◌&&◌, if◌then◌else◌, slice_get
 use Rattle.std.specs.List.{filter, list_all, range_with_len}
 use Rattle.std.specs.Option.{option_map}
 use Rattle.std.proofs.lemmas.Bool.{eq-eqb, ne_eqb}
-use Rattle.nim_command.specs.declared.command.Command.{Command}
 use Rattle.nim_command.specs.Waits.{Member, waits_of}
 use Rattle.nim_queue.specs.Stands.{first_that, is_after, waiting_at, waiting_from}
-use Rattle.nim_queue.specs.Steps.{command_at, first_free, is_nil}
+use Rattle.nim_queue.specs.Steps.{first_free, is_nil, with_ticket}
 use Rattle.nim_queue.specs.declared.waiting.Waiting.{Waiting}
 
 none_step : (done : ℕ → Bool) (n : ℕ) (rest : List ℕ) (b all : Bool) → done n ≡ b → is_nil rest ≡ all → is_nil (if not b then n ∷ rest else rest) ≡ (b && all)
@@ -38,35 +37,44 @@ first_released all done after place (x ∷ rest) =
     (none_left done (waits_of all place)) (first_released all done after (place + 1) rest)
 
 pass_step : (ticket : ℕ) (d : Bool) (w : Waiting) (ws : List Waiting) → (w.ticket == ticket) ≡ false
-    → command_at (if d then ws else w ∷ ws) ticket ≡ command_at ws ticket
+    → with_ticket (if d then ws else w ∷ ws) ticket ≡ with_ticket ws ticket
 pass_step ticket true w ws is = refl
-pass_step ticket false w ws is = ap (λ (b : Bool). if b then Some w.command else command_at ws ticket) is
+pass_step ticket false w ws is = ap (λ (b : Bool). if b then Some w else with_ticket ws ticket) is
 
 -- no command has a ticket below the first place
 none_below : (all : List Member) (done : ℕ → Bool) (ticket place : ℕ) (rest : List Member) → ticket < place
-    → command_at (waiting_from all done place rest) ticket ≡ None
+    → with_ticket (waiting_from all done place rest) ticket ≡ None
 none_below all done ticket place [] below = refl
 none_below all done ticket place (x ∷ rest) below =
     pass_step ticket (done place) (waiting_at all done place x rest) (waiting_from all done (place + 1) rest) (ne_eqb place ticket (λ same. omega arith))
     ∙ none_below all done ticket (place + 1) rest (omega arith)
 
-here_step : (ticket : ℕ) (d : Bool) (w : Waiting) (ws : List Waiting) → (w.ticket == ticket) ≡ true → command_at ws ticket ≡ None
-    → command_at (if d then ws else w ∷ ws) ticket ≡ (if d then None else Some w.command)
+here_step : (ticket : ℕ) (d : Bool) (w : Waiting) (ws : List Waiting) → (w.ticket == ticket) ≡ true → with_ticket ws ticket ≡ None
+    → with_ticket (if d then ws else w ∷ ws) ticket ≡ (if d then None else Some w)
 here_step ticket true w ws is none = none
-here_step ticket false w ws is none = ap (λ (b : Bool). if b then Some w.command else command_at ws ticket) is
+here_step ticket false w ws is none = ap (λ (b : Bool). if b then Some w else with_ticket ws ticket) is
 
-none_either : (b : Bool) → None ≡ (if b then None else let none : Option Command = None in none)
-none_either true = refl
-none_either false = refl
+same_either : {Y : Type 0} (b : Bool) (y : Y) → y ≡ (if b then y else y)
+same_either true y = refl
+same_either false y = refl
 
-pub found_at : (all : List Member) (done : ℕ → Bool) (ticket place k : ℕ) (rest : List Member) → ticket ≡ place + k
-    → command_at (waiting_from all done place rest) ticket ≡ (if done ticket then None else option_map (λ (m : Member). m.command) (slice_get rest k))
-found_at all done ticket place k [] is = none_either (done ticket)
-found_at all done ticket place zero (x ∷ rest) is =
-    let same : place ≡ ticket = omega arith in
-    here_step ticket (done place) (waiting_at all done place x rest) (waiting_from all done (place + 1) rest) (eq-eqb place ticket same)
-    (none_below all done ticket (place + 1) rest (omega arith))
-    ∙ ap (λ (n : ℕ). if done n then None else Some x.command) same
-found_at all done ticket place (suc k) (x ∷ rest) is =
-    pass_step ticket (done place) (waiting_at all done place x rest) (waiting_from all done (place + 1) rest) (ne_eqb place ticket (λ same. omega arith))
-    ∙ found_at all done ticket (place + 1) k rest (omega arith)
+either_of : {Y : Type 0} (of : Waiting → Y) (b : Bool) (w : Waiting) → option_map of (if b then None else Some w) ≡ (if b then None else Some (of w))
+either_of of true w = refl
+either_of of false w = refl
+
+-- what a waiting command has of its member
+pub found_at : {Y : Type 0} (of : Waiting → Y) (own : Member → Y) (all : List Member) (done : ℕ → Bool) (ticket place k : ℕ) (rest : List Member)
+    → ((at : ℕ) (x : Member) (more : List Member) → of (waiting_at all done at x more) ≡ own x) → ticket ≡ place + k
+    → option_map of (with_ticket (waiting_from all done place rest) ticket) ≡ (if done ticket then None else option_map own (slice_get rest k))
+found_at of own all done ticket place k [] same is = same_either (done ticket) None
+found_at {Y} of own all done ticket place zero (x ∷ rest) same is =
+    let here : place ≡ ticket = omega arith in
+    ap (option_map of)
+    (here_step ticket (done place) (waiting_at all done place x rest) (waiting_from all done (place + 1) rest) (eq-eqb place ticket here)
+    (none_below all done ticket (place + 1) rest (omega arith)))
+    ∙ either_of of (done place) (waiting_at all done place x rest)
+    ∙ ap₂ (λ (n : ℕ) (y : Y). if done n then None else Some y) here (same place x rest)
+found_at of own all done ticket place (suc k) (x ∷ rest) same is =
+    ap (option_map of)
+    (pass_step ticket (done place) (waiting_at all done place x rest) (waiting_from all done (place + 1) rest) (ne_eqb place ticket (λ here. omega arith)))
+    ∙ found_at of own all done ticket (place + 1) k rest same (omega arith)

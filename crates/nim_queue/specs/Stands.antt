@@ -37,6 +37,11 @@ abbrev pub command_of : List Group → (ℕ → Bool) → ℕ → Option Command
 command_of groups done ticket =
     if done ticket then None else option_map (λ (m : Member). m.command) (slice_get (members_of groups) ticket)
 
+-- which of the groups, from 0 on, the command of a ticket is of while it isn't complete
+abbrev pub group_of : List Group → (ℕ → Bool) → ℕ → Option ℕ
+group_of groups done ticket =
+    if done ticket then None else option_map (λ (m : Member). m.group) (slice_get (members_of groups) ticket)
+
 -- What is complete once the command of a ticket is. A ticket that was never given changes nothing.
 abbrev pub done_with : List Group → (ℕ → Bool) → ℕ → ℕ → Bool
 done_with groups done ticket =

@@ -1,6 +1,7 @@
 -- What the calls do to the commands that wait.
 use Rattle.std.specs.Prelude.{ℕ, ◌==◌, Bool, not, ◌&&◌, ◌||◌, if◌then◌else◌, List, [], ◌∷◌, map, Option, None, Some}
 use Rattle.std.specs.List.{filter, list_any}
+use Rattle.std.specs.Option.{option_map}
 use Rattle.nim_base.specs.declared.number.Slot.{Slot}
 use Rattle.nim_command.specs.declared.command.Command.{Command}
 use Rattle.nim_command.specs.Slots.{does_touch, does_write, is_among, reads_of, writes_of}
@@ -79,6 +80,14 @@ first_free [] after = None
 first_free (w ∷ rest) after = if is_free_after w after then Some w.ticket else first_free rest after
 
 -- the waiting command of a ticket
+abbrev pub with_ticket : List Waiting → ℕ → Option Waiting
+with_ticket [] ticket = None
+with_ticket (w ∷ rest) ticket = if w.ticket == ticket then Some w else with_ticket rest ticket
+
+-- its command
 abbrev pub command_at : List Waiting → ℕ → Option Command
-command_at [] ticket = None
-command_at (w ∷ rest) ticket = if w.ticket == ticket then Some w.command else command_at rest ticket
+command_at ws ticket = option_map (λ (w : Waiting). w.command) (with_ticket ws ticket)
+
+-- which of the groups it is of
+abbrev pub group_at : List Waiting → ℕ → Option ℕ
+group_at ws ticket = option_map (λ (w : Waiting). w.group) (with_ticket ws ticket)

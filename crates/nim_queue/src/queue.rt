@@ -4,11 +4,11 @@ ghost use Rattle.std.specs.Option.{option_copied};
 ghost use Rattle.nim_command.specs.Waits.{Group as group_type, placed_commands};
 ghost use Rattle.nim_order.specs.Progress.{IsReleasedAt};
 ghost use Rattle.nim_queue.specs.Arrived.{joined};
-ghost use Rattle.nim_queue.specs.Stands.{Stands, command_of, done_with, nothing_done, ready_of};
+ghost use Rattle.nim_queue.specs.Stands.{Stands, command_of, done_with, group_of, nothing_done, ready_of};
 
 use crate::arrivals::{Arrivals, arrive, hide_all};
 use crate::complete::free_all;
-use crate::search::{command_at, first_free};
+use crate::search::{command_at, first_free, group_at};
 use crate::waiting::Waiting;
 use nim_base::NoMemory;
 use nim_command::Command;
@@ -72,6 +72,13 @@ impl BeforeQueue {
         ensures { (groups : List group_type) (done : ℕ → Bool) → Stands self.now groups done → option_copied result ≡ command_of groups done ticket }
     {
         command_at(self.waiting.as_slice(), ticket)
+    }
+
+    /// Which of the groups given, from 0 on, the command of a ticket is of, while it isn't complete; takes no memory.
+    pub fn group(&self, ticket: u64) -> Option<u64>
+        ensures { (groups : List group_type) (done : ℕ → Bool) → Stands self.now groups done → result ≡ group_of groups done ticket }
+    {
+        group_at(self.waiting.as_slice(), ticket)
     }
 
     /// The command of a ticket is complete, and leaves. A ticket that was never given changes nothing. Takes no memory.

@@ -33,13 +33,32 @@ fn is_after(after: Option<u64>, ticket: u64) -> bool
     }
 }
 
-/// The waiting command of a ticket.
+/// The command of a ticket, where it waits.
 pub(crate) fn command_at(waiting: &[Waiting], ticket: u64) -> Option<&Command>
     ensures { option_copied result ≡ spec.command_at waiting.now ticket }
 {
+    match with_ticket(waiting, ticket) {
+        Some(w) => Some(&w.command),
+        None => None,
+    }
+}
+
+/// Which of the groups it is of.
+pub(crate) fn group_at(waiting: &[Waiting], ticket: u64) -> Option<u64>
+    ensures { result ≡ spec.group_at waiting.now ticket }
+{
+    match with_ticket(waiting, ticket) {
+        Some(w) => Some(w.group),
+        None => None,
+    }
+}
+
+fn with_ticket(waiting: &[Waiting], ticket: u64) -> Option<&Waiting>
+    ensures { option_copied result ≡ spec.with_ticket waiting.now ticket }
+{
     for w in waiting {
         if w.ticket == ticket {
-            return Some(&w.command);
+            return Some(w);
         }
     }
     None

@@ -1,7 +1,0 @@
--- the command isn't among those so far
-use Rattle.std.proofs.Common.{◌≡◌, drop}
-use Rattle.nim_queue.specs.Steps.{command_at}
-use Rattle.nim_queue.proofs.search.command_at.Given as goal
-
-abbrev pub invariant-loop-w : goal.invariant-loop-w
-invariant-loop-w l = command_at (drop l.w-index l.waiting) l.ticket ≡ command_at l.waiting l.ticket
