@@ -54,9 +54,9 @@ here_step : (ticket : ℕ) (d : Bool) (w : Waiting) (ws : List Waiting) → (w.t
 here_step ticket true w ws is none = none
 here_step ticket false w ws is none = ap (λ (b : Bool). if b then Some w else with_ticket ws ticket) is
 
-none_either : {Y : Type 0} (b : Bool) (none : Option Y) → none ≡ (if b then none else none)
-none_either true none = refl
-none_either false none = refl
+same_either : {Y : Type 0} (b : Bool) (y : Y) → y ≡ (if b then y else y)
+same_either true y = refl
+same_either false y = refl
 
 either_of : {Y : Type 0} (of : Waiting → Y) (b : Bool) (w : Waiting) → option_map of (if b then None else Some w) ≡ (if b then None else Some (of w))
 either_of of true w = refl
@@ -66,7 +66,7 @@ either_of of false w = refl
 pub found_at : {Y : Type 0} (of : Waiting → Y) (own : Member → Y) (all : List Member) (done : ℕ → Bool) (ticket place k : ℕ) (rest : List Member)
     → ((at : ℕ) (x : Member) (more : List Member) → of (waiting_at all done at x more) ≡ own x) → ticket ≡ place + k
     → option_map of (with_ticket (waiting_from all done place rest) ticket) ≡ (if done ticket then None else option_map own (slice_get rest k))
-found_at of own all done ticket place k [] same is = none_either (done ticket) None
+found_at of own all done ticket place k [] same is = same_either (done ticket) None
 found_at {Y} of own all done ticket place zero (x ∷ rest) same is =
     let here : place ≡ ticket = omega arith in
     ap (option_map of)
