@@ -1,12 +1,15 @@
 ghost use Rattle.std.specs.Prelude.{◌<◌, slice_get, IsSomeAnd, IsTrue};
 
-use nim_base::{Func, NoMemory, Object, Seq, Shape, Short, Slot, Task, Value, Worker};
+use nim_base::{
+    Func, NoMemory, Object, Param, Seq, Shape, Short, Slot, Task, TaskForm, Value, Worker,
+};
 use nim_command::{Command, Kind, WorkerTemplate};
 use nim_message::Data;
 use nim_patch::{PatchCache, build_patch, failing};
 use nim_place::{Placement, VersionMap, home, schedule_task};
 use nim_queue::BeforeQueue;
 use nim_store::{Held, Inbox, Key, Store};
+use nim_template::{Recorder, build_halves};
 use std::alloc::Global;
 use std::test::Fail;
 
@@ -81,6 +84,30 @@ fn a_map_holds_what_a_task_writes(rt: HostRuntime) -> Result<(), Fail> {
     Ok(())
 }
 
+#[test]
+fn a_block_is_recorded(rt: HostRuntime) -> Result<(), Fail> {
+    let form = TaskForm {
+        func: Func::Addc,
+        params: Seq::from_vec(Vec::from_slice(rt.alloc(), &[Param::Arg(0)])?),
+        reads: Seq::from_vec(Vec::from_slice(rt.alloc(), &[Object(1)])?),
+        writes: Seq::from_vec(Vec::from_slice(rt.alloc(), &[Object(0)])?),
+    };
+    let mut recorder = Recorder::new(rt.alloc(), 7);
+    recorder.push_form(&form)?;
+    assert_eq!(rt; recorder.finish().forms.len(), 1);
+    Ok(())
+}
+
+#[test]
+fn a_block_without_tasks_has_empty_halves(rt: HostRuntime) -> Result<(), Fail> {
+    let block = Recorder::new(rt.alloc(), 7).finish();
+    let built = build_halves(rt.alloc(), &block, &Placement::Cyclic, 2, &[true, true])?;
+    assert_eq!(rt; built.block, 7);
+    assert_eq!(rt; built.halves.len(), 2);
+    assert_eq!(rt; built.preconditions.len(), 0);
+    Ok(())
+}
+
 /// A template that has to find object 0 at two workers.
 fn template(alloc: Global) -> Result<WorkerTemplate, NoMemory> {
     let places = [(Worker(0), Object(0)), (Worker(1), Object(0))];
@@ -126,7 +153,8 @@ fn commands_wait_for_those_before(rt: HostRuntime) -> Result<(), Fail> {
     }
     assert_eq!(rt; queue.ready(None), Some(0));
     assert_eq!(rt; queue.ready(Some(0)), None);
-    queue.complete(0);
+    assert_eq!(rt; queue.group(1), Some(1));
+    assert!(rt; queue.complete(0).is_some());
     assert_eq!(rt; queue.ready(None), Some(1));
     assert!(rt; queue.command(0).is_none());
     Ok(())
