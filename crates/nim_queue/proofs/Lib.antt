@@ -1,6 +1,6 @@
-pub mod Arriving
 pub mod Completing
+pub mod Counting
+pub mod Freeing
 pub mod Lists
 pub mod Released
-pub mod Searches
-pub mod Standing
+pub mod Rising

@@ -1,3 +1,2 @@
-pub mod Arrived
+pub mod Counts
 pub mod Stands
-pub mod Steps

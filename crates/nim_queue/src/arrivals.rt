@@ -1,119 +1,191 @@
-ghost use Rattle.std.specs.Prelude.{◌≡◌, ◌+◌, ◌<◌, ◌^◌, ◌++◌, ◌∷◌, [], if◌then◌else◌, length, map, IfOk, OnOk};
-ghost use Rattle.nim_command.specs.Slots.{writes_of};
-ghost use Rattle.nim_queue.specs.Arrived.{HaveArrived, held_by};
-ghost use Rattle.nim_queue.specs.Steps as spec;
-
+use crate::slot_use::SlotUse;
 use crate::waiting::Waiting;
 use nim_base::{NoMemory, Slot};
 use nim_command::Command;
 use std::alloc::Global;
+use std::collections::{HashMap, HashSet, LinkedList};
 
-/// The commands of a group before the queue has them, with what they wait for, and the slots that they write.
+/// A command of a group before the queue has it, with all that the queue needs to take it in.
 #[derive(Drop)]
-pub(crate) struct Arrivals {
-    pub(crate) fresh: Vec<Waiting>,
-    pub(crate) written: Vec<Slot>,
+pub(crate) struct Arrival {
+    pub(crate) command: Command,
+    /// The tickets of those that it waits for, as often as it does, each with its own ticket for their followers.
+    pub(crate) waits: Vec<Link>,
+    /// The slots that it reads, each with its ticket for their readers.
+    pub(crate) reads: Vec<Reading>,
 }
 
-/// The commands of a group, the first with this ticket, behind those that wait.
-pub(crate) fn arrive(
+/// A ticket, and what is to be appended to the followers of its command.
+#[derive(Drop)]
+pub(crate) struct Link {
+    pub(crate) earlier: u64,
+    pub(crate) later: LinkedList<u64>,
+}
+
+/// A slot, and what is to be appended to its readers.
+#[derive(Drop)]
+pub(crate) struct Reading {
+    pub(crate) slot: Slot,
+    pub(crate) reader: LinkedList<u64>,
+}
+
+/// What a group has so far: the tickets by the commands' numbers, and the slots that are written.
+#[derive(Drop)]
+pub(crate) struct Arrivals {
     alloc: Global,
-    waiting: &[Waiting],
-    group: u64,
-    first: u64,
-    commands: Vec<Command>,
-) -> Result<Arrivals, NoMemory>
-    requires { first + length commands.items < 2 ^ 64 }
-    ensures arrived { IfOk result (λ a. HaveArrived waiting.now group first commands.items a) }
-    ensures count { IfOk result (λ a. length a.fresh.items ≡ length commands.items) }
-{
-    let mut arrived = Arrivals {
-        fresh: Vec::new(alloc),
-        written: Vec::new(alloc),
-    };
-    let mut ticket = first;
-    for command in commands {
-        arrived.take(alloc, waiting, group, ticket, command)?;
-        ticket += 1;
-    }
-    Ok(arrived)
+    numbers: HashMap<u32, Vec<u64>>,
+    written: HashSet<u16>,
 }
 
 impl Arrivals {
-    /// One more command arrives.
-    fn take(
+    /// Nothing yet.
+    pub(crate) fn new(alloc: Global) -> Arrivals {
+        Arrivals {
+            alloc,
+            numbers: HashMap::new(alloc),
+            written: HashSet::new(alloc),
+        }
+    }
+
+    /// One more command arrives, with this ticket, behind those that wait.
+    pub(crate) fn arrive(
         &mut self,
-        alloc: Global,
-        waiting: &[Waiting],
-        group: u64,
+        waiting: &HashMap<u64, Waiting>,
+        slots: &HashMap<u16, SlotUse>,
         ticket: u64,
         command: Command,
-    ) -> Result<(), NoMemory>
-        ensures fresh { OnOk result (self.new.fresh.items ≡ map (spec.hidden (writes_of command.kind)) self.old.fresh.items
-            ++ spec.arrived_as ticket group command (held_by waiting.now group command self.old) ∷ []) }
-        ensures written { OnOk result (self.new.written.items ≡ self.old.written.items ++ writes_of command.kind) }
-    {
-        let waits = self.holders(alloc, waiting, group, &command)?;
-        let arrived = Waiting::new(alloc, ticket, group, command, waits)?;
-        self.written.extend_from_slice(arrived.writes.as_slice())?;
-        hide_all(&mut self.fresh, arrived.writes.as_slice());
-        self.fresh.push(arrived)?;
+    ) -> Result<Arrival, NoMemory> {
+        let mut tickets = Vec::new(self.alloc);
+        self.add_named(&mut tickets, command.before.as_slice())?;
+        self.add_writers(&mut tickets, waiting, slots, command.kind.reads())?;
+        self.add_writers(&mut tickets, waiting, slots, command.kind.writes())?;
+        self.add_readers(&mut tickets, waiting, slots, command.kind.writes())?;
+        let waits = links(self.alloc, tickets.as_slice(), ticket)?;
+        let reads = readings(self.alloc, command.kind.reads(), ticket)?;
+        self.note_number(command.id, ticket)?;
+        self.note_writes(command.kind.writes())?;
+        Ok(Arrival {
+            command,
+            waits,
+            reads,
+        })
+    }
+
+    /// The commands of the group with these numbers.
+    fn add_named(&self, tickets: &mut Vec<u64>, numbers: &[u32]) -> Result<(), NoMemory> {
+        for number in numbers {
+            if let Some(named) = self.numbers.get(number) {
+                tickets.extend_from_slice(named.as_slice())?;
+            }
+        }
         Ok(())
     }
 
-    /// The tickets of those that hold a command back, among those that wait and what has arrived.
-    fn holders(
+    /// The waiting commands that write these slots, where none of the group has written them.
+    fn add_writers(
         &self,
-        alloc: Global,
-        waiting: &[Waiting],
-        group: u64,
-        command: &Command,
-    ) -> Result<Vec<u64>, NoMemory>
-        ensures { IfOk result (λ tickets. tickets.items ≡ held_by waiting.now group command.now self.now) }
-    {
-        let mut tickets = Vec::new(alloc);
-        add_holders(
-            &mut tickets,
-            waiting,
-            group,
-            self.written.as_slice(),
-            command,
-        )?;
-        add_holders(&mut tickets, self.fresh.as_slice(), group, &[], command)?;
-        Ok(tickets)
+        tickets: &mut Vec<u64>,
+        waiting: &HashMap<u64, Waiting>,
+        slots: &HashMap<u16, SlotUse>,
+        touched: &[Slot],
+    ) -> Result<(), NoMemory> {
+        for slot in touched {
+            if self.written.contains(&slot.0) {
+                continue;
+            }
+            if let Some(used) = slots.get(&slot.0) {
+                push_waiting(tickets, waiting, used.writer)?;
+            }
+        }
+        Ok(())
+    }
+
+    /// The waiting commands that read these slots, where none of the group has written them.
+    fn add_readers(
+        &self,
+        tickets: &mut Vec<u64>,
+        waiting: &HashMap<u64, Waiting>,
+        slots: &HashMap<u16, SlotUse>,
+        written: &[Slot],
+    ) -> Result<(), NoMemory> {
+        for slot in written {
+            if self.written.contains(&slot.0) {
+                continue;
+            }
+            if let Some(used) = slots.get(&slot.0) {
+                push_readers(tickets, waiting, used)?;
+            }
+        }
+        Ok(())
+    }
+
+    fn note_number(&mut self, number: u32, ticket: u64) -> Result<(), NoMemory> {
+        if let Some(named) = self.numbers.get_mut(&number) {
+            named.push(ticket)?;
+            return Ok(());
+        }
+        let mut named = Vec::new(self.alloc);
+        named.push(ticket)?;
+        self.numbers.insert(number, named)?;
+        Ok(())
+    }
+
+    fn note_writes(&mut self, slots: &[Slot]) -> Result<(), NoMemory> {
+        for slot in slots {
+            self.written.insert(slot.0)?;
+        }
+        Ok(())
     }
 }
 
-/// Appends the tickets of those that hold a command back.
-fn add_holders(
+fn push_waiting(
     tickets: &mut Vec<u64>,
-    waiting: &[Waiting],
-    group: u64,
-    written: &[Slot],
-    command: &Command,
-) -> Result<(), NoMemory>
-    ensures { OnOk result (tickets.new.items ≡ tickets.old.items ++ spec.holders waiting.now group written.now command.now) }
-{
-    for w in waiting {
-        push_if(tickets, w.holds_back(group, written, command), w.ticket)?;
+    waiting: &HashMap<u64, Waiting>,
+    writer: Option<u64>,
+) -> Result<(), NoMemory> {
+    if let Some(ticket) = writer {
+        if waiting.contains_key(&ticket) {
+            tickets.push(ticket)?;
+        }
     }
     Ok(())
 }
 
-fn push_if(tickets: &mut Vec<u64>, wanted: bool, ticket: u64) -> Result<(), NoMemory>
-    ensures { OnOk result (tickets.new.items ≡ tickets.old.items ++ (if wanted then ticket ∷ [] else [])) }
-{
-    if wanted {
-        tickets.push(ticket)?;
+fn push_readers(
+    tickets: &mut Vec<u64>,
+    waiting: &HashMap<u64, Waiting>,
+    used: &SlotUse,
+) -> Result<(), NoMemory> {
+    for reader in used.readers.iter() {
+        push_waiting(tickets, waiting, Some(*reader))?;
     }
     Ok(())
 }
 
-/// Later commands write these slots.
-pub(crate) fn hide_all(waiting: &mut [Waiting], written: &[Slot])
-    ensures { waiting.new ≡ map (spec.hidden written.now) waiting.old }
-{
-    for w in waiting.iter_mut() {
-        w.hide(written);
+fn links(alloc: Global, tickets: &[u64], later: u64) -> Result<Vec<Link>, NoMemory> {
+    let mut waits = Vec::with_capacity(alloc, tickets.len())?;
+    for earlier in tickets {
+        waits.push(Link {
+            earlier: *earlier,
+            later: alone(alloc, later)?,
+        })?;
     }
+    Ok(waits)
+}
+
+fn readings(alloc: Global, slots: &[Slot], reader: u64) -> Result<Vec<Reading>, NoMemory> {
+    let mut reads = Vec::with_capacity(alloc, slots.len())?;
+    for slot in slots {
+        reads.push(Reading {
+            slot: *slot,
+            reader: alone(alloc, reader)?,
+        })?;
+    }
+    Ok(reads)
+}
+
+fn alone(alloc: Global, ticket: u64) -> Result<LinkedList<u64>, NoMemory> {
+    let mut list = LinkedList::new(alloc);
+    list.push_back(ticket)?;
+    Ok(list)
 }

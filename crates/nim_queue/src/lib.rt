@@ -3,8 +3,10 @@
 
 mod arrivals;
 mod complete;
+mod join;
 mod queue;
-mod search;
+mod slot_use;
+mod tickets;
 mod waiting;
 
 pub use queue::BeforeQueue;

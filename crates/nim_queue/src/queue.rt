@@ -3,27 +3,32 @@ ghost use Rattle.std.specs.Vec.{vec_capacity, vec_len};
 ghost use Rattle.std.specs.Option.{option_copied};
 ghost use Rattle.nim_command.specs.Waits.{Group as group_type, placed_commands};
 ghost use Rattle.nim_order.specs.Progress.{IsReleasedAt};
-ghost use Rattle.nim_queue.specs.Arrived.{joined};
 ghost use Rattle.nim_queue.specs.Stands.{Stands, command_of, done_with, group_of, nothing_done, ready_of};
 
-use crate::arrivals::{Arrivals, arrive, hide_all};
-use crate::complete::free_all;
-use crate::search::{command_at, first_free, group_at};
+use crate::arrivals::{Arrival, Arrivals};
+use crate::complete::free;
+use crate::slot_use::SlotUse;
+use crate::tickets::Tickets;
 use crate::waiting::Waiting;
 use nim_base::NoMemory;
 use nim_command::Command;
 use std::alloc::Global;
+use std::collections::HashMap;
 
 /// Commands that wait for others: those of their group that their before sets name, and those of earlier groups that
 /// they meet in a slot. The ticket of a command is its place in the order given. Which groups a queue stands for,
 /// and which of their commands are complete, is `Stands` of `specs/Stands.antt`.
 #[derive(Drop)]
 pub struct BeforeQueue {
-    alloc: Global,
-    /// The commands that aren't complete, in the order given.
-    waiting: Vec<Waiting>,
+    pub(crate) alloc: Global,
+    /// The commands that aren't complete, by ticket.
+    pub(crate) waiting: HashMap<u64, Waiting>,
+    /// Who uses a slot.
+    pub(crate) slots: HashMap<u16, SlotUse>,
+    /// Those that wait for nothing.
+    pub(crate) released: Tickets,
     /// How many commands and groups were given.
-    given: u64,
+    pub(crate) given: u64,
     groups: u64,
 }
 
@@ -34,7 +39,9 @@ impl BeforeQueue {
     {
         BeforeQueue {
             alloc,
-            waiting: Vec::new(alloc),
+            waiting: HashMap::new(alloc),
+            slots: HashMap::new(alloc),
+            released: Tickets::new(alloc),
             given: 0,
             groups: 0,
         }
@@ -50,10 +57,9 @@ impl BeforeQueue {
         if group.len() as u64 > u64::MAX - self.given || self.groups == u64::MAX {
             return Err(NoMemory);
         }
-        self.waiting.reserve(group.len())?;
-        let waiting = self.waiting.as_slice();
-        let arrived = arrive(self.alloc, waiting, self.groups, self.given, group)?;
-        self.join(arrived);
+        let arrived = self.arrive(group)?;
+        self.make_room(arrived.as_slice())?;
+        self.join_all(arrived);
         Ok(())
     }
 
@@ -64,45 +70,67 @@ impl BeforeQueue {
         ensures released { (groups : List group_type) (done : ℕ → Bool) → Stands self.now groups done
             → IfSome result (λ ticket. IsReleasedAt (placed_commands groups) done ticket) }
     {
-        first_free(self.waiting.as_slice(), after)
+        self.released.after(after)
     }
 
     /// The command of a ticket, while it isn't complete; takes no memory.
     pub fn command(&self, ticket: u64) -> Option<&Command>
         ensures { (groups : List group_type) (done : ℕ → Bool) → Stands self.now groups done → option_copied result ≡ command_of groups done ticket }
     {
-        command_at(self.waiting.as_slice(), ticket)
+        match self.waiting.get(&ticket) {
+            Some(w) => Some(&w.command),
+            None => None,
+        }
     }
 
     /// Which of the groups given, from 0 on, the command of a ticket is of, while it isn't complete; takes no memory.
     pub fn group(&self, ticket: u64) -> Option<u64>
         ensures { (groups : List group_type) (done : ℕ → Bool) → Stands self.now groups done → result ≡ group_of groups done ticket }
     {
-        group_at(self.waiting.as_slice(), ticket)
+        match self.waiting.get(&ticket) {
+            Some(w) => Some(w.group),
+            None => None,
+        }
     }
 
     /// The command of a ticket is complete, and leaves. A ticket that was never given changes nothing. Takes no memory.
     pub fn complete(&mut self, ticket: u64)
         ensures { (groups : List group_type) (done : ℕ → Bool) → Stands self.old groups done → Stands self.new groups (done_with groups done ticket) }
     {
-        if ticket < self.given {
-            free_all(&mut self.waiting, ticket);
-        }
+        free(&mut self.waiting, &mut self.released, ticket);
     }
 
-    /// Takes in what has arrived, for which there is room.
-    fn join(&mut self, arrived: Arrivals)
-        requires room { vec_len self.old.waiting + vec_len arrived.fresh ≤ vec_capacity self.old.waiting }
-        requires tickets { self.old.given + vec_len arrived.fresh < 2 ^ 64 }
-        requires number { self.old.groups + 1 < 2 ^ 64 }
-        ensures waiting { self.new.waiting.items ≡ joined self.old.waiting.items arrived }
-        ensures given { self.new.given ≡ self.old.given + length arrived.fresh.items }
-        ensures groups { self.new.groups ≡ self.old.groups + 1 }
-    {
-        let Arrivals { mut fresh, written } = arrived;
-        hide_all(&mut self.waiting, written.as_slice());
-        self.given += fresh.len() as u64;
-        self.groups += 1;
-        let _ = self.waiting.append(&mut fresh);
+    /// What the commands of a group wait for.
+    fn arrive(&self, group: Vec<Command>) -> Result<Vec<Arrival>, NoMemory> {
+        let mut arrived = Vec::with_capacity(self.alloc, group.len())?;
+        let mut arrivals = Arrivals::new(self.alloc);
+        let mut ticket = self.given;
+        for command in group {
+            arrived.push(arrivals.arrive(&self.waiting, &self.slots, ticket, command)?)?;
+            ticket = ticket.wrapping_add(1);
+        }
+        Ok(arrived)
+    }
+
+    fn make_room(&mut self, arrived: &[Arrival]) -> Result<(), NoMemory> {
+        let mut touched = 0usize;
+        for arrival in arrived {
+            let kind = &arrival.command.kind;
+            touched = touched
+                .saturating_add(kind.reads().len())
+                .saturating_add(kind.writes().len());
+        }
+        self.slots.reserve(touched)?;
+        self.waiting.reserve(arrived.len())?;
+        self.released
+            .make_room(self.waiting.len().saturating_add(arrived.len()))
+    }
+
+    fn join_all(&mut self, arrived: Vec<Arrival>) {
+        let group = self.groups;
+        for arrival in arrived {
+            self.join(group, arrival);
+        }
+        self.groups = self.groups.wrapping_add(1);
     }
 }

@@ -1,8 +1,17 @@
-use Rattle.std.proofs.Common.{refl}
-use Rattle.nim_queue.proofs.Standing.{completed}
+use Rattle.std.proofs.Common.{◌≡◌, ◌∙◌, ℕ, nat_eq, refl, subst, sym, Option, None, Some, inl, inr}
+use Rattle.std.specs.HashMap.{get}
+use Rattle.nim_queue.specs.Stands.{Stands}
+use Rattle.nim_queue.proofs.Completing.{completed, nothing_kept, option_cases, stands_still}
 use Rattle.nim_queue.proofs.queue.BeforeQueue.complete.Goals as goal
 
-pub returns-then-ticket-self : goal.returns-then-ticket-self
-returns-then-ticket-self c groups done stands =
-    completed c.args.self.now (record c.args.self.now { waiting = c.free_all.new.waiting }) groups done c.args.ticket
-    stands c.if-ticket-self.true c.free_all.ensures refl refl
+pub returns : goal.returns
+returns c groups done stands =
+    let old = c.args.self.now in
+    let new = record old { waiting = c.free.new.waiting; released = c.free.new.released } in
+    let free = c.free.ensures.released old.given stands.released in
+    elim (option_cases (get nat_eq old.waiting c.args.ticket)) [
+      | inl none ↦
+          subst (Stands new groups) (sym (nothing_kept old groups done c.args.ticket stands none))
+          (stands_still old new groups done stands (c.free.ensures.absent none) (λ s. refl) free refl refl)
+      | inr some ↦ completed old new groups done c.args.ticket some.0 stands some.1 (c.free.ensures.gone some.0 some.1) free (λ s. refl) refl refl
+    ]
