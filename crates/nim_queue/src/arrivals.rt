@@ -1,3 +1,14 @@
+ghost use Rattle.std.specs.Prelude.{◌≡◌, ◌||◌, ◌&&◌, ◌==◌, ◌++◌, ◌∷◌, [], ℕ, not, if◌then◌else◌, false, is_some, map, nat_eq, unwrap_or, IfOk, OnOk};
+ghost use Rattle.std.specs.HashMap.{get};
+ghost use Rattle.std.specs.HashSet as bag;
+ghost use Rattle.std.specs.List.{list_any};
+ghost use Rattle.std.specs.Option.{option_map_or};
+ghost use Rattle.nim_base.specs.declared.number.Slot.{Slot as slot_type};
+ghost use Rattle.nim_command.specs.Slots.{does_write, is_among};
+ghost use Rattle.nim_queue.specs.Arrived.{HasArrived, is_reached, link_to, reading_of};
+ghost use Rattle.nim_queue.specs.Counts.{is_in};
+ghost use Rattle.nim_queue.specs.Stands.{is_reader, is_writer};
+
 use crate::slot_use::SlotUse;
 use crate::waiting::Waiting;
 use nim_base::{NoMemory, Slot};
@@ -33,13 +44,16 @@ pub(crate) struct Reading {
 #[derive(Drop)]
 pub(crate) struct Arrivals {
     alloc: Global,
-    numbers: HashMap<u32, Vec<u64>>,
+    numbers: HashMap<u32, LinkedList<u64>>,
     written: HashSet<u16>,
 }
 
 impl Arrivals {
-    /// Nothing yet.
-    pub(crate) fn new(alloc: Global) -> Arrivals {
+    /// Nothing yet; takes no memory.
+    pub(crate) fn new(alloc: Global) -> Arrivals
+        ensures numbers { (n : ℕ) → unwrap_or (get nat_eq result.numbers n) [] ≡ [] }
+        ensures written { (s : ℕ) → bag.contains nat_eq result.written s ≡ false }
+    {
         Arrivals {
             alloc,
             numbers: HashMap::new(alloc),
@@ -54,16 +68,21 @@ impl Arrivals {
         slots: &HashMap<u16, SlotUse>,
         ticket: u64,
         command: Command,
-    ) -> Result<Arrival, NoMemory> {
-        let mut tickets = Vec::new(self.alloc);
-        self.add_named(&mut tickets, command.before.as_slice())?;
-        self.add_writers(&mut tickets, waiting, slots, command.kind.reads())?;
-        self.add_writers(&mut tickets, waiting, slots, command.kind.writes())?;
-        self.add_readers(&mut tickets, waiting, slots, command.kind.writes())?;
+    ) -> Result<Arrival, NoMemory>
+        ensures arrival { IfOk result (λ a. HasArrived
+            (record { kept = get nat_eq waiting.now; used = get nat_eq slots.now;
+              named = λ n. unwrap_or (get nat_eq self.old.numbers n) []; written = bag.contains nat_eq self.old.written })
+            ticket command a) }
+        ensures numbers { OnOk result ((n : ℕ) → unwrap_or (get nat_eq self.new.numbers n) []
+            ≡ unwrap_or (get nat_eq self.old.numbers n) [] ++ (if command.id == n then ticket ∷ [] else [])) }
+        ensures written { OnOk result ((s : ℕ) → bag.contains nat_eq self.new.written s
+            ≡ (bag.contains nat_eq self.old.written s || does_write command.kind (record { 0 = s }))) }
+    {
+        let tickets = self.reach(waiting, slots, &command)?;
         let waits = links(self.alloc, tickets.as_slice(), ticket)?;
         let reads = readings(self.alloc, command.kind.reads(), ticket)?;
-        self.note_number(command.id, ticket)?;
-        self.note_writes(command.kind.writes())?;
+        note_number(self.alloc, &mut self.numbers, command.id, ticket)?;
+        note_writes(&mut self.written, command.kind.writes())?;
         Ok(Arrival {
             command,
             waits,
@@ -71,12 +90,33 @@ impl Arrivals {
         })
     }
 
+    /// The tickets of those that a command waits for.
+    fn reach(
+        &self,
+        waiting: &HashMap<u64, Waiting>,
+        slots: &HashMap<u16, SlotUse>,
+        command: &Command,
+    ) -> Result<Vec<u64>, NoMemory>
+        ensures { IfOk result (λ tickets. (e : ℕ) → is_in e tickets.items ≡ is_reached
+            (record { kept = get nat_eq waiting.now; used = get nat_eq slots.now;
+              named = λ n. unwrap_or (get nat_eq self.now.numbers n) []; written = bag.contains nat_eq self.now.written })
+            command.now e) }
+    {
+        let mut tickets = Vec::new(self.alloc);
+        self.add_named(&mut tickets, command.before.as_slice())?;
+        self.add_writers(&mut tickets, waiting, slots, command.kind.reads())?;
+        self.add_writers(&mut tickets, waiting, slots, command.kind.writes())?;
+        self.add_readers(&mut tickets, waiting, slots, command.kind.writes())?;
+        Ok(tickets)
+    }
+
     /// The commands of the group with these numbers.
-    fn add_named(&self, tickets: &mut Vec<u64>, numbers: &[u32]) -> Result<(), NoMemory> {
+    fn add_named(&self, tickets: &mut Vec<u64>, numbers: &[u32]) -> Result<(), NoMemory>
+        ensures { OnOk result ((e : ℕ) → is_in e tickets.new.items ≡ (is_in e tickets.old.items
+            || list_any (λ number. is_in e (unwrap_or (get nat_eq self.now.numbers number) [])) numbers.now)) }
+    {
         for number in numbers {
-            if let Some(named) = self.numbers.get(number) {
-                tickets.extend_from_slice(named.as_slice())?;
-            }
+            push_named(tickets, &self.numbers, *number)?;
         }
         Ok(())
     }
@@ -88,13 +128,13 @@ impl Arrivals {
         waiting: &HashMap<u64, Waiting>,
         slots: &HashMap<u16, SlotUse>,
         touched: &[Slot],
-    ) -> Result<(), NoMemory> {
+    ) -> Result<(), NoMemory>
+        ensures { OnOk result ((e : ℕ) → is_in e tickets.new.items ≡ (is_in e tickets.old.items || list_any (λ (slot : slot_type).
+            not (bag.contains nat_eq self.now.written slot.0) && (is_writer e (get nat_eq slots.now slot.0) && is_some (get nat_eq waiting.now e))) touched.now)) }
+    {
         for slot in touched {
-            if self.written.contains(&slot.0) {
-                continue;
-            }
-            if let Some(used) = slots.get(&slot.0) {
-                push_waiting(tickets, waiting, used.writer)?;
+            if !self.written.contains(&slot.0) {
+                push_writer(tickets, waiting, slots, *slot)?;
             }
         }
         Ok(())
@@ -107,45 +147,75 @@ impl Arrivals {
         waiting: &HashMap<u64, Waiting>,
         slots: &HashMap<u16, SlotUse>,
         written: &[Slot],
-    ) -> Result<(), NoMemory> {
+    ) -> Result<(), NoMemory>
+        ensures { OnOk result ((e : ℕ) → is_in e tickets.new.items ≡ (is_in e tickets.old.items || list_any (λ (slot : slot_type).
+            not (bag.contains nat_eq self.now.written slot.0) && (is_reader e (get nat_eq slots.now slot.0) && is_some (get nat_eq waiting.now e))) written.now)) }
+    {
         for slot in written {
-            if self.written.contains(&slot.0) {
-                continue;
+            if !self.written.contains(&slot.0) {
+                push_readers(tickets, waiting, slots, *slot)?;
             }
-            if let Some(used) = slots.get(&slot.0) {
-                push_readers(tickets, waiting, used)?;
-            }
-        }
-        Ok(())
-    }
-
-    fn note_number(&mut self, number: u32, ticket: u64) -> Result<(), NoMemory> {
-        if let Some(named) = self.numbers.get_mut(&number) {
-            named.push(ticket)?;
-            return Ok(());
-        }
-        let mut named = Vec::new(self.alloc);
-        named.push(ticket)?;
-        self.numbers.insert(number, named)?;
-        Ok(())
-    }
-
-    fn note_writes(&mut self, slots: &[Slot]) -> Result<(), NoMemory> {
-        for slot in slots {
-            self.written.insert(slot.0)?;
         }
         Ok(())
     }
 }
 
-fn push_waiting(
+fn note_number(
+    alloc: Global,
+    numbers: &mut HashMap<u32, LinkedList<u64>>,
+    number: u32,
+    ticket: u64,
+) -> Result<(), NoMemory>
+    ensures { OnOk result ((n : ℕ) → unwrap_or (get nat_eq numbers.new n) []
+        ≡ unwrap_or (get nat_eq numbers.old n) [] ++ (if number == n then ticket ∷ [] else [])) }
+{
+    if let Some(named) = numbers.get_mut(&number) {
+        named.push_back(ticket)?;
+        return Ok(());
+    }
+    numbers.insert(number, alone(alloc, ticket)?)?;
+    Ok(())
+}
+
+fn note_writes(written: &mut HashSet<u16>, slots: &[Slot]) -> Result<(), NoMemory>
+    ensures { OnOk result ((s : ℕ) → bag.contains nat_eq written.new s ≡ (bag.contains nat_eq written.old s || is_among slots.now (record { 0 = s }))) }
+{
+    for slot in slots {
+        written.insert(slot.0)?;
+    }
+    Ok(())
+}
+
+fn push_named(tickets: &mut Vec<u64>, numbers: &HashMap<u32, LinkedList<u64>>, number: u32) -> Result<(), NoMemory>
+    ensures { OnOk result ((e : ℕ) → is_in e tickets.new.items ≡ (is_in e tickets.old.items || is_in e (unwrap_or (get nat_eq numbers.now number) []))) }
+{
+    if let Some(named) = numbers.get(&number) {
+        push_all(tickets, named)?;
+    }
+    Ok(())
+}
+
+fn push_all(tickets: &mut Vec<u64>, more: &LinkedList<u64>) -> Result<(), NoMemory>
+    ensures { OnOk result (tickets.new.items ≡ tickets.old.items ++ more.now) }
+{
+    for ticket in more.iter() {
+        tickets.push(*ticket)?;
+    }
+    Ok(())
+}
+
+fn push_writer(
     tickets: &mut Vec<u64>,
     waiting: &HashMap<u64, Waiting>,
-    writer: Option<u64>,
-) -> Result<(), NoMemory> {
-    if let Some(ticket) = writer {
-        if waiting.contains_key(&ticket) {
-            tickets.push(ticket)?;
+    slots: &HashMap<u16, SlotUse>,
+    slot: Slot,
+) -> Result<(), NoMemory>
+    ensures { OnOk result ((e : ℕ) → is_in e tickets.new.items
+        ≡ (is_in e tickets.old.items || (is_writer e (get nat_eq slots.now slot.0) && is_some (get nat_eq waiting.now e)))) }
+{
+    if let Some(used) = slots.get(&slot.0) {
+        if let Some(writer) = used.writer {
+            push_kept(tickets, waiting, writer)?;
         }
     }
     Ok(())
@@ -154,15 +224,44 @@ fn push_waiting(
 fn push_readers(
     tickets: &mut Vec<u64>,
     waiting: &HashMap<u64, Waiting>,
-    used: &SlotUse,
-) -> Result<(), NoMemory> {
-    for reader in used.readers.iter() {
-        push_waiting(tickets, waiting, Some(*reader))?;
+    slots: &HashMap<u16, SlotUse>,
+    slot: Slot,
+) -> Result<(), NoMemory>
+    ensures { OnOk result ((e : ℕ) → is_in e tickets.new.items
+        ≡ (is_in e tickets.old.items || (is_reader e (get nat_eq slots.now slot.0) && is_some (get nat_eq waiting.now e)))) }
+{
+    if let Some(used) = slots.get(&slot.0) {
+        push_each(tickets, waiting, &used.readers)?;
     }
     Ok(())
 }
 
-fn links(alloc: Global, tickets: &[u64], later: u64) -> Result<Vec<Link>, NoMemory> {
+fn push_each(
+    tickets: &mut Vec<u64>,
+    waiting: &HashMap<u64, Waiting>,
+    readers: &LinkedList<u64>,
+) -> Result<(), NoMemory>
+    ensures { OnOk result ((e : ℕ) → is_in e tickets.new.items ≡ (is_in e tickets.old.items || (is_in e readers.now && is_some (get nat_eq waiting.now e)))) }
+{
+    for reader in readers.iter() {
+        push_kept(tickets, waiting, *reader)?;
+    }
+    Ok(())
+}
+
+/// A ticket, where its command waits.
+fn push_kept(tickets: &mut Vec<u64>, waiting: &HashMap<u64, Waiting>, ticket: u64) -> Result<(), NoMemory>
+    ensures { OnOk result ((e : ℕ) → is_in e tickets.new.items ≡ (is_in e tickets.old.items || ((e == ticket) && is_some (get nat_eq waiting.now e)))) }
+{
+    if waiting.contains_key(&ticket) {
+        tickets.push(ticket)?;
+    }
+    Ok(())
+}
+
+fn links(alloc: Global, tickets: &[u64], later: u64) -> Result<Vec<Link>, NoMemory>
+    ensures { IfOk result (λ waits. waits.items ≡ map (link_to later) tickets.now) }
+{
     let mut waits = Vec::with_capacity(alloc, tickets.len())?;
     for earlier in tickets {
         waits.push(Link {
@@ -173,7 +272,9 @@ fn links(alloc: Global, tickets: &[u64], later: u64) -> Result<Vec<Link>, NoMemo
     Ok(waits)
 }
 
-fn readings(alloc: Global, slots: &[Slot], reader: u64) -> Result<Vec<Reading>, NoMemory> {
+fn readings(alloc: Global, slots: &[Slot], reader: u64) -> Result<Vec<Reading>, NoMemory>
+    ensures { IfOk result (λ reads. reads.items ≡ map (reading_of reader) slots.now) }
+{
     let mut reads = Vec::with_capacity(alloc, slots.len())?;
     for slot in slots {
         reads.push(Reading {
@@ -184,7 +285,9 @@ fn readings(alloc: Global, slots: &[Slot], reader: u64) -> Result<Vec<Reading>, 
     Ok(reads)
 }
 
-fn alone(alloc: Global, ticket: u64) -> Result<LinkedList<u64>, NoMemory> {
+fn alone(alloc: Global, ticket: u64) -> Result<LinkedList<u64>, NoMemory>
+    ensures { IfOk result (λ list. list ≡ ticket ∷ []) }
+{
     let mut list = LinkedList::new(alloc);
     list.push_back(ticket)?;
     Ok(list)

@@ -4,6 +4,7 @@
 mod arrivals;
 mod complete;
 mod join;
+mod look;
 mod queue;
 mod slot_use;
 mod tickets;

@@ -7,6 +7,7 @@ ghost use Rattle.nim_queue.specs.Stands.{Stands, command_of, done_with, group_of
 
 use crate::arrivals::{Arrival, Arrivals};
 use crate::complete::free;
+use crate::look::{command_at, group_at};
 use crate::slot_use::SlotUse;
 use crate::tickets::Tickets;
 use crate::waiting::Waiting;
@@ -77,20 +78,14 @@ impl BeforeQueue {
     pub fn command(&self, ticket: u64) -> Option<&Command>
         ensures { (groups : List group_type) (done : ℕ → Bool) → Stands self.now groups done → option_copied result ≡ command_of groups done ticket }
     {
-        match self.waiting.get(&ticket) {
-            Some(w) => Some(&w.command),
-            None => None,
-        }
+        command_at(&self.waiting, ticket)
     }
 
     /// Which of the groups given, from 0 on, the command of a ticket is of, while it isn't complete; takes no memory.
     pub fn group(&self, ticket: u64) -> Option<u64>
         ensures { (groups : List group_type) (done : ℕ → Bool) → Stands self.now groups done → result ≡ group_of groups done ticket }
     {
-        match self.waiting.get(&ticket) {
-            Some(w) => Some(w.group),
-            None => None,
-        }
+        group_at(&self.waiting, ticket)
     }
 
     /// The command of a ticket is complete, and leaves. A ticket that was never given changes nothing. Takes no memory.
