@@ -1,7 +1,9 @@
 pub mod Beginning
 pub mod Completing
 pub mod Counting
+pub mod Covering
 pub mod Freeing
+pub mod Linking
 pub mod Lists
 pub mod Looking
 pub mod Released

@@ -1,3 +1,4 @@
 pub mod Arrived
 pub mod Counts
+pub mod Joined
 pub mod Stands

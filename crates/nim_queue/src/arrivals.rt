@@ -1,11 +1,11 @@
-ghost use Rattle.std.specs.Prelude.{◌≡◌, ◌||◌, ◌&&◌, ◌==◌, ◌++◌, ◌∷◌, [], ℕ, not, if◌then◌else◌, false, is_some, map, nat_eq, unwrap_or, IfOk, OnOk};
+ghost use Rattle.std.specs.Prelude.{◌≡◌, ◌+◌, ◌<◌, ◌^◌, length, ◌||◌, ◌&&◌, ◌==◌, ◌++◌, ◌∷◌, [], ℕ, not, if◌then◌else◌, false, is_some, map, nat_eq, unwrap_or, IfOk, OnOk};
 ghost use Rattle.std.specs.HashMap.{get};
 ghost use Rattle.std.specs.HashSet as bag;
 ghost use Rattle.std.specs.List.{list_any};
 ghost use Rattle.std.specs.Option.{option_map_or};
 ghost use Rattle.nim_base.specs.declared.number.Slot.{Slot as slot_type};
 ghost use Rattle.nim_command.specs.Slots.{does_write, is_among};
-ghost use Rattle.nim_queue.specs.Arrived.{HasArrived, is_reached, link_to, reading_of};
+ghost use Rattle.nim_queue.specs.Arrived.{HasArrived, HaveArrived, is_reached, link_to, reading_of};
 ghost use Rattle.nim_queue.specs.Counts.{is_in};
 ghost use Rattle.nim_queue.specs.Stands.{is_reader, is_writer};
 
@@ -38,6 +38,27 @@ pub(crate) struct Link {
 pub(crate) struct Reading {
     pub(crate) slot: Slot,
     pub(crate) reader: LinkedList<u64>,
+}
+
+/// The commands of a group, the first with this ticket, behind those that wait.
+pub(crate) fn arrive_all(
+    alloc: Global,
+    waiting: &HashMap<u64, Waiting>,
+    slots: &HashMap<u16, SlotUse>,
+    first: u64,
+    commands: Vec<Command>,
+) -> Result<Vec<Arrival>, NoMemory>
+    requires { first + length commands.items < 2 ^ 64 }
+    ensures arrived { IfOk result (λ arrived. HaveArrived (get nat_eq waiting.now) (get nat_eq slots.now) first commands.items arrived.items) }
+{
+    let mut arrived = Vec::with_capacity(alloc, commands.len())?;
+    let mut arrivals = Arrivals::new(alloc);
+    let mut ticket = first;
+    for command in commands {
+        arrived.push(arrivals.arrive(waiting, slots, ticket, command)?)?;
+        ticket += 1;
+    }
+    Ok(arrived)
 }
 
 /// What a group has so far: the tickets by the commands' numbers, and the slots that are written.

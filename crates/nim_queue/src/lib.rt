@@ -6,6 +6,7 @@ mod complete;
 mod join;
 mod look;
 mod queue;
+mod room;
 mod slot_use;
 mod tickets;
 mod waiting;

@@ -5,16 +5,18 @@ ghost use Rattle.nim_command.specs.Waits.{Group as group_type, placed_commands};
 ghost use Rattle.nim_order.specs.Progress.{IsReleasedAt};
 ghost use Rattle.nim_queue.specs.Stands.{Stands, command_of, done_with, group_of, nothing_done, ready_of};
 
-use crate::arrivals::{Arrival, Arrivals};
+use crate::arrivals::{Arrival, arrive_all};
 use crate::complete::free;
+use crate::join::{follow, read, write};
 use crate::look::{command_at, group_at};
+use crate::room::{count_all, cover_all};
 use crate::slot_use::SlotUse;
 use crate::tickets::Tickets;
 use crate::waiting::Waiting;
 use nim_base::NoMemory;
 use nim_command::Command;
 use std::alloc::Global;
-use std::collections::HashMap;
+use std::collections::{HashMap, LinkedList};
 
 /// Commands that wait for others: those of their group that their before sets name, and those of earlier groups that
 /// they meet in a slot. The ticket of a command is its place in the order given. Which groups a queue stands for,
@@ -28,6 +30,8 @@ pub struct BeforeQueue {
     pub(crate) slots: HashMap<u16, SlotUse>,
     /// Those that wait for nothing.
     pub(crate) released: Tickets,
+    /// No list of followers or readers is longer.
+    links: u64,
     /// How many commands and groups were given.
     pub(crate) given: u64,
     groups: u64,
@@ -43,6 +47,7 @@ impl BeforeQueue {
             waiting: HashMap::new(alloc),
             slots: HashMap::new(alloc),
             released: Tickets::new(alloc),
+            links: 0,
             given: 0,
             groups: 0,
         }
@@ -58,8 +63,10 @@ impl BeforeQueue {
         if group.len() as u64 > u64::MAX - self.given || self.groups == u64::MAX {
             return Err(NoMemory);
         }
-        let arrived = self.arrive(group)?;
+        let arrived = arrive_all(self.alloc, &self.waiting, &self.slots, self.given, group)?;
+        let links = count_all(self.links, arrived.as_slice())?;
         self.make_room(arrived.as_slice())?;
+        self.links = links;
         self.join_all(arrived);
         Ok(())
     }
@@ -95,37 +102,46 @@ impl BeforeQueue {
         free(&mut self.waiting, &mut self.released, ticket);
     }
 
-    /// What the commands of a group wait for.
-    fn arrive(&self, group: Vec<Command>) -> Result<Vec<Arrival>, NoMemory> {
-        let mut arrived = Vec::with_capacity(self.alloc, group.len())?;
-        let mut arrivals = Arrivals::new(self.alloc);
-        let mut ticket = self.given;
-        for command in group {
-            arrived.push(arrivals.arrive(&self.waiting, &self.slots, ticket, command)?)?;
-            ticket = ticket.wrapping_add(1);
-        }
-        Ok(arrived)
-    }
-
-    fn make_room(&mut self, arrived: &[Arrival]) -> Result<(), NoMemory> {
-        let mut touched = 0usize;
-        for arrival in arrived {
-            let kind = &arrival.command.kind;
-            touched = touched
-                .saturating_add(kind.reads().len())
-                .saturating_add(kind.writes().len());
-        }
-        self.slots.reserve(touched)?;
+    /// Room for what has arrived.
+    fn make_room(&mut self, arrived: &[Arrival]) -> Result<(), NoMemory>
+    {
+        cover_all(self.alloc, &mut self.slots, arrived)?;
         self.waiting.reserve(arrived.len())?;
         self.released
             .make_room(self.waiting.len().saturating_add(arrived.len()))
     }
 
-    fn join_all(&mut self, arrived: Vec<Arrival>) {
-        let group = self.groups;
+    fn join_all(&mut self, arrived: Vec<Arrival>)
+    {
         for arrival in arrived {
-            self.join(group, arrival);
+            self.join(arrival);
         }
         self.groups = self.groups.wrapping_add(1);
+    }
+
+    /// Takes in a command that has arrived, for which there is room.
+    fn join(&mut self, arrival: Arrival)
+        requires tickets { self.old.given + 1 < 2 ^ 64 }
+    {
+        let Arrival {
+            command,
+            waits,
+            reads,
+        } = arrival;
+        let pending = waits.len() as u64;
+        follow(&mut self.waiting, waits);
+        write(&mut self.slots, command.kind.writes(), self.given);
+        read(&mut self.slots, reads);
+        if pending == 0 {
+            self.released.put(self.given);
+        }
+        let w = Waiting {
+            group: self.groups,
+            command,
+            pending,
+            followers: LinkedList::new(self.alloc),
+        };
+        let _ = self.waiting.insert(self.given, w);
+        self.given += 1;
     }
 }

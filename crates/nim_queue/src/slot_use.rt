@@ -1,3 +1,5 @@
+ghost use Rattle.std.specs.Prelude.{◌≡◌, [], None};
+
 use std::alloc::Global;
 use std::collections::LinkedList;
 
@@ -11,7 +13,9 @@ pub(crate) struct SlotUse {
 
 impl SlotUse {
     /// Nobody uses it.
-    pub(crate) fn new(alloc: Global) -> SlotUse {
+    pub(crate) fn new(alloc: Global) -> SlotUse
+        ensures { result ≡ record { writer = None; readers = [] } }
+    {
         SlotUse {
             writer: None,
             readers: LinkedList::new(alloc),
