@@ -1,9 +1,13 @@
 -- Slots that get a use that nobody has.
-use Rattle.std.proofs.Common.{◌≡◌, ℕ, ◌≤◌, Bool, true, false, List, [], ◌∷◌, length, refl, ap, sym, ◌∙◌, arith, Option, None, Some, is_some}
+use Rattle.std.proofs.Common.{◌≡◌, ℕ, ◌+◌, ◌<◌, ◌≤◌, Bool, true, false, List, [], ◌∷◌, ◌++◌, get_or, length, take, refl, ap, sym, ◌∙◌, arith, Option, None, Some, is_some}
 use Rattle.std.specs.Prelude.{◌==◌, if◌then◌else◌, unwrap_or}
 use Rattle.std.specs.List.{list_all}
 use Rattle.std.proofs.lemmas.Bool.{and_from, and_parts, false≢true}
-use Rattle.nim_queue.specs.Joined.{AreBrief, HaveSameUses}
+use Rattle.std.proofs.lemmas.List.{take_more}
+use Rattle.nim_base.specs.declared.number.Slot.{Slot}
+use Rattle.nim_command.specs.Slots.{reads_of, writes_of}
+use Rattle.nim_queue.specs.declared.arrivals.Arrival.{Arrival}
+use Rattle.nim_queue.specs.Joined.{AreBrief, HaveSameUses, are_covered}
 use Rattle.nim_queue.specs.Stands.{is_reader, is_writer}
 use Rattle.nim_queue.specs.declared.slot_use.SlotUse.{SlotUse}
 
@@ -57,3 +61,19 @@ pub all_stay : {X : Type 0} (p q : X → Bool) (xs : List X) → ((x : X) → p 
 all_stay p q [] stays all = refl
 all_stay p q (x ∷ xs) stays all =
     let parts = and_parts (p x) (list_all p xs) all in and_from (q x) (list_all q xs) (stays x parts.0) (all_stay p q xs stays parts.1)
+
+pub all_more : {X : Type 0} (p : X → Bool) (xs : List X) (i : ℕ) (d : X) → i < length xs → list_all p (take i xs) ≡ true → p (get_or xs i d) ≡ true
+    → list_all p (take (i + 1) xs) ≡ true
+all_more {X} p xs i d within all last = ap (list_all p) (take_more xs i d within) ∙ by (take i xs) all where
+  by : (ys : List X) → list_all p ys ≡ true → list_all p (ys ++ get_or xs i d ∷ []) ≡ true
+  by [] all = and_from (p (get_or xs i d)) true last refl
+  by (y ∷ ys) all = let parts = and_parts (p y) (list_all p ys) all in and_from (p y) (list_all p (ys ++ get_or xs i d ∷ [])) parts.0 (by ys parts.1)
+
+pub covered_still : (old new : ℕ → Option SlotUse) (a : Arrival) → HaveSameUses old new → are_covered old a ≡ true → are_covered new a ≡ true
+covered_still old new a same all =
+    let was : Slot → Bool = λ slot. is_some (old slot.0) in
+    let now : Slot → Bool = λ slot. is_some (new slot.0) in
+    let stays : (slot : Slot) → was slot ≡ true → now slot ≡ true = λ slot there. same.stays slot.0 there in
+    let parts = and_parts (list_all was (reads_of a.command.kind)) (list_all was (writes_of a.command.kind)) all in
+    and_from (list_all now (reads_of a.command.kind)) (list_all now (writes_of a.command.kind)) (all_stay was now (reads_of a.command.kind) stays parts.0)
+    (all_stay was now (writes_of a.command.kind) stays parts.1)

@@ -1,8 +1,10 @@
+pub mod Arriving
 pub mod Beginning
 pub mod Completing
 pub mod Counting
 pub mod Covering
 pub mod Freeing
+pub mod Joining
 pub mod Linking
 pub mod Lists
 pub mod Looking

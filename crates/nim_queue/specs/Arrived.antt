@@ -1,5 +1,5 @@
 -- Commands of a group that come behind those that wait: whom each of them waits for.
-use Rattle.std.specs.Prelude.{◌≡◌, ℕ, ◌+◌, ◌==◌, Bool, not, ◌&&◌, ◌||◌, if◌then◌else◌, List, [], ◌∷◌, ◌++◌, length, map, take, Option, Some, is_some, slice_get}
+use Rattle.std.specs.Prelude.{◌≡◌, ℕ, ◌+◌, ◌==◌, Bool, not, ◌&&◌, ◌||◌, if◌then◌else◌, List, [], ◌∷◌, ◌++◌, length, map, Option, is_some}
 use Rattle.std.specs.List.{list_any}
 use Rattle.nim_base.specs.declared.number.Slot.{Slot}
 use Rattle.nim_command.specs.declared.command.Command.{Command}
@@ -56,20 +56,21 @@ is_reached sight command ticket =
     || is_met sight is_reader (writes_of command.kind) ticket
 
 -- A command has arrived with this ticket.
-pub record HasArrived (sight : Sight) (ticket : ℕ) (command : Command) (arrival : Arrival) : Type 0 where
-  pub same : arrival.command ≡ command
-  pub reads : arrival.reads.items ≡ map (reading_of ticket) (reads_of command.kind)
+pub record HasArrived (sight : Sight) (ticket : ℕ) (arrival : Arrival) : Type 0 where
+  pub reads : arrival.reads.items ≡ map (reading_of ticket) (reads_of arrival.command.kind)
   pub waits : List ℕ
   pub links : arrival.waits.items ≡ map (link_to ticket) waits
-  pub reached : (earlier : ℕ) → is_in earlier waits ≡ is_reached sight command earlier
+  pub reached : (earlier : ℕ) → is_in earlier waits ≡ is_reached sight arrival.command earlier
 
 -- what the next command of a group is held against, when these have arrived
 abbrev pub sight_of : (ℕ → Option Waiting) → (ℕ → Option SlotUse) → ℕ → List Command → Sight
 sight_of kept used first past = record { kept = kept; used = used; named = named_in first past; written = is_written_in past }
 
--- Each command of a group has arrived behind the ones before it.
+-- Commands of a group have arrived behind these ones of it, each behind the ones before it.
 abbrev pub HaveArrived : (ℕ → Option Waiting) → (ℕ → Option SlotUse) → ℕ → List Command → List Arrival → Type 0
-HaveArrived kept used first commands arrived =
-    (length arrived ≡ length commands)
-    × ((place : ℕ) (command : Command) (arrival : Arrival) → slice_get commands place ≡ Some command → slice_get arrived place ≡ Some arrival
-    → HasArrived (sight_of kept used first (take place commands)) (first + place) command arrival)
+HaveArrived kept used first past [] = Unit {0}
+HaveArrived kept used first past (a ∷ rest) =
+    HasArrived (sight_of kept used first past) (first + length past) a × HaveArrived kept used first (past ++ a.command ∷ []) rest
+
+abbrev pub commands_of : List Arrival → List Command
+commands_of arrived = map (λ (a : Arrival). a.command) arrived

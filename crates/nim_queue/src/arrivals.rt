@@ -5,7 +5,7 @@ ghost use Rattle.std.specs.List.{list_any};
 ghost use Rattle.std.specs.Option.{option_map_or};
 ghost use Rattle.nim_base.specs.declared.number.Slot.{Slot as slot_type};
 ghost use Rattle.nim_command.specs.Slots.{does_write, is_among};
-ghost use Rattle.nim_queue.specs.Arrived.{HasArrived, HaveArrived, is_reached, link_to, reading_of};
+ghost use Rattle.nim_queue.specs.Arrived.{HasArrived, HaveArrived, commands_of, is_reached, link_to, reading_of};
 ghost use Rattle.nim_queue.specs.Counts.{is_in};
 ghost use Rattle.nim_queue.specs.Stands.{is_reader, is_writer};
 
@@ -49,7 +49,8 @@ pub(crate) fn arrive_all(
     commands: Vec<Command>,
 ) -> Result<Vec<Arrival>, NoMemory>
     requires { first + length commands.items < 2 ^ 64 }
-    ensures arrived { IfOk result (λ arrived. HaveArrived (get nat_eq waiting.now) (get nat_eq slots.now) first commands.items arrived.items) }
+    ensures commands { IfOk result (λ arrived. commands_of arrived.items ≡ commands.items) }
+    ensures arrived { IfOk result (λ arrived. HaveArrived (get nat_eq waiting.now) (get nat_eq slots.now) first [] arrived.items) }
 {
     let mut arrived = Vec::with_capacity(alloc, commands.len())?;
     let mut arrivals = Arrivals::new(alloc);
@@ -90,10 +91,11 @@ impl Arrivals {
         ticket: u64,
         command: Command,
     ) -> Result<Arrival, NoMemory>
+        ensures same { IfOk result (λ a. a.command ≡ command) }
         ensures arrival { IfOk result (λ a. HasArrived
             (record { kept = get nat_eq waiting.now; used = get nat_eq slots.now;
               named = λ n. unwrap_or (get nat_eq self.old.numbers n) []; written = bag.contains nat_eq self.old.written })
-            ticket command a) }
+            ticket a) }
         ensures numbers { OnOk result ((n : ℕ) → unwrap_or (get nat_eq self.new.numbers n) []
             ≡ unwrap_or (get nat_eq self.old.numbers n) [] ++ (if command.id == n then ticket ∷ [] else [])) }
         ensures written { OnOk result ((s : ℕ) → bag.contains nat_eq self.new.written s

@@ -23,9 +23,21 @@ pub(crate) fn cover_all(
     ensures covered { OnOk result (list_all (are_covered (get nat_eq slots.new)) arrived.now ≡ true) }
 {
     for arrival in arrived {
-        cover(alloc, slots, arrival.command.kind.reads())?;
-        cover(alloc, slots, arrival.command.kind.writes())?;
+        cover_arrival(alloc, slots, arrival)?;
     }
+    Ok(())
+}
+
+fn cover_arrival(
+    alloc: Global,
+    slots: &mut HashMap<u16, SlotUse>,
+    arrival: &Arrival,
+) -> Result<(), NoMemory>
+    ensures same { HaveSameUses (get nat_eq slots.old) (get nat_eq slots.new) }
+    ensures covered { OnOk result (are_covered (get nat_eq slots.new) arrival.now ≡ true) }
+{
+    cover(alloc, slots, arrival.command.kind.reads())?;
+    cover(alloc, slots, arrival.command.kind.writes())?;
     Ok(())
 }
 
@@ -59,9 +71,9 @@ fn cover_one(
 
 /// How long lists of followers or readers may be at most with these.
 pub(crate) fn count_all(links: u64, arrived: &[Arrival]) -> Result<u64, NoMemory>
-    ensures { IfOk result (λ count. (count ≡ links + counted arrived.now)) }
-    ensures few { IfOk result (λ count. count < 2 ^ 62) }
     requires { links < 2 ^ 62 }
+    ensures count { IfOk result (λ count. count ≡ links + counted arrived.now) }
+    ensures few { IfOk result (λ count. count < 2 ^ 62) }
 {
     let mut count = links;
     for arrival in arrived {
@@ -71,7 +83,7 @@ pub(crate) fn count_all(links: u64, arrived: &[Arrival]) -> Result<u64, NoMemory
 }
 
 fn count_one(links: u64, arrival: &Arrival) -> Result<u64, NoMemory>
-    ensures { IfOk result (λ count. count ≡ links + (length arrival.now.waits.items + length arrival.now.reads.items)) }
+    ensures count { IfOk result (λ count. count ≡ links + (length arrival.now.waits.items + length arrival.now.reads.items)) }
     ensures few { IfOk result (λ count. count < 2 ^ 62) }
 {
     let more = (arrival.waits.len() as u64).saturating_add(arrival.reads.len() as u64);
