@@ -4,6 +4,7 @@ use Rattle.std.specs.HashMap.{get}
 use Rattle.std.specs.List.{filter, range_with_len}
 use Rattle.std.specs.Option.{option_map, option_map_or}
 use Rattle.std.specs.Prelude.{◌&&◌, ◌+◌, Bool, drop, is_some, length, slice_get}
+use Rattle.std.proofs.lemmas.Bool.{false≢true}
 use Rattle.std.proofs.lemmas.Option.{slice_get_past}
 use Rattle.nim_base.specs.declared.number.Slot.{Slot}
 use Rattle.nim_command.specs.declared.command.Kind.{Kind}
@@ -33,6 +34,8 @@ begun queue gone unused released given groups =
       };
       written = λ t s now. ap (is_writer t) (unused s) ∙ sym (ap (λ (o : Option Member). last does_write t s o) (absent t));
       read = λ t s now. ap (is_reader t) (unused s) ∙ sym (ap (λ (o : Option Member). last does_read t s o) (absent t));
+      short = λ t w got. absurd (false≢true (ap is_some (sym (gone t) ∙ got)));
+      brief = λ s u got. absurd (false≢true (ap is_some (sym (unused s) ∙ got)));
       given = given;
       numbered = groups;
       later = λ t from. refl;

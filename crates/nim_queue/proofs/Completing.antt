@@ -1,13 +1,13 @@
 -- What a queue stands for after a command is complete.
-use Rattle.std.proofs.Common.{◌≡◌, ℕ, zero, suc, ◌+◌, ◌-◌, ◌<◌, Bool, true, false, not, List, [], ◌∷◌, length, refl, ap, ap₂, sym, subst, ◌∙◌, ◌⊎◌, arith, Option, None, Some, inl, inr}
-use Rattle.std.specs.Prelude.{◌==◌, ◌&&◌, ◌||◌, if◌then◌else◌, is_some, nat_eq, nat_lt, slice_get}
+use Rattle.std.proofs.Common.{◌≡◌, ℕ, zero, suc, ◌+◌, ◌-◌, ◌<◌, ◌≤◌, Bool, true, false, not, List, [], ◌∷◌, length, refl, ap, ap₂, sym, subst, ◌∙◌, ◌⊎◌, arith, Option, None, Some, inl, inr}
+use Rattle.std.specs.Prelude.{◌==◌, ◌&&◌, ◌||◌, if◌then◌else◌, is_some, nat_eq, nat_lt, slice_get, unwrap_or}
 use Rattle.std.specs.HashMap.{get}
 use Rattle.std.specs.List.{filter}
 use Rattle.std.specs.Option.{option_map}
 use Rattle.std.proofs.lemmas.Bool.{cases_lt, eqb-true, false≢true, le-ltb, lt-ltb, ne_eqb, or_from, or_parts}
 use Rattle.std.proofs.Math.Path.{fun_ext}
 use Rattle.nim_command.specs.Waits.{Group, Member, members_of, waits_of}
-use Rattle.nim_queue.specs.Counts.{AreReleased, fewer, is_in, times}
+use Rattle.nim_queue.specs.Counts.{AreBrief, AreReleased, fewer, is_in, times}
 use Rattle.nim_queue.specs.Stands.{Stands, count_of, done_with, is_reader, is_writer, kept_at, open_waits}
 use Rattle.nim_queue.specs.declared.queue.BeforeQueue.{BeforeQueue}
 use Rattle.nim_queue.specs.declared.waiting.Waiting.{Waiting}
@@ -64,12 +64,21 @@ found_kept waits followers u w false (Some m) is = (refl, ap (λ (x : Option Wai
   followers_of None = []
   followers_of (Some x) = x.followers
 
+-- counting down leaves the followers
+still_short : (k most : ℕ) (o : Option Waiting) (v : Waiting) (b : Bool) → ((x : Waiting) → o ≡ Some x → length x.followers ≤ most)
+    → option_map (fewer k) (if b then None else o) ≡ Some v → length v.followers ≤ most
+still_short k most o v true short is = absurd (false≢true (ap is_some is))
+still_short k most None v false short is = absurd (false≢true (ap is_some is))
+still_short k most (Some x) v false short is =
+    let same : v ≡ fewer k x = ap (λ (p : Option Waiting). unwrap_or p x) (sym is) in
+    subst (λ (ts : List ℕ). length ts ≤ most) (sym (ap (λ (y : Waiting). y.followers) same)) (short x refl)
+
 pub completed : (old new : BeforeQueue) (groups : List Group) (done : ℕ → Bool) (u : ℕ) (w : Waiting) → Stands old groups done
     → get nat_eq old.waiting u ≡ Some w
     → ((t : ℕ) → get nat_eq new.waiting t ≡ option_map (fewer (times t w.followers)) (if u == t then None else get nat_eq old.waiting t))
     → AreReleased (get nat_eq new.waiting) new.released old.given → ((s : ℕ) → get nat_eq new.slots s ≡ get nat_eq old.slots s)
-    → new.given ≡ old.given → new.groups ≡ old.groups → Stands new groups (done_with groups done u)
-completed old new groups done u w stands found waiting released slots given numbered =
+    → new.links ≡ old.links → new.given ≡ old.given → new.groups ≡ old.groups → Stands new groups (done_with groups done u)
+completed old new groups done u w stands found waiting released slots links given numbered =
     let members : List Member = members_of groups in
     let facts = found_kept stands.waits stands.followers u w (done u) (slice_get members u) (sym (stands.kept u) ∙ found) in
     let was : (t : ℕ) → with_one done u t ≡ false → done t ≡ false = λ t now. (or_parts (done t) (u == t) now).0 in
@@ -85,6 +94,10 @@ completed old new groups done u w stands found waiting released slots given numb
       released = subst (λ (n : ℕ). AreReleased (get nat_eq new.waiting) new.released n) (sym given) released;
       written = λ t s now. ap (is_writer t) (slots s) ∙ stands.written t s (was t now);
       read = λ t s now. ap (is_reader t) (slots s) ∙ stands.read t s (was t now);
+      short = λ t v got.
+          subst (λ (most : ℕ). length v.followers ≤ most) (sym links)
+          (still_short (times t w.followers) old.links (get nat_eq old.waiting t) v (u == t) (λ x is. stands.short t x is) (sym (waiting t) ∙ got));
+      brief = λ s v got. subst (λ (most : ℕ). length v.readers ≤ most) (sym links) (stands.brief s v (sym (slots s) ∙ got));
       given = given ∙ stands.given;
       numbered = numbered ∙ stands.numbered;
       later = λ place from. or_from (done place) (u == place) (stands.later place from) (ne_eqb u place (λ is. omega (arith, is, from, inside)));
@@ -116,17 +129,22 @@ option_cases (Some x) = inr (x, refl)
 
 -- a queue that has the same commands, slots and counts
 pub stands_still : (old new : BeforeQueue) (groups : List Group) (done : ℕ → Bool) → Stands old groups done
-    → ((t : ℕ) → get nat_eq new.waiting t ≡ get nat_eq old.waiting t) → ((s : ℕ) → get nat_eq new.slots s ≡ get nat_eq old.slots s)
-    → AreReleased (get nat_eq new.waiting) new.released old.given → new.given ≡ old.given → new.groups ≡ old.groups → Stands new groups done
-stands_still old new groups done stands waiting slots released given numbered = record {
+    → ((t : ℕ) → get nat_eq new.waiting t ≡ get nat_eq old.waiting t)
+    → ((t s : ℕ) → is_writer t (get nat_eq new.slots s) ≡ is_writer t (get nat_eq old.slots s))
+    → ((t s : ℕ) → is_reader t (get nat_eq new.slots s) ≡ is_reader t (get nat_eq old.slots s))
+    → AreReleased (get nat_eq new.waiting) new.released old.given → AreBrief (get nat_eq new.slots) new.links → new.links ≡ old.links
+    → new.given ≡ old.given → new.groups ≡ old.groups → Stands new groups done
+stands_still old new groups done stands waiting written read released brief links given numbered = record {
   waits = stands.waits;
   followers = stands.followers;
   kept = λ t. waiting t ∙ stands.kept t;
   left = stands.left;
   mirrored = stands.mirrored;
   released = subst (λ (n : ℕ). AreReleased (get nat_eq new.waiting) new.released n) (sym given) released;
-  written = λ t s now. ap (is_writer t) (slots s) ∙ stands.written t s now;
-  read = λ t s now. ap (is_reader t) (slots s) ∙ stands.read t s now;
+  written = λ t s now. written t s ∙ stands.written t s now;
+  read = λ t s now. read t s ∙ stands.read t s now;
+  short = λ t w got. subst (λ (most : ℕ). length w.followers ≤ most) (sym links) (stands.short t w (sym (waiting t) ∙ got));
+  brief = brief;
   given = given ∙ stands.given;
   numbered = numbered ∙ stands.numbered;
   later = stands.later;

@@ -5,7 +5,7 @@ use Rattle.std.specs.HashMap.{get}
 use Rattle.std.specs.List.{filter, list_any, range_with_len}
 use Rattle.std.specs.Option.{option_map, option_map_or}
 use Rattle.std.proofs.lemmas.Bool.{cases_eq, cases_lt, eq-eqb, eqb-true, false≢true, ne_eqb}
-use Rattle.std.proofs.lemmas.List.{append-nil, drop-append-le, drop_at, length-append}
+use Rattle.std.proofs.lemmas.List.{drop-append-le, drop_all, length-append}
 use Rattle.std.proofs.lemmas.List.Elements.{filter-append}
 use Rattle.std.proofs.lemmas.List.Folds.{list_any-append}
 use Rattle.std.proofs.lemmas.Option.{slice_get_past}
@@ -24,6 +24,7 @@ use Rattle.nim_queue.specs.declared.queue.BeforeQueue.{BeforeQueue}
 use Rattle.nim_queue.specs.declared.waiting.Waiting.{Waiting}
 use Rattle.nim_queue.proofs.Lists.{get_at}
 use Rattle.nim_queue.proofs.Looking.{waits_none}
+use Rattle.nim_queue.proofs.Counting.{in_filter}
 
 -- one that isn't among tickets is there no time
 no_times : (t : ℕ) (xs : List ℕ) → is_in t xs ≡ false → times t xs ≡ 0
@@ -66,10 +67,10 @@ kept_joined waits followers more n t false None kept is = ap (option_map (follow
 kept_joined waits followers more n t false (Some m) kept is = ap (option_map (followed (more t))) is
 
 copies : (n t : ℕ) (d : List ℕ) (l : ℕ) → times l (gathered t (map (link_to n) d)) ≡ (if l == n then times t d else 0)
-copies n t [] l = none (l == n) where
-  none : (b : Bool) → 0 ≡ (if b then 0 else 0)
-  none true = refl
-  none false = refl
+copies n t [] l = none (l == n) 0 where
+  none : (b : Bool) (k : ℕ) → k ≡ (if b then k else k)
+  none true k = refl
+  none false k = refl
 copies n t (e ∷ d) l = by (e == t) (same_ways e t) (l == n) refl (copies n t d l) where
   same_ways : (a b : ℕ) → (a == b) ≡ (b == a)
   same_ways a b =
@@ -85,3 +86,101 @@ copies n t (e ∷ d) l = by (e == t) (same_ways e t) (l == n) refl (copies n t d
       ∙ rest
   by false is true here rest = rest ∙ ap (λ (x : Bool). length (if x then e ∷ filter (λ o. t == o) d else filter (λ o. t == o) d)) is
   by false is false here rest = rest
+
+last_joined : (uses : Kind → Slot → Bool) (all : List Member) (m : Member) (t : ℕ) (slot : Slot) → (length all == t) ≡ false
+    → does_use_last uses (all ++ m ∷ []) t slot ≡ (does_use_last uses all t slot && not (does_write m.command.kind slot))
+last_joined uses all m t slot other =
+    elim (cases_lt t (length all)) [
+      | inl within ↦
+          let at : List Member → Option Member → Bool =
+          λ rest o. option_map_or (λ (x : Member). uses x.command.kind slot && not (is_written_by rest slot)) o false in
+          ap₂ at (drop-append-le (t + 1) all (m ∷ []) (omega (arith, within))) (beside all m t other)
+          ∙ split_at (slice_get all t) (drop (t + 1) all)
+      | inr past ↦
+          let none : slice_get all t ≡ None = slice_get_past all t past in
+          let at : List Member → Option Member → Bool =
+          λ rest o. option_map_or (λ (x : Member). uses x.command.kind slot && not (is_written_by rest slot)) o false in
+          ap (at (drop (t + 1) (all ++ m ∷ []))) (beside all m t other ∙ none)
+          ∙ sym (ap (λ (o : Option Member). at (drop (t + 1) all) o && not (does_write m.command.kind slot)) none)
+    ]
+  where
+    three : (a b c : Bool) → (a && not (b || (c || false))) ≡ ((a && not b) && not c)
+    three true true c = refl
+    three true false true = refl
+    three true false false = refl
+    three false b c = refl
+    split_at : (o : Option Member) (rest : List Member)
+        → option_map_or (λ (x : Member). uses x.command.kind slot && not (is_written_by (rest ++ m ∷ []) slot)) o false
+        ≡ (option_map_or (λ (x : Member). uses x.command.kind slot && not (is_written_by rest slot)) o false && not (does_write m.command.kind slot))
+    split_at None rest = refl
+    split_at (Some x) rest =
+        ap (λ (b : Bool). uses x.command.kind slot && not b) (list_any-append (λ (k : Member). does_write k.command.kind slot) rest (m ∷ []))
+        ∙ three (uses x.command.kind slot) (is_written_by rest slot) (does_write m.command.kind slot)
+
+last_new : (uses : Kind → Slot → Bool) (all : List Member) (m : Member) (t : ℕ) (slot : Slot) → length all ≡ t
+    → does_use_last uses (all ++ m ∷ []) t slot ≡ uses m.command.kind slot
+last_new uses all m t slot is =
+    let at : List Member → Option Member → Bool =
+    λ rest o. option_map_or (λ (x : Member). uses x.command.kind slot && not (is_written_by rest slot)) o false in
+    let none : drop (t + 1) (all ++ m ∷ []) ≡ [] = drop_all (t + 1) (all ++ m ∷ []) (omega (arith, is, length-append all (m ∷ []))) in
+    ap₂ at none (ap (slice_get (all ++ m ∷ [])) (sym is) ∙ get_at all [] m) ∙ and_true (uses m.command.kind slot)
+  where
+    and_true : (b : Bool) → (b && true) ≡ b
+    and_true true = refl
+    and_true false = refl
+
+-- a place behind all has no use
+unused_past : (uses : Kind → Slot → Bool) (all : List Member) (t : ℕ) (slot : Slot) → length all ≤ t → does_use_last uses all t slot ≡ false
+unused_past uses all t slot past =
+    ap (λ (o : Option Member). option_map_or (λ (x : Member). uses x.command.kind slot && not (is_written_by (drop (t + 1) all) slot)) o false)
+    (slice_get_past all t past)
+
+written_joined : (dw same old new last : Bool) → new ≡ (if dw then same else old) → (same ≡ true → old ≡ false) → (same ≡ true → last ≡ dw)
+    → (same ≡ false → last ≡ (old && not dw)) → new ≡ last
+written_joined true true old new last is none here other = is ∙ sym (here refl)
+written_joined false true old new last is none here other = is ∙ none refl ∙ sym (here refl)
+written_joined true false old new last is none here other = is ∙ sym (and_false old) ∙ sym (other refl) where
+  and_false : (b : Bool) → (b && false) ≡ false
+  and_false true = refl
+  and_false false = refl
+written_joined false false old new last is none here other = is ∙ sym (and_true old) ∙ sym (other refl) where
+  and_true : (b : Bool) → (b && true) ≡ b
+  and_true true = refl
+  and_true false = refl
+
+read_joined : (dw dr same old new last : Bool) → new ≡ ((not dw && old) || (same && dr)) → (same ≡ true → old ≡ false) → (same ≡ true → last ≡ dr)
+    → (same ≡ false → last ≡ (old && not dw)) → new ≡ last
+read_joined dw dr true old new last is none here other =
+    is ∙ ap (λ (b : Bool). (not dw && b) || dr) (none refl) ∙ dropped dw dr ∙ sym (here refl)
+  where
+    dropped : (a b : Bool) → ((not a && false) || b) ≡ b
+    dropped true b = refl
+    dropped false b = refl
+read_joined dw dr false old new last is none here other = is ∙ swapped dw old ∙ sym (other refl) where
+  swapped : (a b : Bool) → ((not a && b) || false) ≡ (b && not a)
+  swapped true true = refl
+  swapped true false = refl
+  swapped false true = refl
+  swapped false false = refl
+
+-- nothing waits for a command that isn't there
+none_waits : (all : List Member) (done : ℕ → Bool) (t e : ℕ) → slice_get all t ≡ None → is_in e (open_waits all done t) ≡ false
+none_waits all done t e none = ap (λ (ts : List ℕ). is_in e (filter (λ x. not (done x)) ts)) (waits_none all t none)
+
+-- nobody waits for one that is yet to come
+not_awaited : (all : List Member) (done : ℕ → Bool) (n t : ℕ) → length all ≤ n → is_in n (open_waits all done t) ≡ false
+not_awaited all done n t past =
+    elim (cases_lt t (length all)) [
+      | inl within ↦
+          in_filter (λ x. not (done x)) n (waits_of all t)
+          ∙ ap (λ (b : Bool). b && not (done n)) (in_filter (waits_for all t) n (range_with_len 0 t) ∙ ap (λ (b : Bool). b && waits_for all t n) (none_in 0 t n (omega (arith, within, past))))
+      | inr behind ↦ none_waits all done t n (slice_get_past all t behind)
+    ]
+  where
+    none_in : (a k n : ℕ) → a + k ≤ n → is_in n (range_with_len a k) ≡ false
+    none_in a zero n past = refl
+    none_in a (suc k) n past =
+        ap₂ (λ (b c : Bool). b || c) (ne_eqb n a (λ is. omega (arith, is, past))) (none_in (a + 1) k n (omega (arith, past)))
+
+times_both : (l : ℕ) (xs ys : List ℕ) → times l (xs ++ ys) ≡ times l xs + times l ys
+times_both l xs ys = ap length (filter-append (λ o. l == o) xs ys) ∙ length-append (filter (λ o. l == o) xs) (filter (λ o. l == o) ys)

@@ -4,6 +4,7 @@ use Rattle.std.specs.List.{filter, list_any, range_with_len}
 use Rattle.std.specs.List.Sorted.{IsNonDecreasingBy}
 use Rattle.std.specs.Option.{option_map_or}
 use Rattle.std.specs.VecDeque.{deque_capacity}
+use Rattle.nim_queue.specs.declared.slot_use.SlotUse.{SlotUse}
 use Rattle.nim_queue.specs.declared.tickets.Tickets.{Tickets}
 use Rattle.nim_queue.specs.declared.waiting.Waiting.{Waiting}
 
@@ -55,3 +56,14 @@ pub record AreReleased (kept : ℕ → Option Waiting) (released : Tickets) (n :
   pub room : length (kept_ones kept n) ≤ deque_capacity released.items
   -- none has a greater number
   pub past : (ticket : ℕ) → n ≤ ticket → kept ticket ≡ None
+
+-- what stands under a number has no list that is longer
+abbrev pub AreWithin : {X : Type 0} → (X → List ℕ) → (ℕ → Option X) → ℕ → Type 0
+AreWithin {X} own kept most = (number : ℕ) (x : X) → kept number ≡ Some x → length (own x) ≤ most
+
+-- no waiting command has more followers, and no slot more readers
+abbrev pub AreShort : (ℕ → Option Waiting) → ℕ → Type 0
+AreShort = AreWithin (λ (w : Waiting). w.followers)
+
+abbrev pub AreBrief : (ℕ → Option SlotUse) → ℕ → Type 0
+AreBrief = AreWithin (λ (u : SlotUse). u.readers)

@@ -3,23 +3,13 @@ use Rattle.std.specs.Prelude.{◌≡◌, ℕ, ◌+◌, ◌≤◌, ◌==◌, ◌&
 use Rattle.std.specs.List.{list_all}
 use Rattle.nim_base.specs.declared.number.Slot.{Slot}
 use Rattle.nim_command.specs.Slots.{reads_of, writes_of}
+pub use Rattle.nim_queue.specs.Counts.{AreBrief, AreShort, AreWithin}
 use Rattle.nim_queue.specs.Stands.{is_reader, is_writer}
 use Rattle.nim_queue.specs.declared.arrivals.Arrival.{Arrival}
 use Rattle.nim_queue.specs.declared.arrivals.Link.{Link}
 use Rattle.nim_queue.specs.declared.arrivals.Reading.{Reading}
 use Rattle.nim_queue.specs.declared.slot_use.SlotUse.{SlotUse}
 use Rattle.nim_queue.specs.declared.waiting.Waiting.{Waiting}
-
--- what stands under a number has no list that is longer
-abbrev pub AreWithin : {X : Type 0} → (X → List ℕ) → (ℕ → Option X) → ℕ → Type 0
-AreWithin {X} own kept most = (number : ℕ) (x : X) → kept number ≡ Some x → length (own x) ≤ most
-
--- no waiting command has more followers, and no slot more readers
-abbrev pub AreShort : (ℕ → Option Waiting) → ℕ → Type 0
-AreShort = AreWithin (λ (w : Waiting). w.followers)
-
-abbrev pub AreBrief : (ℕ → Option SlotUse) → ℕ → Type 0
-AreBrief = AreWithin (λ (u : SlotUse). u.readers)
 
 -- the lists of those that have a number, one after the other
 abbrev pub gathered_by : {X : Type 0} → (X → ℕ) → (X → List ℕ) → ℕ → List X → List ℕ

@@ -71,10 +71,12 @@ fn cover_one(
 
 /// How long lists of followers or readers may be at most with these.
 pub(crate) fn count_all(links: u64, arrived: &[Arrival]) -> Result<u64, NoMemory>
-    requires { links < 2 ^ 62 }
     ensures count { IfOk result (λ count. count ≡ links + counted arrived.now) }
     ensures few { IfOk result (λ count. count < 2 ^ 62) }
 {
+    if links >= MOST {
+        return Err(NoMemory);
+    }
     let mut count = links;
     for arrival in arrived {
         count = count_one(count, arrival)?;

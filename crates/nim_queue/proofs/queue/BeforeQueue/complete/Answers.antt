@@ -12,6 +12,6 @@ returns c groups done stands =
     elim (option_cases (get nat_eq old.waiting c.args.ticket)) [
       | inl none ↦
           subst (Stands new groups) (sym (nothing_kept old groups done c.args.ticket stands none))
-          (stands_still old new groups done stands (c.free.ensures.absent none) (λ s. refl) free refl refl)
-      | inr some ↦ completed old new groups done c.args.ticket some.0 stands some.1 (c.free.ensures.gone some.0 some.1) free (λ s. refl) refl refl
+          (stands_still old new groups done stands (c.free.ensures.absent none) (λ t s. refl) (λ t s. refl) free stands.brief refl refl refl)
+      | inr some ↦ completed old new groups done c.args.ticket some.0 stands some.1 (c.free.ensures.gone some.0 some.1) free (λ s. refl) refl refl refl
     ]
