@@ -1,5 +1,5 @@
 -- What a queue stands for when one more command joins it.
-use Rattle.std.proofs.Common.{◌≡◌, ℕ, zero, suc, ◌+◌, ◌-◌, ◌<◌, ◌≤◌, Bool, true, false, not, List, [], ◌∷◌, ◌++◌, drop, length, map, refl, ap, ap₂, sym, subst, ◌∙◌, ◌⊎◌, arith, Option, None, Some, inl, inr, is_some}
+use Rattle.std.proofs.Common.{◌≡◌, ℕ, zero, suc, ◌+◌, ◌-◌, ◌<◌, ◌≤◌, Bool, true, false, not, List, [], ◌∷◌, ◌++◌, drop, length, map, refl, ap, ap₂, sym, subst, ◌∙◌, ◌⊎◌, arith, zero-add, Option, None, Some, inl, inr, is_some}
 use Rattle.std.specs.Prelude.{◌==◌, ◌&&◌, ◌||◌, if◌then◌else◌, nat_eq, slice_get}
 use Rattle.std.specs.HashMap.{get}
 use Rattle.std.specs.List.{filter, list_any, range_with_len}
@@ -16,7 +16,7 @@ use Rattle.nim_command.specs.Waits.{Group, Member, is_written_by, members_of, wa
 use Rattle.nim_order.proofs.Items.{get_front}
 use Rattle.nim_order.proofs.Longer.{waits_of_front}
 use Rattle.nim_queue.specs.Arrived.{link_to}
-use Rattle.nim_queue.specs.Counts.{AreReleased, is_in, times}
+use Rattle.nim_queue.specs.Counts.{AreBrief, AreReleased, AreShort, is_in, times}
 use Rattle.nim_queue.specs.Joined.{followed, gathered}
 use Rattle.nim_queue.specs.Stands.{Stands, count_of, does_use_last, is_reader, is_writer, kept_at, open_waits}
 use Rattle.nim_queue.specs.declared.arrivals.Link.{Link}
@@ -167,20 +167,145 @@ read_joined dw dr false old new last is none here other = is ∙ swapped dw old 
 none_waits : (all : List Member) (done : ℕ → Bool) (t e : ℕ) → slice_get all t ≡ None → is_in e (open_waits all done t) ≡ false
 none_waits all done t e none = ap (λ (ts : List ℕ). is_in e (filter (λ x. not (done x)) ts)) (waits_none all t none)
 
+none_in : (a k n : ℕ) → a + k ≤ n → is_in n (range_with_len a k) ≡ false
+none_in a zero n past = refl
+none_in a (suc k) n past =
+    ap₂ (λ (b c : Bool). b || c) (ne_eqb n a (λ is. omega (arith, is, past))) (none_in (a + 1) k n (omega (arith, past)))
+
+-- none waits for itself or for a later one
+not_before : (all : List Member) (done : ℕ → Bool) (n t : ℕ) → t ≤ n → is_in n (open_waits all done t) ≡ false
+not_before all done n t less =
+    in_filter (λ x. not (done x)) n (waits_of all t)
+    ∙ ap (λ (b : Bool). b && not (done n))
+    (in_filter (waits_for all t) n (range_with_len 0 t) ∙ ap (λ (b : Bool). b && waits_for all t n) (none_in 0 t n (omega (arith, less))))
+
 -- nobody waits for one that is yet to come
 not_awaited : (all : List Member) (done : ℕ → Bool) (n t : ℕ) → length all ≤ n → is_in n (open_waits all done t) ≡ false
 not_awaited all done n t past =
     elim (cases_lt t (length all)) [
-      | inl within ↦
-          in_filter (λ x. not (done x)) n (waits_of all t)
-          ∙ ap (λ (b : Bool). b && not (done n)) (in_filter (waits_for all t) n (range_with_len 0 t) ∙ ap (λ (b : Bool). b && waits_for all t n) (none_in 0 t n (omega (arith, within, past))))
+      | inl within ↦ not_before all done n t (omega (arith, within, past))
       | inr behind ↦ none_waits all done t n (slice_get_past all t behind)
     ]
-  where
-    none_in : (a k n : ℕ) → a + k ≤ n → is_in n (range_with_len a k) ≡ false
-    none_in a zero n past = refl
-    none_in a (suc k) n past =
-        ap₂ (λ (b c : Bool). b || c) (ne_eqb n a (λ is. omega (arith, is, past))) (none_in (a + 1) k n (omega (arith, past)))
 
 times_both : (l : ℕ) (xs ys : List ℕ) → times l (xs ++ ys) ≡ times l xs + times l ys
 times_both l xs ys = ap length (filter-append (λ o. l == o) xs ys) ∙ length-append (filter (λ o. l == o) xs) (filter (λ o. l == o) ys)
+
+mirror_step : (n l e : ℕ) (d follows awaits : List ℕ) (b c : Bool) → (n == e) ≡ b → (n == l) ≡ c → (b ≡ true → c ≡ true → times e d ≡ 0)
+    → (b ≡ true → c ≡ false → times e awaits ≡ 0) → (b ≡ false → c ≡ true → times l follows ≡ 0) → (b ≡ false → c ≡ false → times l follows ≡ times e awaits)
+    → times l (if b then [] else follows ++ gathered e (map (link_to n) d)) ≡ times e (if c then d else awaits)
+mirror_step n l e d follows awaits true true is same one two three four = sym (one refl refl)
+mirror_step n l e d follows awaits true false is same one two three four = sym (two refl refl)
+mirror_step n l e d follows awaits false true is same one two three four =
+    let at : (l == n) ≡ true = eq-eqb l n (sym (eqb-true n l same)) in
+    times_both l follows (gathered e (map (link_to n) d))
+    ∙ ap₂ (λ (x y : ℕ). x + y) (three refl refl) (copies n e d l ∙ ap (λ (b : Bool). if b then times e d else 0) at)
+    ∙ zero-add (times e d)
+mirror_step n l e d follows awaits false false is same one two three four =
+    let at : (l == n) ≡ false = ne_eqb l n (λ here. false≢true (sym same ∙ eq-eqb n l (sym here))) in
+    let none : times l (gathered e (map (link_to n) d)) ≡ 0 = copies n e d l ∙ ap (λ (b : Bool). if b then times e d else 0) at in
+    times_both l follows (gathered e (map (link_to n) d)) ∙ omega (arith, none, four refl refl)
+
+-- what is kept of a command that joins
+abbrev pub as_kept : Member → ℕ → Waiting
+as_kept m pending = record { group = m.group; command = m.command; pending = pending; followers = [] }
+
+-- one more command
+pub joined : (old new : BeforeQueue) (groups more : List Group) (done : ℕ → Bool) (m : Member) (d : List ℕ) → Stands old groups done
+    → members_of more ≡ members_of groups ++ m ∷ []
+    → ((e : ℕ) → is_in e d ≡ is_in e (open_waits (members_of groups ++ m ∷ []) done old.given))
+    → ((t : ℕ) → get nat_eq new.waiting t
+    ≡ (if old.given == t then Some (as_kept m (length d)) else option_map (followed (gathered t (map (link_to old.given) d))) (get nat_eq old.waiting t)))
+    → ((t s : ℕ) → is_writer t (get nat_eq new.slots s)
+    ≡ (if does_write m.command.kind (record { 0 = s }) then old.given == t else is_writer t (get nat_eq old.slots s)))
+    → ((t s : ℕ) → is_reader t (get nat_eq new.slots s)
+    ≡ ((not (does_write m.command.kind (record { 0 = s })) && is_reader t (get nat_eq old.slots s))
+    || ((old.given == t) && does_read m.command.kind (record { 0 = s }))))
+    → AreReleased (get nat_eq new.waiting) new.released (old.given + 1) → AreShort (get nat_eq new.waiting) new.links
+    → AreBrief (get nat_eq new.slots) new.links → new.given ≡ old.given + 1 → new.groups ≡ length more → Stands new more done
+joined old new groups more done m d stands members reached waiting written read released short brief given numbered =
+    let all : List Member = members_of groups in
+    let n : ℕ = old.given in
+    let long : length all ≡ n = sym stands.given in
+    let apart : (t : ℕ) → (n == t) ≡ false → (length all == t) ≡ false = λ t other. ap (λ (k : ℕ). k == t) long ∙ other in
+    let at_n : (t : ℕ) → (n == t) ≡ true → n ≡ t = λ t same. eqb-true n t same in
+    let past : (t : ℕ) → (n == t) ≡ true → length all ≤ t = λ t same. omega (arith, long, at_n t same) in
+    let no_wait : (t e : ℕ) → (n == t) ≡ true → done t ≡ false → times e (stands.waits t) ≡ 0 =
+    λ t e same here. no_times e (stands.waits t) (stands.left t e here ∙ none_waits all done t e (slice_get_past all t (past t same))) in
+    record {
+      waits = λ t. if n == t then d else stands.waits t;
+      followers = λ t. if n == t then [] else stands.followers t ++ gathered t (map (link_to n) d);
+      kept = λ t. kept_case t (n == t) refl (waiting t);
+      left = λ t e here. left_case t e here (n == t) refl;
+      mirrored = λ e l first second.
+          mirror_step n l e d (stands.followers e) (stands.waits l) (n == e) (n == l) refl refl
+          (λ same also. no_times e d (reached e ∙ not_before (all ++ m ∷ []) done e n (omega (arith, at_n e same))))
+          (λ same other. no_times e (stands.waits l) (stands.left l e second ∙ not_awaited all done e l (past e same)))
+          (λ other same. stands.mirrored e l first second ∙ no_wait l e same second)
+          (λ other also. stands.mirrored e l first second);
+      released = subst (λ (k : ℕ). AreReleased (get nat_eq new.waiting) new.released k) (sym given) released;
+      written = λ t s here.
+          let slot : Slot = record { 0 = s } in
+          written_joined (does_write m.command.kind slot) (n == t) (is_writer t (get nat_eq old.slots s)) (is_writer t (get nat_eq new.slots s))
+          (does_use_last does_write (members_of more) t slot) (written t s)
+          (λ same. stands.written t s here ∙ unused_past does_write all t slot (past t same))
+          (λ same. ap (λ (ms : List Member). does_use_last does_write ms t slot) members ∙ last_new does_write all m t slot (long ∙ at_n t same))
+          (λ other.
+          ap (λ (ms : List Member). does_use_last does_write ms t slot) members ∙ last_joined does_write all m t slot (apart t other)
+          ∙ ap (λ (b : Bool). b && not (does_write m.command.kind slot)) (sym (stands.written t s here)));
+      read = λ t s here.
+          let slot : Slot = record { 0 = s } in
+          read_joined (does_write m.command.kind slot) (does_read m.command.kind slot) (n == t) (is_reader t (get nat_eq old.slots s))
+          (is_reader t (get nat_eq new.slots s)) (does_use_last does_read (members_of more) t slot) (read t s)
+          (λ same. stands.read t s here ∙ unused_past does_read all t slot (past t same))
+          (λ same. ap (λ (ms : List Member). does_use_last does_read ms t slot) members ∙ last_new does_read all m t slot (long ∙ at_n t same))
+          (λ other.
+          ap (λ (ms : List Member). does_use_last does_read ms t slot) members ∙ last_joined does_read all m t slot (apart t other)
+          ∙ ap (λ (b : Bool). b && not (does_write m.command.kind slot)) (sym (stands.read t s here)));
+      short = short;
+      brief = brief;
+      given = given ∙ omega (arith, long, ap length members, length-append all (m ∷ []));
+      numbered = numbered;
+      later = λ t from. stands.later t (omega (arith, from, ap length members, length-append all (m ∷ [])));
+    }
+  where
+    shape_of : ℕ → Bool → Bool → Option Member → Option Waiting
+    shape_of t dn here o = if dn then None else option_map
+        (λ (x : Member). let w : Waiting = record {
+          group = x.group;
+          command = x.command;
+          pending = length (if here then d else stands.waits t);
+          followers = if here then [] else stands.followers t ++ gathered t (map (link_to old.given) d);
+        } in w)
+        o
+    kept_case : (t : ℕ) (b : Bool) → (old.given == t) ≡ b
+        → get nat_eq new.waiting t
+        ≡ (if b then Some (as_kept m (length d)) else option_map (followed (gathered t (map (link_to old.given) d))) (get nat_eq old.waiting t))
+        → get nat_eq new.waiting t
+        ≡ (if done t then None else option_map
+        (kept_at (λ t. if old.given == t then d else stands.waits t) (λ t. if old.given == t then [] else stands.followers t ++ gathered t (map (link_to old.given) d)) t)
+        (slice_get (members_of more) t))
+    kept_case t true same now =
+        let shape : Bool → Bool → Option Member → Option Waiting = shape_of t in
+        now
+        ∙ sym
+        (ap (λ (dn : Bool). shape dn (old.given == t) (slice_get (members_of more) t)) (stands.later t (omega (arith, sym stands.given, eqb-true old.given t same)))
+        ∙ ap (λ (here : Bool). shape false here (slice_get (members_of more) t)) same
+        ∙ ap (shape false true)
+        (ap₂ (λ (ms : List Member) (k : ℕ). slice_get ms k) members (sym (eqb-true old.given t same) ∙ stands.given) ∙ get_at (members_of groups) [] m))
+    kept_case t false other now =
+        let shape : Bool → Bool → Option Member → Option Waiting = shape_of t in
+        let apart : (length (members_of groups) == t) ≡ false = ap (λ (k : ℕ). k == t) (sym stands.given) ∙ other in
+        now
+        ∙ kept_joined stands.waits stands.followers (λ k. gathered k (map (link_to old.given) d)) old.given t (done t) (slice_get (members_of groups) t)
+        (get nat_eq old.waiting t) (stands.kept t)
+        ∙ ap (shape (done t) false) (sym (ap (λ (ms : List Member). slice_get ms t) members ∙ beside (members_of groups) m t apart))
+        ∙ ap (λ (here : Bool). shape (done t) here (slice_get (members_of more) t)) (sym other)
+    left_case : (t e : ℕ) → done t ≡ false → (b : Bool) → (old.given == t) ≡ b
+        → is_in e (if b then d else stands.waits t) ≡ is_in e (open_waits (members_of more) done t)
+    left_case t e here true same =
+        reached e ∙ ap₂ (λ (ms : List Member) (k : ℕ). is_in e (open_waits ms done k)) (sym members) (eqb-true old.given t same)
+    left_case t e here false other =
+        let apart : (length (members_of groups) == t) ≡ false = ap (λ (k : ℕ). k == t) (sym stands.given) ∙ other in
+        stands.left t e here
+        ∙ ap (λ (ts : List ℕ). is_in e (filter (λ x. not (done x)) ts)) (sym (same_waits (members_of groups) m t apart))
+        ∙ ap (λ (ms : List Member). is_in e (open_waits ms done t)) (sym members)

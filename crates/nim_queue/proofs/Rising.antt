@@ -39,7 +39,7 @@ rising p n =
     let long : j < n = subst (λ (k : ℕ). j < k) (length-range_with_len 0 n) within in
     omega (arith, get_or-range_with_len 0 n i d (omega (arith, long)), get_or-range_with_len 0 n j d long))
 
-range_cut : (a m n : ℕ) → range_with_len a (m + n) ≡ range_with_len a m ++ range_with_len (a + m) n
+pub range_cut : (a m n : ℕ) → range_with_len a (m + n) ≡ range_with_len a m ++ range_with_len (a + m) n
 range_cut a zero n = let same : a ≡ a + 0 = omega arith in ap₂ (λ (m k : ℕ). range_with_len k m) (zero-add n) same
 range_cut a (suc m) n =
     let same : a + 1 + m ≡ a + suc m = omega arith in
@@ -194,3 +194,8 @@ past_all t xs = filter_agree (λ x. not (nat_le x t)) (nat_lt t) (λ x. either x
         | inl later ↦ ap not (lt-leb x t later) ∙ sym (lt-ltb t x later)
         | inr sooner ↦ ap not (le-leb x t sooner) ∙ sym (le-ltb t x sooner)
       ]
+
+-- one more ticket at the end of a range
+pub range_last : (p : ℕ → Bool) (n : ℕ) → filter p (range_with_len 0 (n + 1)) ≡ filter p (range_with_len 0 n) ++ (if p n then n ∷ [] else [])
+range_last p n =
+    ap (filter p) (range_cut 0 n 1 ∙ ap (λ (k : ℕ). range_with_len 0 n ++ k ∷ []) (zero-add n)) ∙ filter-append p (range_with_len 0 n) (n ∷ [])
