@@ -173,7 +173,7 @@ none_in a (suc k) n past =
     ap₂ (λ (b c : Bool). b || c) (ne_eqb n a (λ is. omega (arith, is, past))) (none_in (a + 1) k n (omega (arith, past)))
 
 -- none waits for itself or for a later one
-not_before : (all : List Member) (done : ℕ → Bool) (n t : ℕ) → t ≤ n → is_in n (open_waits all done t) ≡ false
+pub not_before : (all : List Member) (done : ℕ → Bool) (n t : ℕ) → t ≤ n → is_in n (open_waits all done t) ≡ false
 not_before all done n t less =
     in_filter (λ x. not (done x)) n (waits_of all t)
     ∙ ap (λ (b : Bool). b && not (done n))

@@ -8,5 +8,6 @@ pub mod Joining
 pub mod Linking
 pub mod Lists
 pub mod Looking
+pub mod Reaching
 pub mod Released
 pub mod Rising

@@ -5,7 +5,7 @@ use Rattle.std.specs.Option.{option_map}
 use Rattle.std.proofs.lemmas.Bool.{false≢true}
 use Rattle.std.proofs.lemmas.List.{append-nil, append_assoc, length-append, length-map}
 use Rattle.std.proofs.lemmas.Option.{slice_get-map}
-use Rattle.nim_queue.specs.Joined.{AreWithin, followed, gathered_by, more_read}
+use Rattle.nim_queue.specs.Joined.{AreWithin, followed, gathered_by, more_read, rewritten}
 use Rattle.nim_queue.specs.declared.slot_use.SlotUse.{SlotUse}
 use Rattle.nim_queue.specs.declared.waiting.Waiting.{Waiting}
 use Rattle.nim_queue.proofs.Lists.{get_at}
@@ -61,3 +61,15 @@ read_twice a b c (Some u) is =
 pub nil_of : {X : Type 0} (xs : List X) → length xs ≡ 0 → xs ≡ []
 nil_of [] is = refl
 nil_of (x ∷ xs) is = absurd (omega (arith, is))
+
+-- a slot that is written has no readers
+pub brief_written : (old new : ℕ → Option SlotUse) (among : ℕ → Bool) (n most : ℕ)
+    → ((s : ℕ) → new s ≡ (if among s then option_map (rewritten n) (old s) else old s)) → AreWithin (λ (u : SlotUse). u.readers) old most
+    → AreWithin (λ (u : SlotUse). u.readers) new most
+brief_written old new among n most is brief s v got = by (among s) (old s) refl (sym (is s) ∙ got) where
+  by : (b : Bool) (o : Option SlotUse) → old s ≡ o → (if b then option_map (rewritten n) o else o) ≡ Some v → length v.readers ≤ most
+  by true None here made = absurd (false≢true (ap is_some made))
+  by true (Some u) here made =
+      let same : v ≡ rewritten n u = ap (λ (x : Option SlotUse). unwrap_or x (rewritten n u)) (sym made) in
+      omega (arith, ap (λ (x : SlotUse). length x.readers) same)
+  by false o here made = brief s v (here ∙ made)

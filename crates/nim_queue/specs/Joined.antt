@@ -2,6 +2,7 @@
 use Rattle.std.specs.Prelude.{◌≡◌, ℕ, ◌+◌, ◌≤◌, ◌==◌, ◌&&◌, Bool, true, if◌then◌else◌, List, [], ◌∷◌, ◌++◌, length, Option, Some, is_some, sum_by}
 use Rattle.std.specs.List.{list_all}
 use Rattle.nim_base.specs.declared.number.Slot.{Slot}
+use Rattle.nim_command.specs.declared.command.Command.{Command}
 use Rattle.nim_command.specs.Slots.{reads_of, writes_of}
 pub use Rattle.nim_queue.specs.Counts.{AreBrief, AreShort, AreWithin}
 use Rattle.nim_queue.specs.Stands.{is_reader, is_writer}
@@ -52,3 +53,7 @@ pub record HaveSameUses (old new : ℕ → Option SlotUse) : Type 0 where
   pub read : (ticket slot : ℕ) → is_reader ticket (new slot) ≡ is_reader ticket (old slot)
   pub stays : (slot : ℕ) → is_some (old slot) ≡ true → is_some (new slot) ≡ true
   pub brief : (most : ℕ) → AreBrief old most → AreBrief new most
+
+-- a command that joins, with so many waits and nobody behind it
+abbrev pub kept_new : ℕ → Command → ℕ → Waiting
+kept_new group command pending = record { group = group; command = command; pending = pending; followers = [] }

@@ -1,6 +1,8 @@
-ghost use Rattle.std.specs.Prelude.{◌≡◌, ◌+◌, ◌<◌, ◌^◌, ◌==◌, ◌∷◌, [], ℕ, List, if◌then◌else◌, length, map, nat_eq, Some};
+ghost use Rattle.std.specs.Prelude.{◌≡◌, ◌+◌, ◌≤◌, ◌<◌, ◌^◌, ◌==◌, ◌∷◌, [], ℕ, List, if◌then◌else◌, length, map, nat_eq, Some};
 ghost use Rattle.std.specs.HashMap.{get, hash_map_len, spare};
 ghost use Rattle.std.specs.Option.{option_map};
+ghost use Rattle.std.specs.VecDeque.{deque_capacity, deque_len};
+ghost use Rattle.nim_queue.specs.Counts.{IsRising, put_in};
 ghost use Rattle.nim_base.specs.declared.number.Slot.{Slot as slot_type};
 ghost use Rattle.nim_command.specs.Slots.{is_among};
 ghost use Rattle.nim_queue.specs.Arrived.{link_to, reading_of};
@@ -8,6 +10,7 @@ ghost use Rattle.nim_queue.specs.Joined.{AreBrief, AreShort, followed, gathered,
 
 use crate::arrivals::{Link, Reading};
 use crate::slot_use::SlotUse;
+use crate::tickets::Tickets;
 use crate::waiting::Waiting;
 use nim_base::Slot;
 use std::collections::HashMap;
@@ -71,5 +74,24 @@ fn read_one(slots: &mut HashMap<u16, SlotUse>, reading: Reading)
     let Reading { slot, mut reader } = reading;
     if let Some(used) = slots.get_mut(&slot.0) {
         let _ = used.readers.append(&mut reader);
+    }
+}
+
+/// A command waits under its ticket from now on, for which there is room.
+pub(crate) fn enter(waiting: &mut HashMap<u64, Waiting>, ticket: u64, w: Waiting)
+    ensures entered { 0 < spare waiting.old → (t : ℕ) → get nat_eq waiting.new t ≡ (if ticket == t then Some w else get nat_eq waiting.old t) }
+    ensures spare { spare waiting.old ≤ spare waiting.new + 1 }
+{
+    let _ = waiting.insert(ticket, w);
+}
+
+/// A command that waits for so many is released, if for none, where there is room.
+pub(crate) fn offer(released: &mut Tickets, ticket: u64, pending: u64)
+    ensures items { IsRising released.old.items.items → deque_len released.old.items < deque_capacity released.old.items
+        → released.new.items.items ≡ (if pending == 0 then put_in ticket released.old.items.items else released.old.items.items) }
+    ensures capacity { deque_capacity released.old.items ≤ deque_capacity released.new.items }
+{
+    if pending == 0 {
+        released.put(ticket);
     }
 }

@@ -1,13 +1,21 @@
-ghost use Rattle.std.specs.Prelude.{◌≡◌, ℕ, ◌+◌, ◌≤◌, ◌<◌, ◌^◌, ◌++◌, ◌∷◌, [], Bool, List, length, IfSome, OnOk, OnErr};
+ghost use Rattle.std.specs.Prelude.{◌≡◌, ℕ, ◌+◌, ◌≤◌, ◌<◌, ◌^◌, ◌++◌, ◌∷◌, [], Bool, List, length, map, nat_eq, ◌==◌, if◌then◌else◌, Some, IfSome, OnOk, OnErr};
 ghost use Rattle.std.specs.Vec.{vec_capacity, vec_len};
 ghost use Rattle.std.specs.Option.{option_copied};
 ghost use Rattle.nim_command.specs.Waits.{Group as group_type, placed_commands};
+ghost use Rattle.std.specs.HashMap.{get, spare};
+ghost use Rattle.std.specs.VecDeque.{deque_capacity, deque_len};
+ghost use Rattle.std.specs.Option.{option_map};
+ghost use Rattle.nim_base.specs.declared.number.Slot.{Slot as slot_type};
+ghost use Rattle.nim_command.specs.Slots.{is_among, writes_of};
+ghost use Rattle.nim_queue.specs.Arrived.{link_to, reading_of};
+ghost use Rattle.nim_queue.specs.Counts.{IsRising, put_in};
+ghost use Rattle.nim_queue.specs.Joined.{AreBrief, AreShort, followed, gathered, gathered_reads, kept_new, more_read, rewritten};
 ghost use Rattle.nim_order.specs.Progress.{IsReleasedAt};
 ghost use Rattle.nim_queue.specs.Stands.{Stands, command_of, done_with, group_of, nothing_done, ready_of};
 
 use crate::arrivals::{Arrival, arrive_all};
 use crate::complete::free;
-use crate::join::{follow, read, write};
+use crate::join::{enter, follow, offer, read, write};
 use crate::look::{command_at, group_at};
 use crate::room::{count_all, cover_all};
 use crate::slot_use::SlotUse;
@@ -122,6 +130,22 @@ impl BeforeQueue {
     /// Takes in a command that has arrived, for which there is room.
     fn join(&mut self, arrival: Arrival)
         requires tickets { self.old.given + 1 < 2 ^ 64 }
+        ensures waiting { (k : ℕ) (d : List ℕ) → AreShort (get nat_eq self.old.waiting) k → arrival.waits.items ≡ map (link_to self.old.given) d
+            → k + length d < 2 ^ 63 → 0 < spare self.old.waiting → (t : ℕ) → get nat_eq self.new.waiting t
+            ≡ (if self.old.given == t then Some (kept_new self.old.groups arrival.command (length d))
+            else option_map (followed (gathered t (map (link_to self.old.given) d))) (get nat_eq self.old.waiting t)) }
+        ensures slots { (k : ℕ) (d : List slot_type) → AreBrief (get nat_eq self.old.slots) k → arrival.reads.items ≡ map (reading_of self.old.given) d
+            → k + length d < 2 ^ 63 → (s : ℕ) → get nat_eq self.new.slots s ≡ option_map (more_read (gathered_reads s arrival.reads.items))
+            (if is_among (writes_of arrival.command.kind) (record { 0 = s }) then option_map (rewritten self.old.given) (get nat_eq self.old.slots s)
+            else get nat_eq self.old.slots s) }
+        ensures released { IsRising self.old.released.items.items → deque_len self.old.released.items < deque_capacity self.old.released.items
+            → self.new.released.items.items ≡ (if length arrival.waits.items == 0 then put_in self.old.given self.old.released.items.items
+            else self.old.released.items.items) }
+        ensures capacity { deque_capacity self.old.released.items ≤ deque_capacity self.new.released.items }
+        ensures spare { spare self.old.waiting ≤ spare self.new.waiting + 1 }
+        ensures given { self.new.given ≡ self.old.given + 1 }
+        ensures groups { self.new.groups ≡ self.old.groups }
+        ensures links { self.new.links ≡ self.old.links }
     {
         let Arrival {
             command,
@@ -132,16 +156,14 @@ impl BeforeQueue {
         follow(&mut self.waiting, waits);
         write(&mut self.slots, command.kind.writes(), self.given);
         read(&mut self.slots, reads);
-        if pending == 0 {
-            self.released.put(self.given);
-        }
+        offer(&mut self.released, self.given, pending);
         let w = Waiting {
             group: self.groups,
             command,
             pending,
             followers: LinkedList::new(self.alloc),
         };
-        let _ = self.waiting.insert(self.given, w);
+        enter(&mut self.waiting, self.given, w);
         self.given += 1;
     }
 }
