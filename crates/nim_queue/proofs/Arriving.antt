@@ -39,7 +39,8 @@ pub arrived_more : (kept : ℕ → Option Waiting) (used : ℕ → Option SlotUs
     → HaveArrived kept used first past (list ++ a ∷ [])
 arrived_more kept used first past [] a have has =
     (subst (λ (cs : List Command). HasArrived (sight_of kept used first cs) (first + length cs) a) (append-nil past) has, tt)
-arrived_more kept used first past (b ∷ list) a have has =
-    (have.0,
-    arrived_more kept used first (past ++ b.command ∷ []) list a have.1
-    (subst (λ (cs : List Command). HasArrived (sight_of kept used first cs) (first + length cs) a) (sym (append_assoc past (b.command ∷ []) (commands_of list))) has))
+arrived_more kept used first past (b ∷ list) a have has = (
+  have.0,
+  arrived_more kept used first (past ++ b.command ∷ []) list a have.1
+      (subst (λ (cs : List Command). HasArrived (sight_of kept used first cs) (first + length cs) a) (sym (append_assoc past (b.command ∷ []) (commands_of list))) has),
+)

@@ -57,7 +57,7 @@ times_more t (y ∷ xs) x = more_step (t == y) (times_more t xs x) where
 
 same_ways : (a b : ℕ) → (a == b) ≡ (b == a)
 same_ways a b =
-    elim (cases_eq a b) [ | inl same ↦ eq-eqb a b same ∙ sym (eq-eqb b a (sym same)) | inr other ↦ ne_eqb a b other ∙ sym (ne_eqb b a (λ is. other (sym is))) ]
+    elim (cases_eq a b) [ inl same ↦ eq-eqb a b same ∙ sym (eq-eqb b a (sym same)) | inr other ↦ ne_eqb a b other ∙ sym (ne_eqb b a (λ is. other (sym is))) ]
 
 pub times_last : (t : ℕ) (xs : List ℕ) (x : ℕ) → times t (xs ++ x ∷ []) ≡ times t xs + (if x == t then 1 else 0)
 times_last t xs x = times_more t xs x ∙ ap (λ (b : Bool). times t xs + (if b then 1 else 0)) (same_ways t x)

@@ -39,16 +39,20 @@ one_empty old new slot u empty none is same = record {
   where
     old_none : (s : ℕ) → (slot == s) ≡ true → old s ≡ None
     old_none s here = ap old (sym (same s here)) ∙ none
+
     by_written : (t s : ℕ) (b : Bool) → (slot == s) ≡ b → new s ≡ (if b then Some u else old s) → is_writer t (new s) ≡ is_writer t (old s)
     by_written t s true here now =
         ap (is_writer t) now ∙ ap (λ (v : SlotUse). is_writer t (Some v)) empty ∙ sym (ap (is_writer t) (old_none s here))
     by_written t s false here now = ap (is_writer t) now
+
     by_read : (t s : ℕ) (b : Bool) → (slot == s) ≡ b → new s ≡ (if b then Some u else old s) → is_reader t (new s) ≡ is_reader t (old s)
     by_read t s true here now = ap (is_reader t) now ∙ ap (λ (v : SlotUse). is_reader t (Some v)) empty ∙ sym (ap (is_reader t) (old_none s here))
     by_read t s false here now = ap (is_reader t) now
+
     by_stays : (s : ℕ) (b : Bool) → (slot == s) ≡ b → new s ≡ (if b then Some u else old s) → is_some (old s) ≡ true → is_some (new s) ≡ true
     by_stays s true here now there = ap is_some now
     by_stays s false here now there = ap is_some now ∙ there
+
     by_brief : (most : ℕ) → AreBrief old most → (s : ℕ) (v : SlotUse) (b : Bool) → (slot == s) ≡ b → new s ≡ (if b then Some u else old s) → new s ≡ Some v
         → length v.readers ≤ most
     by_brief most brief s v true here now got =

@@ -17,7 +17,7 @@ use Rattle.nim_queue.proofs.Rising.{one_fewer, one_more, rising}
 -- a ticket that is kept is below the number
 kept_within : (kept : ℕ → Option Waiting) (n u : ℕ) → ((t : ℕ) → n ≤ t → kept t ≡ None) → is_some (kept u) ≡ true → u < n
 kept_within kept n u past some =
-    elim (cases_lt u n) [ | inl within ↦ within | inr from ↦ absurd (false≢true (sym (ap is_some (past u from)) ∙ some)) ]
+    elim (cases_lt u n) [ inl within ↦ within | inr from ↦ absurd (false≢true (sym (ap is_some (past u from)) ∙ some)) ]
 
 -- one that is complete
 pub removed : (kept next : ℕ → Option Waiting) (old new : Tickets) (n u : ℕ) (w : Waiting) → AreReleased kept old n → kept u ≡ Some w
@@ -32,19 +32,25 @@ removed kept next old new n u w are found gone items room = record {
   where
     within : u < n
     within = kept_within kept n u are.past (ap is_some found)
+
     either_none : (b : Bool) → (if b then None else None) ≡ (let none : Option Waiting = None in none)
     either_none true = refl
     either_none false = refl
+
     was_some : (t : ℕ) (b : Bool) → next t ≡ (if b then None else kept t) → is_some (next t) ≡ true → is_some (kept t) ≡ true
     was_some t true is some = absurd (false≢true (sym (ap is_some is) ∙ some))
     was_some t false is some = sym (ap is_some is) ∙ some
+
     other : (x : ℕ) → (u == x) ≡ false → is_free (next x) ≡ is_free (kept x)
     other x apart = ap is_free (gone x ∙ ap (λ (b : Bool). if b then None else kept x) apart)
+
     here : is_free (next u) ≡ false
     here = ap is_free (gone u ∙ ap (λ (b : Bool). if b then None else kept u) (eq-eqb u u refl))
+
     same_at : (x : ℕ) (b : Bool) → (u == x) ≡ b → (w.pending == 0) ≡ false → is_free (kept x) ≡ is_free (next x)
     same_at x true is busy = subst (λ (k : ℕ). is_free (kept k) ≡ is_free (next k)) (eqb-true u x is) (ap is_free found ∙ busy ∙ sym here)
     same_at x false is busy = sym (other x is)
+
     by : (b : Bool) → (w.pending == 0) ≡ b → new.items.items ≡ (if b then taken_out u old.items.items else old.items.items) → new.items.items ≡ free_ones next n
     by true is items =
         items ∙ ap (taken_out u) are.items

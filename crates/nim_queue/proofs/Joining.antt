@@ -46,7 +46,7 @@ beside xs x t other =
     ]
   where
     above : (a b : ℕ) → a ≤ b → (a ≡ b → ⊥) → a + 1 ≤ b
-    above a b less apart = elim (cases_lt a b) [ | inl below ↦ omega (arith, below) | inr over ↦ absurd (apart (omega (arith, less, over))) ]
+    above a b less apart = elim (cases_lt a b) [ inl below ↦ omega (arith, below) | inr over ↦ absurd (apart (omega (arith, less, over))) ]
 
 -- what the other commands wait for stays
 same_waits : (all : List Member) (m : Member) (t : ℕ) → (length all == t) ≡ false → waits_of (all ++ m ∷ []) t ≡ waits_of all t
@@ -74,7 +74,8 @@ copies n t [] l = none (l == n) 0 where
 copies n t (e ∷ d) l = by (e == t) (same_ways e t) (l == n) refl (copies n t d l) where
   same_ways : (a b : ℕ) → (a == b) ≡ (b == a)
   same_ways a b =
-      elim (cases_eq a b) [ | inl same ↦ eq-eqb a b same ∙ sym (eq-eqb b a (sym same)) | inr other ↦ ne_eqb a b other ∙ sym (ne_eqb b a (λ is. other (sym is))) ]
+      elim (cases_eq a b) [ inl same ↦ eq-eqb a b same ∙ sym (eq-eqb b a (sym same)) | inr other ↦ ne_eqb a b other ∙ sym (ne_eqb b a (λ is. other (sym is))) ]
+
   by : (b : Bool) → b ≡ (t == e) → (c : Bool) → (l == n) ≡ c → times l (gathered t (map (link_to n) d)) ≡ (if c then times t d else 0)
       → times l ((if b then n ∷ [] else []) ++ gathered t (map (link_to n) d)) ≡ (if c then times t (e ∷ d) else 0)
   by true is true here rest =
@@ -109,6 +110,7 @@ last_joined uses all m t slot other =
     three true false true = refl
     three true false false = refl
     three false b c = refl
+
     split_at : (o : Option Member) (rest : List Member)
         → option_map_or (λ (x : Member). uses x.command.kind slot && not (is_written_by (rest ++ m ∷ []) slot)) o false
         ≡ (option_map_or (λ (x : Member). uses x.command.kind slot && not (is_written_by rest slot)) o false && not (does_write m.command.kind slot))
@@ -277,6 +279,7 @@ joined old new groups more done m d stands members reached waiting written read 
           followers = if here then [] else stands.followers t ++ gathered t (map (link_to old.given) d);
         } in w)
         o
+
     kept_case : (t : ℕ) (b : Bool) → (old.given == t) ≡ b
         → get nat_eq new.waiting t
         ≡ (if b then Some (as_kept m (length d)) else option_map (followed (gathered t (map (link_to old.given) d))) (get nat_eq old.waiting t))
@@ -300,6 +303,7 @@ joined old new groups more done m d stands members reached waiting written read 
         (get nat_eq old.waiting t) (stands.kept t)
         ∙ ap (shape (done t) false) (sym (ap (λ (ms : List Member). slice_get ms t) members ∙ beside (members_of groups) m t apart))
         ∙ ap (λ (here : Bool). shape (done t) here (slice_get (members_of more) t)) (sym other)
+
     left_case : (t e : ℕ) → done t ≡ false → (b : Bool) → (old.given == t) ≡ b
         → is_in e (if b then d else stands.waits t) ≡ is_in e (open_waits (members_of more) done t)
     left_case t e here true same =

@@ -11,3 +11,4 @@ pub mod Looking
 pub mod Reaching
 pub mod Released
 pub mod Rising
+pub mod Uses

@@ -26,7 +26,7 @@ use Rattle.nim_queue.proofs.Lists.{get_at}
 
 same_ways : (a b : ℕ) → (a == b) ≡ (b == a)
 same_ways a b =
-    elim (cases_eq a b) [ | inl same ↦ eq-eqb a b same ∙ sym (eq-eqb b a (sym same)) | inr other ↦ ne_eqb a b other ∙ sym (ne_eqb b a (λ is. other (sym is))) ]
+    elim (cases_eq a b) [ inl same ↦ eq-eqb a b same ∙ sym (eq-eqb b a (sym same)) | inr other ↦ ne_eqb a b other ∙ sym (ne_eqb b a (λ is. other (sym is))) ]
 
 named_below : (first : ℕ) (past : List Command) (n e : ℕ) → e < first → is_in e (named_in first past n) ≡ false
 named_below first [] n e less = refl
@@ -73,7 +73,7 @@ in_range k (suc n) e from to =
       | inl here ↦ ap (λ (b : Bool). b || is_in e (range_with_len (k + 1) n)) (eq-eqb e k here)
       | inr other ↦
           ap (λ (b : Bool). b || is_in e (range_with_len (k + 1) n)) (ne_eqb e k other)
-          ∙ in_range (k + 1) n e (elim (cases_lt k e) [ | inl less ↦ omega (arith, less) | inr over ↦ absurd (other (omega (arith, from, over))) ]) (omega (arith, to))
+          ∙ in_range (k + 1) n e (elim (cases_lt k e) [ inl less ↦ omega (arith, less) | inr over ↦ absurd (other (omega (arith, from, over))) ]) (omega (arith, to))
     ]
 
 -- whether the last one waits for an earlier one that isn't complete
@@ -107,6 +107,7 @@ among_both q (x ∷ xs) ys =
     one_among (z ∷ zs) = by (z.0 == x.0) (x.0 == z.0) (same_ways z.0 x.0) (q z) (λ is. ap q (slot_of (eqb-true z.0 x.0 is))) (one_among zs) where
       slot_of : {a b : ℕ} → a ≡ b → let s : Slot = record { 0 = a } in let t : Slot = record { 0 = b } in s ≡ t
       slot_of is = ap (λ (n : ℕ). let s : Slot = record { 0 = n } in s) is
+
       by : (b c : Bool) → b ≡ c → (qz : Bool) → (b ≡ true → qz ≡ q x) → (is_among zs x && q x) ≡ list_any (λ (s : Slot). (x.0 == s.0) && q s) zs
           → ((b || is_among zs x) && q x) ≡ ((c && qz) || list_any (λ (s : Slot). (x.0 == s.0) && q s) zs)
       by true true is qz same rest = first (q x) qz (is_among zs x) (sym (same refl)) rest where
@@ -122,17 +123,20 @@ among_both q (x ∷ xs) ys =
       by false false is qz same rest = rest
       by true false is qz same rest = absurd (false≢true (sym is))
       by false true is qz same rest = absurd (false≢true is)
+
     spread : (a b c : Bool) → ((a && c) || (b && c)) ≡ ((a || b) && c)
     spread true true true = refl
     spread true true false = refl
     spread true false true = refl
     spread true false false = refl
     spread false b c = refl
+
     four : (a b c d : Bool) → ((a || b) || (c || d)) ≡ ((a || c) || (b || d))
     four true b c d = refl
     four false true true d = refl
     four false true false d = refl
     four false false c d = refl
+
     either : (zs : List Slot) → (list_any (λ (s : Slot). (x.0 == s.0) && q s) zs || list_any (λ s. is_among xs s && q s) zs)
         ≡ list_any (λ s. is_among (x ∷ xs) s && q s) zs
     either [] = refl
@@ -208,8 +212,8 @@ border_met x rest g past c sight e kept written writer reader =
     (list_any-append (λ (k : Member). does_write k.command.kind s) rest (as_members g past)
     ∙ ap (λ (b : Bool). is_written_by rest s || b) (written_as g past s)) in
     let met : (is_user : ℕ → Option SlotUse → Bool) (uses : Slot → Bool) (slots : List Slot)
-        → ((s : Slot) → is_user e (sight.used s.0) ≡ (uses s && not (is_written_by rest s)))
-        → is_met sight is_user slots e ≡ list_any (λ s. uses s && q s) slots =
+    → ((s : Slot) → is_user e (sight.used s.0) ≡ (uses s && not (is_written_by rest s)))
+    → is_met sight is_user slots e ≡ list_any (λ s. uses s && q s) slots =
     λ is_user uses slots is.
     any_same (λ (s : Slot). not (sight.written s.0) && (is_user e (sight.used s.0) && is_some (sight.kept e))) (λ s. uses s && q s)
     (λ s.
@@ -220,7 +224,7 @@ border_met x rest g past c sight e kept written writer reader =
     let writes : List Slot = writes_of x.command.kind in
     let reads : List Slot = reads_of x.command.kind in
     let touched : list_any (λ s. does_touch c.kind s && q s) writes
-        ≡ (list_any (λ s. is_among writes s && q s) (reads_of c.kind) || list_any (λ s. is_among writes s && q s) (writes_of c.kind)) =
+    ≡ (list_any (λ s. is_among writes s && q s) (reads_of c.kind) || list_any (λ s. is_among writes s && q s) (writes_of c.kind)) =
     any_same (λ s. does_touch c.kind s && q s) (λ s. (does_read c.kind s && q s) || (does_write c.kind s && q s))
     (λ s. spread (does_read c.kind s) (does_write c.kind s) (q s)) writes
     ∙ any_or (λ s. does_read c.kind s && q s) (λ s. does_write c.kind s && q s) writes
@@ -265,26 +269,36 @@ reached_open queue groups done past c e stands =
   where
     g : ℕ
     g = length groups
+
     last : ℕ
     last = queue.given + length past
+
     sight : Sight
     sight = sight_of (get nat_eq queue.waiting) (get nat_eq queue.slots) queue.given past
+
     before_all : List Member
     before_all = members_of groups ++ as_members (length groups) past
+
     m : Member
     m = record { group = length groups; command = c }
+
     ms : List Member
     ms = before_all ++ m ∷ []
+
     long : last ≡ length before_all
     long = omega (arith, stands.given, length-append (members_of groups) (as_members g past), length-map past (λ (k : Command). let x : Member = record { group = g; command = k } in x))
+
     unkept : (t : ℕ) → queue.given ≤ t → is_some (get nat_eq queue.waiting t) ≡ false
     unkept t from = ap is_some (stands.released.past t from)
+
     gone : (is_user : ℕ → Option SlotUse → Bool) (slots : List Slot) → is_some (get nat_eq queue.waiting e) ≡ false → is_met sight is_user slots e ≡ false
     gone is_user slots none = none_met sight is_user slots e none
+
     waits_at : (x : Member) → slice_get ms e ≡ Some x → waits_for ms last e ≡ is_waited x (slice_range ms (e + 1) last) m
     waits_at x got =
         ap₂ (λ (o p : Option Member). option_map_or (λ (l : Member). option_map_or (λ (y : Member). is_waited y (slice_range ms (e + 1) last) l) p false) o false)
         (ap (slice_get ms) long ∙ get_at before_all [] m) got
+
     own : queue.given ≤ e → e < last
         → ((x : Command) × (e - queue.given < length past) × (slice_get past (e - queue.given) ≡ Some x) × (get_or past (e - queue.given) x ≡ x))
         ⊎ ((length past ≤ e - queue.given) × (slice_get past (e - queue.given) ≡ None))
@@ -310,6 +324,7 @@ reached_open queue groups done past c e stands =
         ∙ ap (λ (b : Bool). if b then list_any (λ number. number == found.0.id) c.before else is_border x (slice_range ms (e + 1) last) m) (eq-eqb g g refl))
         here
         ∙ and_true (list_any (λ number. number == found.0.id) c.before))
+
     bordered : e < queue.given → e < last → done e ≡ false
         → ((x : Member) × (e < length (members_of groups)) × (slice_get (members_of groups) e ≡ Some x) × (get_or (members_of groups) e x ≡ x))
         ⊎ ((length (members_of groups) ≤ e) × (slice_get (members_of groups) e ≡ None))
@@ -344,6 +359,7 @@ reached_open queue groups done past c e stands =
         ∙ ap₂ (λ (b : Bool) (between : List Member). if b then list_any (λ number. number == x.command.id) c.before else is_border x between m) apart between)
         here
         ∙ and_true (is_border x (rest ++ as_members g past) m))
+
     before : e < queue.given → e < last → (d : Bool) → done e ≡ d → is_reached sight c e ≡ is_in e (open_waits ms done last)
     before early within true complete =
         let none : is_some (get nat_eq queue.waiting e) ≡ false =

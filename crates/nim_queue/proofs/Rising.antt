@@ -22,14 +22,16 @@ cut p [] zero point = (refl, refl)
 cut p [] (suc i) point = (refl, refl)
 cut {X} p (x ∷ xs) zero point =
     let rest = cut p xs zero ((λ k d low high. absurd (omega (arith, high))), (λ k d low high. point.1 (suc k) d (omega arith) (omega (arith, high)))) in
-    let here : p x ≡ false = point.1 0 x (omega arith) (omega arith) in
-    (rest.0 ∙ ap (λ (b : Bool). if b then x ∷ filter p xs else filter p xs) (sym here),
-    ap (λ ys. x ∷ ys) rest.1 ∙ ap (λ (b : Bool). if not b then x ∷ filter (λ y. not (p y)) xs else filter (λ y. not (p y)) xs) (sym here))
+    let here : p x ≡ false = point.1 0 x (omega arith) (omega arith) in (
+      rest.0 ∙ ap (λ (b : Bool). if b then x ∷ filter p xs else filter p xs) (sym here),
+      ap (λ ys. x ∷ ys) rest.1 ∙ ap (λ (b : Bool). if not b then x ∷ filter (λ y. not (p y)) xs else filter (λ y. not (p y)) xs) (sym here),
+    )
 cut {X} p (x ∷ xs) (suc i) point =
     let rest = cut p xs i ((λ k d low high. point.0 (suc k) d (omega arith) (omega (arith, high))), (λ k d low high. point.1 (suc k) d (omega (arith, low)) (omega (arith, high)))) in
-    let here : p x ≡ true = point.0 0 x (omega arith) (omega arith) in
-    (ap (λ ys. x ∷ ys) rest.0 ∙ ap (λ (b : Bool). if b then x ∷ filter p xs else filter p xs) (sym here),
-    rest.1 ∙ ap (λ (b : Bool). if not b then x ∷ filter (λ y. not (p y)) xs else filter (λ y. not (p y)) xs) (sym here))
+    let here : p x ≡ true = point.0 0 x (omega arith) (omega arith) in (
+      ap (λ ys. x ∷ ys) rest.0 ∙ ap (λ (b : Bool). if b then x ∷ filter p xs else filter p xs) (sym here),
+      rest.1 ∙ ap (λ (b : Bool). if not b then x ∷ filter (λ y. not (p y)) xs else filter (λ y. not (p y)) xs) (sym here),
+    )
 
 -- tickets of a range rise
 pub rising : (p : ℕ → Bool) (n : ℕ) → IsRising (filter p (range_with_len 0 n))
@@ -102,9 +104,10 @@ first_or_not p k rest b is = ap (λ (c : Bool). if c then k ∷ filter p rest el
 -- two tests that differ at one ticket alone
 both_sides : (p q : ℕ → Bool) (k n : ℕ) → ((x : ℕ) → (k == x) ≡ false → q x ≡ p x)
     → (filter q (range_with_len 0 k) ≡ filter p (range_with_len 0 k)) × (filter q (range_with_len (k + 1) n) ≡ filter p (range_with_len (k + 1) n))
-both_sides p q k n same =
-    (filter_range q p 0 k (λ x from to. same x (ne_eqb k x (λ is. omega (arith, is, to)))),
-    filter_range q p (k + 1) n (λ x from to. same x (ne_eqb k x (λ is. omega (arith, is, from)))))
+both_sides p q k n same = (
+  filter_range q p 0 k (λ x from to. same x (ne_eqb k x (λ is. omega (arith, is, to)))),
+  filter_range q p (k + 1) n (λ x from to. same x (ne_eqb k x (λ is. omega (arith, is, from)))),
+)
 
 pub one_more : (p q : ℕ → Bool) (k n : ℕ) → k < n → p k ≡ false → q k ≡ true → ((x : ℕ) → (k == x) ≡ false → q x ≡ p x)
     → put_in k (filter p (range_with_len 0 n)) ≡ filter q (range_with_len 0 n)

@@ -1,4 +1,5 @@
 pub mod Arrived
 pub mod Counts
 pub mod Joined
+pub mod Midway
 pub mod Stands

@@ -93,8 +93,12 @@ impl Arrivals {
     ) -> Result<Arrival, NoMemory>
         ensures same { IfOk result (λ a. a.command ≡ command) }
         ensures arrival { IfOk result (λ a. HasArrived
-            (record { kept = get nat_eq waiting.now; used = get nat_eq slots.now;
-              named = λ n. unwrap_or (get nat_eq self.old.numbers n) []; written = bag.contains nat_eq self.old.written })
+            (record {
+              kept = get nat_eq waiting.now;
+              used = get nat_eq slots.now;
+              named = λ n. unwrap_or (get nat_eq self.old.numbers n) [];
+              written = bag.contains nat_eq self.old.written;
+            })
             ticket a) }
         ensures numbers { OnOk result ((n : ℕ) → unwrap_or (get nat_eq self.new.numbers n) []
             ≡ unwrap_or (get nat_eq self.old.numbers n) [] ++ (if command.id == n then ticket ∷ [] else [])) }
@@ -121,8 +125,12 @@ impl Arrivals {
         command: &Command,
     ) -> Result<Vec<u64>, NoMemory>
         ensures { IfOk result (λ tickets. (e : ℕ) → is_in e tickets.items ≡ is_reached
-            (record { kept = get nat_eq waiting.now; used = get nat_eq slots.now;
-              named = λ n. unwrap_or (get nat_eq self.now.numbers n) []; written = bag.contains nat_eq self.now.written })
+            (record {
+              kept = get nat_eq waiting.now;
+              used = get nat_eq slots.now;
+              named = λ n. unwrap_or (get nat_eq self.now.numbers n) [];
+              written = bag.contains nat_eq self.now.written;
+            })
             command.now e) }
     {
         let mut tickets = Vec::new(self.alloc);
@@ -209,7 +217,11 @@ fn note_writes(written: &mut HashSet<u16>, slots: &[Slot]) -> Result<(), NoMemor
     Ok(())
 }
 
-fn push_named(tickets: &mut Vec<u64>, numbers: &HashMap<u32, LinkedList<u64>>, number: u32) -> Result<(), NoMemory>
+fn push_named(
+    tickets: &mut Vec<u64>,
+    numbers: &HashMap<u32, LinkedList<u64>>,
+    number: u32,
+) -> Result<(), NoMemory>
     ensures { OnOk result ((e : ℕ) → is_in e tickets.new.items ≡ (is_in e tickets.old.items || is_in e (unwrap_or (get nat_eq numbers.now number) []))) }
 {
     if let Some(named) = numbers.get(&number) {
@@ -273,7 +285,11 @@ fn push_each(
 }
 
 /// A ticket, where its command waits.
-fn push_kept(tickets: &mut Vec<u64>, waiting: &HashMap<u64, Waiting>, ticket: u64) -> Result<(), NoMemory>
+fn push_kept(
+    tickets: &mut Vec<u64>,
+    waiting: &HashMap<u64, Waiting>,
+    ticket: u64,
+) -> Result<(), NoMemory>
     ensures { OnOk result ((e : ℕ) → is_in e tickets.new.items ≡ (is_in e tickets.old.items || ((e == ticket) && is_some (get nat_eq waiting.now e)))) }
 {
     if waiting.contains_key(&ticket) {

@@ -111,16 +111,14 @@ impl BeforeQueue {
     }
 
     /// Room for what has arrived.
-    fn make_room(&mut self, arrived: &[Arrival]) -> Result<(), NoMemory>
-    {
+    fn make_room(&mut self, arrived: &[Arrival]) -> Result<(), NoMemory> {
         cover_all(self.alloc, &mut self.slots, arrived)?;
         self.waiting.reserve(arrived.len())?;
         self.released
             .make_room(self.waiting.len().saturating_add(arrived.len()))
     }
 
-    fn join_all(&mut self, arrived: Vec<Arrival>)
-    {
+    fn join_all(&mut self, arrived: Vec<Arrival>) {
         for arrival in arrived {
             self.join(arrival);
         }

@@ -41,11 +41,7 @@ fn cover_arrival(
     Ok(())
 }
 
-fn cover(
-    alloc: Global,
-    slots: &mut HashMap<u16, SlotUse>,
-    used: &[Slot],
-) -> Result<(), NoMemory>
+fn cover(alloc: Global, slots: &mut HashMap<u16, SlotUse>, used: &[Slot]) -> Result<(), NoMemory>
     ensures same { HaveSameUses (get nat_eq slots.old) (get nat_eq slots.new) }
     ensures covered { OnOk result (list_all (λ (slot : slot_type). is_some (get nat_eq slots.new slot.0)) used.now ≡ true) }
 {
@@ -55,11 +51,7 @@ fn cover(
     Ok(())
 }
 
-fn cover_one(
-    alloc: Global,
-    slots: &mut HashMap<u16, SlotUse>,
-    slot: Slot,
-) -> Result<(), NoMemory>
+fn cover_one(alloc: Global, slots: &mut HashMap<u16, SlotUse>, slot: Slot) -> Result<(), NoMemory>
     ensures same { HaveSameUses (get nat_eq slots.old) (get nat_eq slots.new) }
     ensures covered { OnOk result (is_some (get nat_eq slots.new slot.0) ≡ true) }
 {

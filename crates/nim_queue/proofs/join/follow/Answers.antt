@@ -24,13 +24,14 @@ loop-link-preserved c =
           let here = made_from (link_to n) own n d past c.next.new.self.rest.items x (λ a. refl) (whole ∙ is) in
           let more : ℕ → List ℕ = λ t. if key x == t then own x else [] in
           let step = c.follow_one.ensures.followers (k + length past) before.1 (omega (arith, fits, here.1, ap length here.0)) in
-          let total : k + length past + 1 ≡ k + length (past ++ x ∷ []) = omega (arith, length-append past (x ∷ [])) in
-          (λ t.
-          step t ∙ ap (option_map (followed (more t))) (before.0 t)
-          ∙ followed_twice (gathered t past) (more t) (gathered t (past ++ x ∷ [])) (get nat_eq c.args.waiting.now t) (gathered_more key own t past x),
-          subst (AreWithin (λ (v : Waiting). v.followers) (get nat_eq c.follow_one.new.waiting)) total
-          (within_more (λ (v : Waiting). v.followers) followed (get nat_eq c.loop-link.waiting) (get nat_eq c.follow_one.new.waiting) more (k + length past)
-          (λ ms v. refl) step (few_at key own n x here.0) before.1));
+          let total : k + length past + 1 ≡ k + length (past ++ x ∷ []) = omega (arith, length-append past (x ∷ [])) in (
+            λ t.
+                step t ∙ ap (option_map (followed (more t))) (before.0 t)
+                ∙ followed_twice (gathered t past) (more t) (gathered t (past ++ x ∷ [])) (get nat_eq c.args.waiting.now t) (gathered_more key own t past x),
+            subst (AreWithin (λ (v : Waiting). v.followers) (get nat_eq c.follow_one.new.waiting)) total
+                (within_more (λ (v : Waiting). v.followers) followed (get nat_eq c.loop-link.waiting) (get nat_eq c.follow_one.new.waiting) more (k + length past)
+                (λ ms v. refl) step (few_at key own n x here.0) before.1),
+          );
       whole = append_assoc past (x ∷ []) c.next.new.self.rest.items ∙ whole;
       spare = search rules;
     }

@@ -24,13 +24,14 @@ loop-reading-preserved c =
           let here = made_from (reading_of n) own n d past c.next.new.self.rest.items x (λ a. refl) (whole ∙ is) in
           let more : ℕ → List ℕ = λ t. if key x == t then own x else [] in
           let step = c.read_one.ensures (k + length past) before.1 (omega (arith, fits, here.1, ap length here.0)) in
-          let total : k + length past + 1 ≡ k + length (past ++ x ∷ []) = omega (arith, length-append past (x ∷ [])) in
-          (λ t.
-          step t ∙ ap (option_map (more_read (more t))) (before.0 t)
-          ∙ read_twice (gathered_reads t past) (more t) (gathered_reads t (past ++ x ∷ [])) (get nat_eq c.args.slots.now t) (gathered_more key own t past x),
-          subst (AreWithin (λ (v : SlotUse). v.readers) (get nat_eq c.read_one.new.slots)) total
-          (within_more (λ (v : SlotUse). v.readers) more_read (get nat_eq c.loop-reading.slots) (get nat_eq c.read_one.new.slots) more (k + length past)
-          (λ ms v. refl) step (few_at key own n x here.0) before.1));
+          let total : k + length past + 1 ≡ k + length (past ++ x ∷ []) = omega (arith, length-append past (x ∷ [])) in (
+            λ t.
+                step t ∙ ap (option_map (more_read (more t))) (before.0 t)
+                ∙ read_twice (gathered_reads t past) (more t) (gathered_reads t (past ++ x ∷ [])) (get nat_eq c.args.slots.now t) (gathered_more key own t past x),
+            subst (AreWithin (λ (v : SlotUse). v.readers) (get nat_eq c.read_one.new.slots)) total
+                (within_more (λ (v : SlotUse). v.readers) more_read (get nat_eq c.loop-reading.slots) (get nat_eq c.read_one.new.slots) more (k + length past)
+                (λ ms v. refl) step (few_at key own n x here.0) before.1),
+          );
       whole = append_assoc past (x ∷ []) c.next.new.self.rest.items ∙ whole;
     }
 

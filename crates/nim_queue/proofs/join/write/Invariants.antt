@@ -10,5 +10,5 @@ use Rattle.nim_queue.proofs.join.write.Given as goal
 abbrev pub invariant-loop-slot : goal.invariant-loop-slot
 invariant-loop-slot l =
     (s : ℕ) → get nat_eq l.slots s
-        ≡ (if is_among (take l.slot-index l.written) (record { 0 = s }) then option_map (rewritten l.ticket) (get nat_eq l.fn.slots s)
-        else get nat_eq l.fn.slots s)
+    ≡ (if is_among (take l.slot-index l.written) (record { 0 = s }) then option_map (rewritten l.ticket) (get nat_eq l.fn.slots s)
+    else get nat_eq l.fn.slots s)

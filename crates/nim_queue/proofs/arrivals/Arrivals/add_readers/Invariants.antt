@@ -12,5 +12,5 @@ use Rattle.nim_queue.proofs.arrivals.Arrivals.add_readers.Given as goal
 abbrev pub invariant-loop-slot : goal.invariant-loop-slot
 invariant-loop-slot l =
     (e : ℕ) → is_in e l.tickets.items
-        ≡ (is_in e l.fn.tickets.items || list_any (λ (slot : Slot). not (bag.contains nat_eq l.self.written slot.0)
-        && (is_reader e (get nat_eq l.slots slot.0) && is_some (get nat_eq l.waiting e))) (take l.slot-index l.written))
+    ≡ (is_in e l.fn.tickets.items || list_any (λ (slot : Slot). not (bag.contains nat_eq l.self.written slot.0)
+    && (is_reader e (get nat_eq l.slots slot.0) && is_some (get nat_eq l.waiting e))) (take l.slot-index l.written))
