@@ -12,3 +12,4 @@ pub mod Reaching
 pub mod Released
 pub mod Rising
 pub mod Uses
+pub mod Stepping
