@@ -8,7 +8,7 @@ use Rattle.std.proofs.lemmas.Bool.{cases_lt, eqb-true, false≢true, le-ltb, lt-
 use Rattle.std.proofs.Math.Path.{fun_ext}
 use Rattle.nim_command.specs.Waits.{Group, Member, members_of, waits_of}
 use Rattle.nim_queue.specs.Counts.{AreBrief, AreReleased, fewer, is_in, times}
-use Rattle.nim_queue.specs.Stands.{Stands, count_of, done_with, is_reader, is_writer, kept_at, open_waits}
+use Rattle.nim_queue.specs.Stands.{Keeps, count_of, done_with, is_reader, is_writer, kept_at, open_waits}
 use Rattle.nim_queue.specs.declared.queue.BeforeQueue.{BeforeQueue}
 use Rattle.nim_queue.specs.declared.waiting.Waiting.{Waiting}
 use Rattle.nim_queue.proofs.Counting.{in_filter, length_without, times_other}
@@ -73,16 +73,16 @@ still_short k most (Some x) v false short is =
     let same : v ≡ fewer k x = ap (λ (p : Option Waiting). unwrap_or p x) (sym is) in
     subst (λ (ts : List ℕ). length ts ≤ most) (sym (ap (λ (y : Waiting). y.followers) same)) (short x refl)
 
-pub completed : (old new : BeforeQueue) (groups : List Group) (done : ℕ → Bool) (u : ℕ) (w : Waiting) → Stands old groups done
+pub completed : (old new : BeforeQueue) (groups : List Group) (done : ℕ → Bool) (u : ℕ) (w : Waiting) → Keeps old groups done
     → get nat_eq old.waiting u ≡ Some w
     → ((t : ℕ) → get nat_eq new.waiting t ≡ option_map (fewer (times t w.followers)) (if u == t then None else get nat_eq old.waiting t))
     → AreReleased (get nat_eq new.waiting) new.released old.given → ((s : ℕ) → get nat_eq new.slots s ≡ get nat_eq old.slots s)
-    → new.links ≡ old.links → new.given ≡ old.given → new.groups ≡ old.groups → Stands new groups (done_with groups done u)
+    → new.links ≡ old.links → new.given ≡ old.given → new.groups ≡ old.groups → Keeps new groups (done_with groups done u)
 completed old new groups done u w stands found waiting released slots links given numbered =
     let members : List Member = members_of groups in
     let facts = found_kept stands.waits stands.followers u w (done u) (slice_get members u) (sym (stands.kept u) ∙ found) in
     let was : (t : ℕ) → with_one done u t ≡ false → done t ≡ false = λ t now. (or_parts (done t) (u == t) now).0 in
-    let now : Stands new groups (with_one done u) = record {
+    let now : Keeps new groups (with_one done u) = record {
       waits = without u stands.waits;
       followers = stands.followers;
       kept = λ t.
@@ -102,7 +102,7 @@ completed old new groups done u w stands found waiting released slots links give
       numbered = numbered ∙ stands.numbered;
       later = λ place from. or_from (done place) (u == place) (stands.later place from) (ne_eqb u place (λ is. omega (arith, is, from, inside)));
     } in
-    subst (Stands new groups) (sym (ap (λ (b : Bool). if b then with_one done u else done) (lt-ltb u (count_of groups) inside))) now
+    subst (Keeps new groups) (sym (ap (λ (b : Bool). if b then with_one done u else done) (lt-ltb u (count_of groups) inside))) now
   where
     inside : u < count_of groups
     inside =
@@ -128,12 +128,12 @@ option_cases None = inl refl
 option_cases (Some x) = inr (x, refl)
 
 -- a queue that has the same commands, slots and counts
-pub stands_still : (old new : BeforeQueue) (groups : List Group) (done : ℕ → Bool) → Stands old groups done
+pub stands_still : (old new : BeforeQueue) (groups : List Group) (done : ℕ → Bool) → Keeps old groups done
     → ((t : ℕ) → get nat_eq new.waiting t ≡ get nat_eq old.waiting t)
     → ((t s : ℕ) → is_writer t (get nat_eq new.slots s) ≡ is_writer t (get nat_eq old.slots s))
     → ((t s : ℕ) → is_reader t (get nat_eq new.slots s) ≡ is_reader t (get nat_eq old.slots s))
     → AreReleased (get nat_eq new.waiting) new.released old.given → AreBrief (get nat_eq new.slots) new.links → new.links ≡ old.links
-    → new.given ≡ old.given → new.groups ≡ old.groups → Stands new groups done
+    → new.given ≡ old.given → new.groups ≡ old.groups → Keeps new groups done
 stands_still old new groups done stands waiting written read released brief links given numbered = record {
   waits = stands.waits;
   followers = stands.followers;
@@ -150,7 +150,7 @@ stands_still old new groups done stands waiting written read released brief link
   later = stands.later;
 }
 
-pub nothing_kept : (queue : BeforeQueue) (groups : List Group) (done : ℕ → Bool) (u : ℕ) → Stands queue groups done → get nat_eq queue.waiting u ≡ None
+pub nothing_kept : (queue : BeforeQueue) (groups : List Group) (done : ℕ → Bool) (u : ℕ) → Keeps queue groups done → get nat_eq queue.waiting u ≡ None
     → done_with groups done u ≡ done
 nothing_kept queue groups done u stands none =
     elim (cases_lt u (count_of groups)) [

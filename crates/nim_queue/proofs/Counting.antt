@@ -12,8 +12,9 @@ use Rattle.std.proofs.lemmas.Option.{slice_get_cases}
 use Rattle.nim_command.specs.Waits.{Group, Member, members_of}
 use Rattle.nim_order.proofs.Items.{filter_range}
 use Rattle.nim_queue.specs.Counts.{fewer, is_free, is_in, times}
-use Rattle.nim_queue.specs.Stands.{Stands, count_of, kept_at, waiting_count}
+use Rattle.nim_queue.specs.Stands.{Keeps, Stands, count_of, kept_at, waiting_count}
 use Rattle.nim_queue.specs.declared.queue.BeforeQueue.{BeforeQueue}
+use Rattle.nim_queue.proofs.Opening.{opened}
 use Rattle.nim_queue.specs.declared.waiting.Waiting.{Waiting}
 
 -- how many are left without a ticket
@@ -115,12 +116,13 @@ some_kept waits followers t m false o there = ap (λ (x : Option Member). is_som
 pub count_is : (queue : BeforeQueue) (groups : List Group) (done : ℕ → Bool) → Stands queue groups done
     → waiting_count queue ≡ length (filter (λ place. not (done place)) (range_with_len 0 (count_of groups)))
 count_is queue groups done stands =
-    ap (λ (n : ℕ). length (filter (λ t. is_some (get nat_eq queue.waiting t)) (range_with_len 0 n))) stands.given
+    let keeps : Keeps queue groups done = opened stands in
+    ap (λ (n : ℕ). length (filter (λ t. is_some (get nat_eq queue.waiting t)) (range_with_len 0 n))) keeps.given
     ∙ ap length
     (filter_range (λ t. is_some (get nat_eq queue.waiting t)) (λ t. not (done t)) 0 (count_of groups)
     (λ t from to.
     elim (slice_get_cases (members_of groups) t).1 [
       | inl found ↦
-          ap is_some (stands.kept t) ∙ some_kept stands.waits stands.followers t found.0 (done t) (slice_get (members_of groups) t) found.2
+          ap is_some (keeps.kept t) ∙ some_kept keeps.waits keeps.followers t found.0 (done t) (slice_get (members_of groups) t) found.2
       | inr past ↦ absurd (omega (arith, past.0, to))
     ]))

@@ -10,6 +10,7 @@ pub mod Linking
 pub mod Lists
 pub mod Looking
 pub mod Making
+pub mod Opening
 pub mod Reaching
 pub mod Released
 pub mod Rising

@@ -9,7 +9,7 @@ use Rattle.std.proofs.lemmas.Option.{slice_get_cases}
 use Rattle.nim_command.specs.Waits.{Group, Member, is_waited, members_of, waits_for, waits_of}
 use Rattle.nim_order.proofs.Items.{filter_range}
 use Rattle.nim_queue.specs.Counts.{IsRising, is_free, is_in}
-use Rattle.nim_queue.specs.Stands.{Stands, count_of, first_that, is_after, is_released, kept_at, open_waits, ready_of}
+use Rattle.nim_queue.specs.Stands.{Keeps, count_of, first_that, is_after, is_released, kept_at, open_waits, ready_of}
 use Rattle.nim_queue.specs.declared.queue.BeforeQueue.{BeforeQueue}
 use Rattle.nim_queue.specs.declared.waiting.Waiting.{Waiting}
 use Rattle.nim_queue.proofs.Rising.{first_of_both, rising}
@@ -22,7 +22,7 @@ kept_own of own waits followers t true o same = refl
 kept_own of own waits followers t false None same = refl
 kept_own of own waits followers t false (Some m) same = ap (λ y. Some y) (same m)
 
-pub told_of : {Y : Type 0} (of : Waiting → Y) (own : Member → Y) (queue : BeforeQueue) (groups : List Group) (done : ℕ → Bool) (t : ℕ) → Stands queue groups done
+pub told_of : {Y : Type 0} (of : Waiting → Y) (own : Member → Y) (queue : BeforeQueue) (groups : List Group) (done : ℕ → Bool) (t : ℕ) → Keeps queue groups done
     → ((waits followers : ℕ → List ℕ) (m : Member) → of (kept_at waits followers t m) ≡ own m)
     → option_map of (get nat_eq queue.waiting t) ≡ (if done t then None else option_map own (slice_get (members_of groups) t))
 told_of of own queue groups done t stands same =
@@ -50,7 +50,7 @@ free_step waits followers t m true all o there free = refl
 free_step waits followers t m false all o there free = ap (λ (x : Option Member). is_free (option_map (kept_at waits followers t) x)) there ∙ free refl
 
 -- those that wait for nothing are the released ones
-free_released : (queue : BeforeQueue) (groups : List Group) (done : ℕ → Bool) (t : ℕ) → Stands queue groups done → t < count_of groups
+free_released : (queue : BeforeQueue) (groups : List Group) (done : ℕ → Bool) (t : ℕ) → Keeps queue groups done → t < count_of groups
     → is_free (get nat_eq queue.waiting t) ≡ is_released groups done t
 free_released queue groups done t stands within =
     elim (slice_get_cases (members_of groups) t).1 [
@@ -63,7 +63,7 @@ free_released queue groups done t stands within =
       | inr past ↦ absurd (omega (arith, past.0, within))
     ]
 
-pub ready_first : (queue : BeforeQueue) (groups : List Group) (done : ℕ → Bool) (after result : Option ℕ) → Stands queue groups done
+pub ready_first : (queue : BeforeQueue) (groups : List Group) (done : ℕ → Bool) (after result : Option ℕ) → Keeps queue groups done
     → (IsRising queue.released.items.items → result ≡ first_that (is_after after) queue.released.items.items) → result ≡ ready_of groups done after
 ready_first queue groups done after result stands found =
     let test : ℕ → Bool = λ t. is_free (get nat_eq queue.waiting t) in

@@ -19,7 +19,7 @@ use Rattle.nim_order.proofs.Items.{filter_range}
 use Rattle.nim_queue.specs.Arrived.{HasArrived, HaveArrived, Sight, is_met, is_reached, sight_of}
 use Rattle.nim_queue.specs.Counts.{AreBrief, AreReleased, free_ones, is_free, is_in, kept_ones}
 use Rattle.nim_queue.specs.Joined.{HaveSameUses}
-use Rattle.nim_queue.specs.Stands.{Stands, is_reader, is_writer}
+use Rattle.nim_queue.specs.Stands.{Keeps, is_reader, is_writer}
 use Rattle.nim_queue.specs.declared.arrivals.Arrival.{Arrival}
 use Rattle.nim_queue.specs.declared.queue.BeforeQueue.{BeforeQueue}
 use Rattle.nim_queue.specs.declared.slot_use.SlotUse.{SlotUse}
@@ -79,10 +79,10 @@ released_roomier kept next old new n are same items capacity =
     }
 
 -- what a queue stands for stays
-pub still_stands : (old new : BeforeQueue) (groups : List Group) (done : ℕ → Bool) → Stands old groups done
+pub still_stands : (old new : BeforeQueue) (groups : List Group) (done : ℕ → Bool) → Keeps old groups done
     → ((t : ℕ) → get nat_eq new.waiting t ≡ get nat_eq old.waiting t) → HaveSameUses (get nat_eq old.slots) (get nat_eq new.slots)
     → new.released.items.items ≡ old.released.items.items → deque_capacity old.released.items ≤ deque_capacity new.released.items → new.links ≡ old.links
-    → new.given ≡ old.given → new.groups ≡ old.groups → Stands new groups done
+    → new.given ≡ old.given → new.groups ≡ old.groups → Keeps new groups done
 still_stands old new groups done stands waiting uses items capacity links given numbered =
     stands_still old new groups done stands waiting uses.written uses.read
     (released_roomier (get nat_eq old.waiting) (get nat_eq new.waiting) old.released new.released old.given stands.released waiting items capacity)

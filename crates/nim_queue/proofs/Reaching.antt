@@ -16,7 +16,7 @@ use Rattle.nim_command.proofs.Lists.{any_nothing, any_same}
 use Rattle.nim_order.proofs.Items.{get_front}
 use Rattle.nim_queue.specs.Arrived.{Sight, as_members, is_met, is_reached, is_written_in, named_in, sight_of}
 use Rattle.nim_queue.specs.Counts.{is_in}
-use Rattle.nim_queue.specs.Stands.{Stands, count_of, does_use_last, is_reader, is_writer, kept_at, open_waits}
+use Rattle.nim_queue.specs.Stands.{Keeps, count_of, does_use_last, is_reader, is_writer, kept_at, open_waits}
 use Rattle.nim_queue.specs.declared.queue.BeforeQueue.{BeforeQueue}
 use Rattle.nim_queue.specs.declared.slot_use.SlotUse.{SlotUse}
 use Rattle.nim_queue.specs.declared.waiting.Waiting.{Waiting}
@@ -252,7 +252,7 @@ and_false : (b : Bool) → (b && false) ≡ false
 and_false true = refl
 and_false false = refl
 
-pub reached_open : (queue : BeforeQueue) (groups : List Group) (done : ℕ → Bool) (past : List Command) (c : Command) (e : ℕ) → Stands queue groups done
+pub reached_open : (queue : BeforeQueue) (groups : List Group) (done : ℕ → Bool) (past : List Command) (c : Command) (e : ℕ) → Keeps queue groups done
     → is_reached (sight_of (get nat_eq queue.waiting) (get nat_eq queue.slots) queue.given past) c e
     ≡ is_in e (open_waits ((members_of groups ++ as_members (length groups) past) ++ record { group = length groups; command = c } ∷ []) done (queue.given + length past))
 reached_open queue groups done past c e stands =

@@ -17,7 +17,7 @@ use Rattle.nim_queue.specs.Arrived.{HasArrived, as_members, commands_of, link_to
 use Rattle.nim_queue.specs.Counts.{AreBrief, AreReleased, AreShort, AreWithin, IsRising, is_in, kept_ones, put_in}
 use Rattle.nim_queue.specs.Joined.{are_covered, counted, followed, gathered, gathered_reads, kept_new, more_read, rewritten}
 use Rattle.nim_queue.specs.Midway.{HasRoom, IsMidway}
-use Rattle.nim_queue.specs.Stands.{Stands, does_use_last, is_reader, is_writer, kept_at, open_waits}
+use Rattle.nim_queue.specs.Stands.{Keeps, does_use_last, is_reader, is_writer, kept_at, open_waits}
 use Rattle.nim_queue.specs.declared.arrivals.Arrival.{Arrival}
 use Rattle.nim_queue.specs.declared.arrivals.Reading.{Reading}
 use Rattle.nim_queue.specs.declared.queue.BeforeQueue.{BeforeQueue}
@@ -47,7 +47,7 @@ no_member groups next is =
     members_more groups next ∙ ap (λ (cs : List Command). members_of groups ++ as_members (length groups) cs) is ∙ append-nil (members_of groups)
 
 -- none has joined
-pub begun_midway : (start : BeforeQueue) (groups : List Group) (done : ℕ → Bool) → Stands start groups done → IsMidway start start [] groups done
+pub begun_midway : (start : BeforeQueue) (groups : List Group) (done : ℕ → Bool) → Keeps start groups done → IsMidway start start [] groups done
 begun_midway start groups done s = record {
   stands = λ next is.
       let same : members_of groups ≡ members_of (groups ++ next ∷ []) = sym (no_member groups next is) in
@@ -78,7 +78,7 @@ begun_midway start groups done s = record {
 
 -- one more has joined
 pub stepped : (start now after : BeforeQueue) (past rest : List Arrival) (a : Arrival) (groups : List Group) (done : ℕ → Bool) (any : Group)
-    → HasRoom start (past ++ a ∷ rest) → Stands start groups done → IsMidway start now past groups done
+    → HasRoom start (past ++ a ∷ rest) → Keeps start groups done → IsMidway start now past groups done
     → ((k : ℕ) (d : List ℕ) → AreShort (get nat_eq now.waiting) k → a.waits.items ≡ map (link_to now.given) d → k + length d < 2 ^ 63 → 0 < spare now.waiting
     → HasEntered (get nat_eq now.waiting) (get nat_eq after.waiting) (λ t. gathered t (map (link_to now.given) d)) now.given (kept_new now.groups a.command (length d)))
     → ((k : ℕ) (d : List Slot) → AreBrief (get nat_eq now.slots) k → a.reads.items ≡ map (reading_of now.given) d → k + length d < 2 ^ 63 → (s : ℕ)
@@ -178,7 +178,7 @@ stepped start now after past rest a groups done any room began mid waiting slots
     total : before + own ≡ start.links + counted (past ++ a ∷ [])
     total = omega (arith, counted_at past [] a, no_counted)
 
-    standing : Stands (record now { groups = length groups + 1; links = before }) (groups ++ record any { commands = commands_of past } ∷ []) done
+    standing : Keeps (record now { groups = length groups + 1; links = before }) (groups ++ record any { commands = commands_of past } ∷ []) done
     standing = mid.stands (record any { commands = commands_of past }) refl
 
     of_group : kept_new now.groups a.command (length d) ≡ kept_new (length groups) a.command (length d)

@@ -7,7 +7,7 @@ use Rattle.nim_command.specs.Waits.{Group}
 use Rattle.nim_queue.specs.Arrived.{HaveArrived, commands_of}
 use Rattle.nim_queue.specs.Counts.{kept_ones}
 use Rattle.nim_queue.specs.Joined.{are_covered, counted}
-use Rattle.nim_queue.specs.Stands.{Stands}
+use Rattle.nim_queue.specs.Stands.{Keeps}
 use Rattle.nim_queue.specs.declared.arrivals.Arrival.{Arrival}
 use Rattle.nim_queue.specs.declared.queue.BeforeQueue.{BeforeQueue}
 
@@ -22,7 +22,7 @@ pub record HasRoom (start : BeforeQueue) (all : List Arrival) : Type 0 where
 -- What the queue stands for once so many of the group's commands have joined it.
 pub record IsMidway (start now : BeforeQueue) (past : List Arrival) (groups : List Group) (done : ℕ → Bool) : Type 0 where
   pub stands : (next : Group) → next.commands ≡ commands_of past
-      → Stands (record now { groups = length groups + 1; links = start.links + counted past }) (groups ++ next ∷ []) done
+      → Keeps (record now { groups = length groups + 1; links = start.links + counted past }) (groups ++ next ∷ []) done
   pub given : now.given ≡ start.given + length past
   pub spare : spare start.waiting ≤ spare now.waiting + length past
   pub capacity : deque_capacity start.released.items ≤ deque_capacity now.released.items

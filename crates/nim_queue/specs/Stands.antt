@@ -84,9 +84,8 @@ is_reader ticket used = option_map_or (λ (u : SlotUse). is_in ticket u.readers)
 abbrev pub waiting_count : BeforeQueue → ℕ
 waiting_count queue = length (kept_ones (get nat_eq queue.waiting) queue.given)
 
--- The queue was given these groups, and just these of their commands are complete, each by its place in the order
--- given, which is its ticket. It keeps nothing of them but their number.
-pub record Stands (queue : BeforeQueue) (groups : List Group) (done : ℕ → Bool) : Type 0 where
+-- The queue keeps what it has to of these groups, of which just these commands are complete.
+pub record Keeps (queue : BeforeQueue) (groups : List Group) (done : ℕ → Bool) : Type 0 where
   -- whom each command waits for, and who waits for it, as often as they were met
   pub waits : ℕ → List ℕ
   pub followers : ℕ → List ℕ
@@ -107,5 +106,16 @@ pub record Stands (queue : BeforeQueue) (groups : List Group) (done : ℕ → Bo
   pub brief : AreBrief (get nat_eq queue.slots) queue.links
   pub given : queue.given ≡ count_of groups
   pub numbered : queue.groups ≡ length groups
+  -- no command is complete before it is given
+  pub later : (ticket : ℕ) → count_of groups ≤ ticket → done ticket ≡ false
+
+-- the same, as one fact to those who call the queue
+unfoldable pub IsKept : BeforeQueue → List Group → (ℕ → Bool) → Type 0
+IsKept queue groups done = Keeps queue groups done
+
+-- The queue was given these groups, and just these of their commands are complete, each by its place in the order
+-- given, which is its ticket. It keeps nothing of those but their number, and their tickets where they used a slot last.
+pub record Stands (queue : BeforeQueue) (groups : List Group) (done : ℕ → Bool) : Type 0 where
+  pub kept : IsKept queue groups done
   -- no command is complete before it is given
   pub later : (ticket : ℕ) → count_of groups ≤ ticket → done ticket ≡ false

@@ -12,7 +12,7 @@ ghost use Rattle.nim_queue.specs.Counts.{IsRising, put_in};
 ghost use Rattle.nim_queue.specs.Joined.{AreBrief, AreShort, counted, followed, gathered, gathered_reads, kept_new, more_read, rewritten};
 ghost use Rattle.nim_queue.specs.Midway.{HasRoom, IsMidway};
 ghost use Rattle.nim_order.specs.Progress.{IsReleasedAt};
-ghost use Rattle.nim_queue.specs.Stands.{Stands, command_of, done_with, group_of, is_after, nothing_done, ready_of};
+ghost use Rattle.nim_queue.specs.Stands.{Keeps, Stands, command_of, done_with, group_of, is_after, nothing_done, ready_of};
 
 use crate::arrivals::{Arrival, arrive_all};
 use crate::complete::free;
@@ -133,7 +133,7 @@ impl BeforeQueue {
     /// Takes in what has arrived, for which there is room.
     fn join_all(&mut self, arrived: Vec<Arrival>)
         requires tickets { self.old.given + length arrived.items < 2 ^ 64 }
-        ensures midway { (groups : List group_type) (done : ℕ → Bool) → group_type → HasRoom self.old arrived.items → Stands self.old groups done
+        ensures midway { (groups : List group_type) (done : ℕ → Bool) → group_type → HasRoom self.old arrived.items → Keeps self.old groups done
             → IsMidway self.old self.new arrived.items groups done }
         ensures groups { self.new.groups ≡ self.old.groups }
     {

@@ -5,26 +5,30 @@ use Rattle.std.proofs.Math.Path.{fun_ext}
 use Rattle.nim_queue.specs.Arrived.{HaveArrived}
 use Rattle.nim_queue.specs.declared.waiting.Waiting.{Waiting}
 use Rattle.nim_queue.proofs.Making.{arrivals_same, kept_at_most, ok_more, still_stands}
+use Rattle.nim_queue.proofs.Opening.{closed, opened}
 use Rattle.nim_queue.proofs.queue.BeforeQueue.make_room.Goals as goal
 
 pub returns-in_err-cover_all-clause-stands : goal.returns-in_err-cover_all-clause-stands
 returns-in_err-cover_all-clause-stands c groups done stands =
     let old = c.args.self.now in
     let same : deque_capacity old.released.items ≤ deque_capacity old.released.items = omega arith in
-    still_stands old (record old { slots = c.cover_all.new.slots }) groups done stands (λ t. refl) c.cover_all.ensures.same refl same refl refl refl
+    closed
+    (still_stands old (record old { slots = c.cover_all.new.slots }) groups done (opened stands) (λ t. refl) c.cover_all.ensures.same refl same refl refl refl)
 
 pub returns-in_err-reserve-clause-stands : goal.returns-in_err-reserve-clause-stands
 returns-in_err-reserve-clause-stands c groups done stands =
     let old = c.args.self.now in
     let same : deque_capacity old.released.items ≤ deque_capacity old.released.items = omega arith in
-    still_stands old (record old { slots = c.cover_all.new.slots; waiting = c.reserve.new.self }) groups done stands c.reserve.ensures.entries.2
-    c.cover_all.ensures.same refl same refl refl refl
+    closed
+    (still_stands old (record old { slots = c.cover_all.new.slots; waiting = c.reserve.new.self }) groups done (opened stands) c.reserve.ensures.entries.2
+    c.cover_all.ensures.same refl same refl refl refl)
 
 pub returns-clause-stands : goal.returns-clause-stands
 returns-clause-stands c groups done stands =
     let old = c.args.self.now in
-    still_stands old (record old { slots = c.cover_all.new.slots; waiting = c.reserve.new.self; released = c.make_room.new.self }) groups done stands
-    c.reserve.ensures.entries.2 c.cover_all.ensures.same c.make_room.ensures.items c.make_room.ensures.capacity refl refl refl
+    closed
+    (still_stands old (record old { slots = c.cover_all.new.slots; waiting = c.reserve.new.self; released = c.make_room.new.self }) groups done (opened stands)
+    c.reserve.ensures.entries.2 c.cover_all.ensures.same c.make_room.ensures.items c.make_room.ensures.capacity refl refl refl)
 
 pub returns-clause-room : goal.returns-clause-room
 returns-clause-room c =

@@ -7,8 +7,9 @@ use Rattle.std.proofs.lemmas.Option.{slice_get_past}
 use Rattle.nim_command.specs.Waits.{Group, Member, members_of}
 use Rattle.nim_queue.proofs.Looking.{waits_none}
 use Rattle.nim_queue.proofs.Beginning.{begun}
+use Rattle.nim_queue.proofs.Opening.{closed}
 use Rattle.nim_queue.proofs.queue.BeforeQueue.new.Goals as goal
 
 pub returns : goal.returns
 returns c =
-    begun _ (λ t. ap (lookup (λ k. nat_eq t k)) c.new.ensures.empty) (λ s. ap (lookup (λ k. nat_eq s k)) c.new-2.ensures.empty) c.new-3.ensures refl refl
+    closed (begun _ (λ t. ap (lookup (λ k. nat_eq t k)) c.new.ensures.empty) (λ s. ap (lookup (λ k. nat_eq s k)) c.new-2.ensures.empty) c.new-3.ensures refl refl)
