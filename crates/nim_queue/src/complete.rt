@@ -3,7 +3,7 @@ ghost use Rattle.std.specs.List.{position_or_len};
 ghost use Rattle.nim_queue.specs.Steps as spec;
 
 use crate::waiting::Waiting;
-use nim_base::{Seq, Slot, Worker};
+use nim_base::{Short, Slot, Worker};
 use nim_command::{Command, Kind};
 use std::alloc::Global;
 use std::mem;
@@ -48,7 +48,7 @@ fn nothing(alloc: Global) -> Command {
             peer: Worker(0),
             entry: 0,
         },
-        before: Seq::new(alloc),
+        before: Short::new(alloc),
     }
 }
 
