@@ -1,7 +1,7 @@
-use Rattle.std.proofs.Common.{◌≡◌, ◌<◌, ◌≤◌, ◌∙◌, ℕ, List, Option, Vec, length, sym, subst, arith, inl, inr, None, Some}
+use Rattle.std.proofs.Common.{◌≡◌, ◌<◌, ◌≤◌, ◌∙◌, ℕ, List, Option, Vec, length, sym, subst, arith, inl, inr, None, Some, false, refl}
 use Rattle.std.specs.Global.{Global}
 use Rattle.std.specs.Prelude.{IsSome}
-use Rattle.std.proofs.lemmas.Bool.{cases_lt, eqb-false, eqb-true}
+use Rattle.std.proofs.lemmas.Bool.{both_ways, cases_lt, eqb-false, eqb-true}
 use Rattle.nim_history.specs.declared.out.Out.{Out}
 use Rattle.nim_worker.specs.Left.{left_in}
 use Rattle.nim_top.specs.Carries.{IsPerformed}
@@ -12,31 +12,31 @@ use Rattle.nim_top.proofs.run.perform.Goals.{then-is_idle, else-is_idle}
 
 pub returns-clause-rests : goal.returns-clause-rests
 returns-clause-rests c =
-    let history = c.requires.history in
+    let history = c.requires.rests.history in
     let finished : IsFinished c.args.core.now c.begin-batch.new.self c.finish.new.self c.begin-batch.result c.in_ok-outs.outs.items history = record {
-      before = c.requires.stands;
+      before = c.requires.rests.stands;
       stale = c.begin-batch.ensures.stale;
-      out = c.begin-batch.ensures.stands history c.requires.stands;
-      taken = c.begin-batch.ensures.taken history c.requires.stands;
-      stands = c.in_ok-outs.ensures.stands history (c.begin-batch.ensures.stands history c.requires.stands);
-      gave = c.in_ok-outs.ensures.outs history (c.begin-batch.ensures.stands history c.requires.stands);
+      out = c.begin-batch.ensures.stands history c.requires.rests.stands;
+      taken = c.begin-batch.ensures.taken history c.requires.rests.stands;
+      stands = c.in_ok-outs.ensures.stands history (c.begin-batch.ensures.stands history c.requires.rests.stands);
+      gave = c.in_ok-outs.ensures.outs history (c.begin-batch.ensures.stands history c.requires.rests.stands);
     } in
     rests_then _ _ _ _ _ history finished
 
 pub returns-clause-left : goal.returns-clause-left
 returns-clause-left c =
-    let history = c.requires.history in
+    let history = c.requires.rests.history in
     let finished : IsFinished c.args.core.now c.begin-batch.new.self c.finish.new.self c.begin-batch.result c.in_ok-outs.outs.items history = record {
-      before = c.requires.stands;
+      before = c.requires.rests.stands;
       stale = c.begin-batch.ensures.stale;
-      out = c.begin-batch.ensures.stands history c.requires.stands;
-      taken = c.begin-batch.ensures.taken history c.requires.stands;
-      stands = c.in_ok-outs.ensures.stands history (c.begin-batch.ensures.stands history c.requires.stands);
-      gave = c.in_ok-outs.ensures.outs history (c.begin-batch.ensures.stands history c.requires.stands);
+      out = c.begin-batch.ensures.stands history c.requires.rests.stands;
+      taken = c.begin-batch.ensures.taken history c.requires.rests.stands;
+      stands = c.in_ok-outs.ensures.stands history (c.begin-batch.ensures.stands history c.requires.rests.stands);
+      gave = c.in_ok-outs.ensures.outs history (c.begin-batch.ensures.stands history c.requires.rests.stands);
     } in
     elim c.if-is_idle.branch [
       | then-is_idle w ↦
-          subst (λ (r : Option (Vec Out Global)). IsSome r → left_in c.finish.new.self < left_in c.args.core.now) (sym w.result-is) (λ some. absurd some)
+          subst (λ (r : Option (Vec Out Global)). IsSome r → left_in c.finish.new.self < left_in c.args.core.now) (sym w.result-is) (λ some. absurd (both_ways false refl some))
       | else-is_idle w ↦
           subst (λ (r : Option (Vec Out Global)). IsSome r → left_in c.finish.new.self < left_in c.args.core.now) (sym w.result-is)
           (λ some. fewer_left _ _ _ _ _ history finished
