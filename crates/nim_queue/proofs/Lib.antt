@@ -1,8 +1,18 @@
-mod Handing
 pub mod Arriving
+pub mod Beginning
 pub mod Completing
 pub mod Counting
+pub mod Covering
+pub mod Freeing
+pub mod Growing
+pub mod Joining
+pub mod Linking
 pub mod Lists
+pub mod Looking
+pub mod Making
+pub mod Reaching
 pub mod Released
-pub mod Searches
-pub mod Standing
+pub mod Rising
+pub mod Uses
+pub mod Stepping
+pub mod Taking

@@ -22,7 +22,7 @@ all_kept p test [] all = refl
 all_kept p test (n ∷ xs) all =
     let parts = and_parts (p n) (list_all p xs) all in kept_step p n (filter test xs) (test n) parts.0 (all_kept p test xs parts.1)
 
-pub released_at : (groups : List Group) (done : ℕ → Bool) (ticket : ℕ) → ticket < count_of groups → is_released groups done ticket ≡ true
+released_at : (groups : List Group) (done : ℕ → Bool) (ticket : ℕ) → ticket < count_of groups → is_released groups done ticket ≡ true
     → IsReleasedAt (placed_commands groups) done ticket
 unfolding listed
 released_at groups done ticket within released =

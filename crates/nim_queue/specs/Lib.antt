@@ -1,3 +1,5 @@
 pub mod Arrived
+pub mod Counts
+pub mod Joined
+pub mod Midway
 pub mod Stands
-pub mod Steps

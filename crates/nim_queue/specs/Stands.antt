@@ -1,12 +1,16 @@
 -- What a queue stands for: the groups that it was given, and which of their commands are complete.
-use Rattle.std.specs.Prelude.{◌≡◌, ℕ, ◌+◌, ◌≤◌, ◌==◌, Bool, true, false, not, ◌&&◌, ◌||◌, if◌then◌else◌, List, [], ◌∷◌, length, nat_lt, Option, None, Some, slice_get}
+use Rattle.std.specs.Prelude.{◌≡◌, ℕ, ◌+◌, ◌≤◌, ◌==◌, Bool, true, false, not, ◌&&◌, ◌||◌, if◌then◌else◌, List, [], ◌∷◌, drop, length, nat_eq, nat_lt, Option, None, Some, slice_get}
+use Rattle.std.specs.HashMap.{get}
 use Rattle.std.specs.List.{filter, list_all, range_with_len}
-use Rattle.std.specs.Option.{option_map}
+use Rattle.std.specs.Option.{option_map, option_map_or}
 use Rattle.nim_base.specs.declared.number.Slot.{Slot}
 use Rattle.nim_command.specs.declared.command.Command.{Command}
-use Rattle.nim_command.specs.Slots.{reads_of, writes_of}
+use Rattle.nim_command.specs.declared.command.Kind.{Kind}
+use Rattle.nim_command.specs.Slots.{does_read, does_write}
 use Rattle.nim_command.specs.Waits.{Group, Member, is_written_by, members_of, waits_of}
+use Rattle.nim_queue.specs.Counts.{AreBrief, AreReleased, AreShort, is_in, kept_ones, times}
 use Rattle.nim_queue.specs.declared.queue.BeforeQueue.{BeforeQueue}
+use Rattle.nim_queue.specs.declared.slot_use.SlotUse.{SlotUse}
 use Rattle.nim_queue.specs.declared.waiting.Waiting.{Waiting}
 
 -- how many commands the groups have: the ticket of the next one
@@ -51,41 +55,56 @@ done_with groups done ticket =
 abbrev pub nothing_done : ℕ → Bool
 nothing_done ticket = false
 
--- the slots that none of these commands writes
-abbrev pub unwritten : List Member → List Slot → List Slot
-unwritten members slots = filter (λ slot. not (is_written_by members slot)) slots
+-- the tickets of those that a command still waits for
+abbrev pub open_waits : List Member → (ℕ → Bool) → ℕ → List ℕ
+open_waits members done ticket = filter (λ earlier. not (done earlier)) (waits_of members ticket)
 
--- The command at a place as the queue keeps it, with those behind it: which of its slots none of them writes, and
--- what it still waits for.
-abbrev pub waiting_at : List Member → (ℕ → Bool) → ℕ → Member → List Member → Waiting
-waiting_at members done place m rest = record {
-  ticket = place;
+-- a command as the queue keeps it, with those that it waits for and those that wait for it
+abbrev pub kept_at : (ℕ → List ℕ) → (ℕ → List ℕ) → ℕ → Member → Waiting
+kept_at waits followers ticket m = record {
   group = m.group;
   command = m.command;
-  reads = unwritten rest (reads_of m.command.kind);
-  writes = unwritten rest (writes_of m.command.kind);
-  waits = filter (λ earlier. not (done earlier)) (waits_of members place);
+  pending = length (waits ticket);
+  followers = followers ticket;
 }
 
--- the commands from a place on that aren't complete
-abbrev pub waiting_from : List Member → (ℕ → Bool) → ℕ → List Member → List Waiting
-waiting_from members done place [] = []
-waiting_from members done place (m ∷ rest) =
-    if done place then waiting_from members done (place + 1) rest
-    else waiting_at members done place m rest ∷ waiting_from members done (place + 1) rest
+-- whether the command at a place uses a slot, and no later one writes it
+abbrev pub does_use_last : (Kind → Slot → Bool) → List Member → ℕ → Slot → Bool
+does_use_last uses members place slot =
+    option_map_or (λ (m : Member). uses m.command.kind slot && not (is_written_by (drop (place + 1) members) slot)) (slice_get members place) false
 
--- all commands that aren't complete, in the order given
-abbrev pub waiting_of : List Member → (ℕ → Bool) → List Waiting
-waiting_of members done = waiting_from members done 0 members
+-- whether a slot's last writer is the command of a ticket, and whether that is among its readers
+abbrev pub is_writer : ℕ → Option SlotUse → Bool
+is_writer ticket used = option_map_or (λ (u : SlotUse). option_map_or (λ writer. ticket == writer) u.writer false) used false
 
--- how many commands of a queue aren't complete
+abbrev pub is_reader : ℕ → Option SlotUse → Bool
+is_reader ticket used = option_map_or (λ (u : SlotUse). is_in ticket u.readers) used false
+
+-- how many commands of a queue aren't complete: those of its tickets that it keeps a command of
 abbrev pub waiting_count : BeforeQueue → ℕ
-waiting_count queue = length queue.waiting.items
+waiting_count queue = length (kept_ones (get nat_eq queue.waiting) queue.given)
 
 -- The queue was given these groups, and just these of their commands are complete, each by its place in the order
 -- given, which is its ticket. It keeps nothing of them but their number.
 pub record Stands (queue : BeforeQueue) (groups : List Group) (done : ℕ → Bool) : Type 0 where
-  pub waiting : queue.waiting.items ≡ waiting_of (members_of groups) done
+  -- whom each command waits for, and who waits for it, as often as they were met
+  pub waits : ℕ → List ℕ
+  pub followers : ℕ → List ℕ
+  pub kept : (ticket : ℕ) → get nat_eq queue.waiting ticket
+      ≡ (if done ticket then None else option_map (kept_at waits followers ticket) (slice_get (members_of groups) ticket))
+  -- they are those whom it has to wait for, and that aren't complete
+  pub left : (ticket earlier : ℕ) → done ticket ≡ false → is_in earlier (waits ticket) ≡ is_in earlier (open_waits (members_of groups) done ticket)
+  -- one waits for another as often as that one is followed by it
+  pub mirrored : (earlier later : ℕ) → done earlier ≡ false → done later ≡ false → times later (followers earlier) ≡ times earlier (waits later)
+  pub released : AreReleased (get nat_eq queue.waiting) queue.released queue.given
+  -- the last writer of each slot, and the readers since, where they aren't complete
+  pub written : (ticket slot : ℕ) → done ticket ≡ false
+      → is_writer ticket (get nat_eq queue.slots slot) ≡ does_use_last does_write (members_of groups) ticket (record { 0 = slot })
+  pub read : (ticket slot : ℕ) → done ticket ≡ false
+      → is_reader ticket (get nat_eq queue.slots slot) ≡ does_use_last does_read (members_of groups) ticket (record { 0 = slot })
+  -- no list is longer than was counted
+  pub short : AreShort (get nat_eq queue.waiting) queue.links
+  pub brief : AreBrief (get nat_eq queue.slots) queue.links
   pub given : queue.given ≡ count_of groups
   pub numbered : queue.groups ≡ length groups
   -- no command is complete before it is given

@@ -1,119 +1,333 @@
-ghost use Rattle.std.specs.Prelude.{◌≡◌, ◌+◌, ◌<◌, ◌^◌, ◌++◌, ◌∷◌, [], if◌then◌else◌, length, map, IfOk, OnOk};
-ghost use Rattle.nim_command.specs.Slots.{writes_of};
-ghost use Rattle.nim_queue.specs.Arrived.{HaveArrived, held_by};
-ghost use Rattle.nim_queue.specs.Steps as spec;
+ghost use Rattle.std.specs.Prelude.{◌≡◌, ◌+◌, ◌<◌, ◌^◌, length, ◌||◌, ◌&&◌, ◌==◌, ◌++◌, ◌∷◌, [], ℕ, not, if◌then◌else◌, false, is_some, map, nat_eq, unwrap_or, IfOk, OnOk};
+ghost use Rattle.std.specs.HashMap.{get};
+ghost use Rattle.std.specs.HashSet as bag;
+ghost use Rattle.std.specs.List.{list_any};
+ghost use Rattle.std.specs.Option.{option_map_or};
+ghost use Rattle.nim_base.specs.declared.number.Slot.{Slot as slot_type};
+ghost use Rattle.nim_command.specs.Slots.{does_write, is_among};
+ghost use Rattle.nim_queue.specs.Arrived.{HasArrived, HaveArrived, commands_of, is_reached, link_to, reading_of};
+ghost use Rattle.nim_queue.specs.Counts.{is_in};
+ghost use Rattle.nim_queue.specs.Stands.{is_reader, is_writer};
 
+use crate::slot_use::SlotUse;
 use crate::waiting::Waiting;
 use nim_base::{NoMemory, Slot};
 use nim_command::Command;
 use std::alloc::Global;
+use std::collections::{HashMap, HashSet, LinkedList};
 
-/// The commands of a group before the queue has them, with what they wait for, and the slots that they write.
+/// A command of a group before the queue has it, with all that the queue needs to take it in.
 #[derive(Drop)]
-pub(crate) struct Arrivals {
-    pub(crate) fresh: Vec<Waiting>,
-    pub(crate) written: Vec<Slot>,
+pub(crate) struct Arrival {
+    pub(crate) command: Command,
+    /// The tickets of those that it waits for, as often as it does, each with its own ticket for their followers.
+    pub(crate) waits: Vec<Link>,
+    /// The slots that it reads, each with its ticket for their readers.
+    pub(crate) reads: Vec<Reading>,
+}
+
+/// A ticket, and what is to be appended to the followers of its command.
+#[derive(Drop)]
+pub(crate) struct Link {
+    pub(crate) earlier: u64,
+    pub(crate) later: LinkedList<u64>,
+}
+
+/// A slot, and what is to be appended to its readers.
+#[derive(Drop)]
+pub(crate) struct Reading {
+    pub(crate) slot: Slot,
+    pub(crate) reader: LinkedList<u64>,
 }
 
 /// The commands of a group, the first with this ticket, behind those that wait.
-pub(crate) fn arrive(
+pub(crate) fn arrive_all(
     alloc: Global,
-    waiting: &[Waiting],
-    group: u64,
+    waiting: &HashMap<u64, Waiting>,
+    slots: &HashMap<u16, SlotUse>,
     first: u64,
     commands: Vec<Command>,
-) -> Result<Arrivals, NoMemory>
+) -> Result<Vec<Arrival>, NoMemory>
     requires { first + length commands.items < 2 ^ 64 }
-    ensures arrived { IfOk result (λ a. HaveArrived waiting.now group first commands.items a) }
-    ensures count { IfOk result (λ a. length a.fresh.items ≡ length commands.items) }
+    ensures commands { IfOk result (λ arrived. commands_of arrived.items ≡ commands.items) }
+    ensures arrived { IfOk result (λ arrived. HaveArrived (get nat_eq waiting.now) (get nat_eq slots.now) first [] arrived.items) }
 {
-    let mut arrived = Arrivals {
-        fresh: Vec::new(alloc),
-        written: Vec::new(alloc),
-    };
+    let mut arrived = Vec::with_capacity(alloc, commands.len())?;
+    let mut arrivals = Arrivals::new(alloc);
     let mut ticket = first;
     for command in commands {
-        arrived.take(alloc, waiting, group, ticket, command)?;
+        arrived.push(arrivals.arrive(waiting, slots, ticket, command)?)?;
         ticket += 1;
     }
     Ok(arrived)
 }
 
+/// What a group has so far: the tickets by the commands' numbers, and the slots that are written.
+#[derive(Drop)]
+pub(crate) struct Arrivals {
+    alloc: Global,
+    numbers: HashMap<u32, LinkedList<u64>>,
+    written: HashSet<u16>,
+}
+
 impl Arrivals {
-    /// One more command arrives.
-    fn take(
+    /// Nothing yet; takes no memory.
+    pub(crate) fn new(alloc: Global) -> Arrivals
+        ensures numbers { (n : ℕ) → unwrap_or (get nat_eq result.numbers n) [] ≡ [] }
+        ensures written { (s : ℕ) → bag.contains nat_eq result.written s ≡ false }
+    {
+        Arrivals {
+            alloc,
+            numbers: HashMap::new(alloc),
+            written: HashSet::new(alloc),
+        }
+    }
+
+    /// One more command arrives, with this ticket, behind those that wait.
+    pub(crate) fn arrive(
         &mut self,
-        alloc: Global,
-        waiting: &[Waiting],
-        group: u64,
+        waiting: &HashMap<u64, Waiting>,
+        slots: &HashMap<u16, SlotUse>,
         ticket: u64,
         command: Command,
-    ) -> Result<(), NoMemory>
-        ensures fresh { OnOk result (self.new.fresh.items ≡ map (spec.hidden (writes_of command.kind)) self.old.fresh.items
-            ++ spec.arrived_as ticket group command (held_by waiting.now group command self.old) ∷ []) }
-        ensures written { OnOk result (self.new.written.items ≡ self.old.written.items ++ writes_of command.kind) }
+    ) -> Result<Arrival, NoMemory>
+        ensures same { IfOk result (λ a. a.command ≡ command) }
+        ensures arrival { IfOk result (λ a. HasArrived
+            (record {
+              kept = get nat_eq waiting.now;
+              used = get nat_eq slots.now;
+              named = λ n. unwrap_or (get nat_eq self.old.numbers n) [];
+              written = bag.contains nat_eq self.old.written;
+            })
+            ticket a) }
+        ensures numbers { OnOk result ((n : ℕ) → unwrap_or (get nat_eq self.new.numbers n) []
+            ≡ unwrap_or (get nat_eq self.old.numbers n) [] ++ (if command.id == n then ticket ∷ [] else [])) }
+        ensures written { OnOk result ((s : ℕ) → bag.contains nat_eq self.new.written s
+            ≡ (bag.contains nat_eq self.old.written s || does_write command.kind (record { 0 = s }))) }
     {
-        let waits = self.holders(alloc, waiting, group, &command)?;
-        let arrived = Waiting::new(alloc, ticket, group, command, waits)?;
-        self.written.extend_from_slice(arrived.writes.as_slice())?;
-        hide_all(&mut self.fresh, arrived.writes.as_slice());
-        self.fresh.push(arrived)?;
+        let tickets = self.reach(waiting, slots, &command)?;
+        let waits = links(self.alloc, tickets.as_slice(), ticket)?;
+        let reads = readings(self.alloc, command.kind.reads(), ticket)?;
+        note_number(self.alloc, &mut self.numbers, command.id, ticket)?;
+        note_writes(&mut self.written, command.kind.writes())?;
+        Ok(Arrival {
+            command,
+            waits,
+            reads,
+        })
+    }
+
+    /// The tickets of those that a command waits for.
+    fn reach(
+        &self,
+        waiting: &HashMap<u64, Waiting>,
+        slots: &HashMap<u16, SlotUse>,
+        command: &Command,
+    ) -> Result<Vec<u64>, NoMemory>
+        ensures { IfOk result (λ tickets. (e : ℕ) → is_in e tickets.items ≡ is_reached
+            (record {
+              kept = get nat_eq waiting.now;
+              used = get nat_eq slots.now;
+              named = λ n. unwrap_or (get nat_eq self.now.numbers n) [];
+              written = bag.contains nat_eq self.now.written;
+            })
+            command.now e) }
+    {
+        let mut tickets = Vec::new(self.alloc);
+        self.add_named(&mut tickets, command.before.as_slice())?;
+        self.add_writers(&mut tickets, waiting, slots, command.kind.reads())?;
+        self.add_writers(&mut tickets, waiting, slots, command.kind.writes())?;
+        self.add_readers(&mut tickets, waiting, slots, command.kind.writes())?;
+        Ok(tickets)
+    }
+
+    /// The commands of the group with these numbers.
+    fn add_named(&self, tickets: &mut Vec<u64>, numbers: &[u32]) -> Result<(), NoMemory>
+        ensures { OnOk result ((e : ℕ) → is_in e tickets.new.items ≡ (is_in e tickets.old.items
+            || list_any (λ number. is_in e (unwrap_or (get nat_eq self.now.numbers number) [])) numbers.now)) }
+    {
+        for number in numbers {
+            push_named(tickets, &self.numbers, *number)?;
+        }
         Ok(())
     }
 
-    /// The tickets of those that hold a command back, among those that wait and what has arrived.
-    fn holders(
+    /// The waiting commands that write these slots, where none of the group has written them.
+    fn add_writers(
         &self,
-        alloc: Global,
-        waiting: &[Waiting],
-        group: u64,
-        command: &Command,
-    ) -> Result<Vec<u64>, NoMemory>
-        ensures { IfOk result (λ tickets. tickets.items ≡ held_by waiting.now group command.now self.now) }
+        tickets: &mut Vec<u64>,
+        waiting: &HashMap<u64, Waiting>,
+        slots: &HashMap<u16, SlotUse>,
+        touched: &[Slot],
+    ) -> Result<(), NoMemory>
+        ensures { OnOk result ((e : ℕ) → is_in e tickets.new.items ≡ (is_in e tickets.old.items || list_any (λ (slot : slot_type).
+            not (bag.contains nat_eq self.now.written slot.0) && (is_writer e (get nat_eq slots.now slot.0) && is_some (get nat_eq waiting.now e))) touched.now)) }
     {
-        let mut tickets = Vec::new(alloc);
-        add_holders(
-            &mut tickets,
-            waiting,
-            group,
-            self.written.as_slice(),
-            command,
-        )?;
-        add_holders(&mut tickets, self.fresh.as_slice(), group, &[], command)?;
-        Ok(tickets)
+        for slot in touched {
+            if !self.written.contains(&slot.0) {
+                push_writer(tickets, waiting, slots, *slot)?;
+            }
+        }
+        Ok(())
+    }
+
+    /// The waiting commands that read these slots, where none of the group has written them.
+    fn add_readers(
+        &self,
+        tickets: &mut Vec<u64>,
+        waiting: &HashMap<u64, Waiting>,
+        slots: &HashMap<u16, SlotUse>,
+        written: &[Slot],
+    ) -> Result<(), NoMemory>
+        ensures { OnOk result ((e : ℕ) → is_in e tickets.new.items ≡ (is_in e tickets.old.items || list_any (λ (slot : slot_type).
+            not (bag.contains nat_eq self.now.written slot.0) && (is_reader e (get nat_eq slots.now slot.0) && is_some (get nat_eq waiting.now e))) written.now)) }
+    {
+        for slot in written {
+            if !self.written.contains(&slot.0) {
+                push_readers(tickets, waiting, slots, *slot)?;
+            }
+        }
+        Ok(())
     }
 }
 
-/// Appends the tickets of those that hold a command back.
-fn add_holders(
-    tickets: &mut Vec<u64>,
-    waiting: &[Waiting],
-    group: u64,
-    written: &[Slot],
-    command: &Command,
+fn note_number(
+    alloc: Global,
+    numbers: &mut HashMap<u32, LinkedList<u64>>,
+    number: u32,
+    ticket: u64,
 ) -> Result<(), NoMemory>
-    ensures { OnOk result (tickets.new.items ≡ tickets.old.items ++ spec.holders waiting.now group written.now command.now) }
+    ensures { OnOk result ((n : ℕ) → unwrap_or (get nat_eq numbers.new n) []
+        ≡ unwrap_or (get nat_eq numbers.old n) [] ++ (if number == n then ticket ∷ [] else [])) }
 {
-    for w in waiting {
-        push_if(tickets, w.holds_back(group, written, command), w.ticket)?;
+    if let Some(named) = numbers.get_mut(&number) {
+        named.push_back(ticket)?;
+        return Ok(());
+    }
+    numbers.insert(number, alone(alloc, ticket)?)?;
+    Ok(())
+}
+
+fn note_writes(written: &mut HashSet<u16>, slots: &[Slot]) -> Result<(), NoMemory>
+    ensures { OnOk result ((s : ℕ) → bag.contains nat_eq written.new s ≡ (bag.contains nat_eq written.old s || is_among slots.now (record { 0 = s }))) }
+{
+    for slot in slots {
+        written.insert(slot.0)?;
     }
     Ok(())
 }
 
-fn push_if(tickets: &mut Vec<u64>, wanted: bool, ticket: u64) -> Result<(), NoMemory>
-    ensures { OnOk result (tickets.new.items ≡ tickets.old.items ++ (if wanted then ticket ∷ [] else [])) }
+fn push_named(
+    tickets: &mut Vec<u64>,
+    numbers: &HashMap<u32, LinkedList<u64>>,
+    number: u32,
+) -> Result<(), NoMemory>
+    ensures { OnOk result ((e : ℕ) → is_in e tickets.new.items ≡ (is_in e tickets.old.items || is_in e (unwrap_or (get nat_eq numbers.now number) []))) }
 {
-    if wanted {
+    if let Some(named) = numbers.get(&number) {
+        push_all(tickets, named)?;
+    }
+    Ok(())
+}
+
+fn push_all(tickets: &mut Vec<u64>, more: &LinkedList<u64>) -> Result<(), NoMemory>
+    ensures { OnOk result (tickets.new.items ≡ tickets.old.items ++ more.now) }
+{
+    for ticket in more.iter() {
+        tickets.push(*ticket)?;
+    }
+    Ok(())
+}
+
+fn push_writer(
+    tickets: &mut Vec<u64>,
+    waiting: &HashMap<u64, Waiting>,
+    slots: &HashMap<u16, SlotUse>,
+    slot: Slot,
+) -> Result<(), NoMemory>
+    ensures { OnOk result ((e : ℕ) → is_in e tickets.new.items
+        ≡ (is_in e tickets.old.items || (is_writer e (get nat_eq slots.now slot.0) && is_some (get nat_eq waiting.now e)))) }
+{
+    if let Some(used) = slots.get(&slot.0) {
+        if let Some(writer) = used.writer {
+            push_kept(tickets, waiting, writer)?;
+        }
+    }
+    Ok(())
+}
+
+fn push_readers(
+    tickets: &mut Vec<u64>,
+    waiting: &HashMap<u64, Waiting>,
+    slots: &HashMap<u16, SlotUse>,
+    slot: Slot,
+) -> Result<(), NoMemory>
+    ensures { OnOk result ((e : ℕ) → is_in e tickets.new.items
+        ≡ (is_in e tickets.old.items || (is_reader e (get nat_eq slots.now slot.0) && is_some (get nat_eq waiting.now e)))) }
+{
+    if let Some(used) = slots.get(&slot.0) {
+        push_each(tickets, waiting, &used.readers)?;
+    }
+    Ok(())
+}
+
+fn push_each(
+    tickets: &mut Vec<u64>,
+    waiting: &HashMap<u64, Waiting>,
+    readers: &LinkedList<u64>,
+) -> Result<(), NoMemory>
+    ensures { OnOk result ((e : ℕ) → is_in e tickets.new.items ≡ (is_in e tickets.old.items || (is_in e readers.now && is_some (get nat_eq waiting.now e)))) }
+{
+    for reader in readers.iter() {
+        push_kept(tickets, waiting, *reader)?;
+    }
+    Ok(())
+}
+
+/// A ticket, where its command waits.
+fn push_kept(
+    tickets: &mut Vec<u64>,
+    waiting: &HashMap<u64, Waiting>,
+    ticket: u64,
+) -> Result<(), NoMemory>
+    ensures { OnOk result ((e : ℕ) → is_in e tickets.new.items ≡ (is_in e tickets.old.items || ((e == ticket) && is_some (get nat_eq waiting.now e)))) }
+{
+    if waiting.contains_key(&ticket) {
         tickets.push(ticket)?;
     }
     Ok(())
 }
 
-/// Later commands write these slots.
-pub(crate) fn hide_all(waiting: &mut [Waiting], written: &[Slot])
-    ensures { waiting.new ≡ map (spec.hidden written.now) waiting.old }
+fn links(alloc: Global, tickets: &[u64], later: u64) -> Result<Vec<Link>, NoMemory>
+    ensures { IfOk result (λ waits. waits.items ≡ map (link_to later) tickets.now) }
 {
-    for w in waiting.iter_mut() {
-        w.hide(written);
+    let mut waits = Vec::with_capacity(alloc, tickets.len())?;
+    for earlier in tickets {
+        waits.push(Link {
+            earlier: *earlier,
+            later: alone(alloc, later)?,
+        })?;
     }
+    Ok(waits)
+}
+
+fn readings(alloc: Global, slots: &[Slot], reader: u64) -> Result<Vec<Reading>, NoMemory>
+    ensures { IfOk result (λ reads. reads.items ≡ map (reading_of reader) slots.now) }
+{
+    let mut reads = Vec::with_capacity(alloc, slots.len())?;
+    for slot in slots {
+        reads.push(Reading {
+            slot: *slot,
+            reader: alone(alloc, reader)?,
+        })?;
+    }
+    Ok(reads)
+}
+
+fn alone(alloc: Global, ticket: u64) -> Result<LinkedList<u64>, NoMemory>
+    ensures { IfOk result (λ list. list ≡ ticket ∷ []) }
+{
+    let mut list = LinkedList::new(alloc);
+    list.push_back(ticket)?;
+    Ok(list)
 }

@@ -1,67 +1,84 @@
-ghost use Rattle.std.specs.Prelude.{◌≡◌, map};
-ghost use Rattle.std.specs.List.{position_or_len};
-ghost use Rattle.nim_queue.specs.Steps as spec;
+ghost use Rattle.std.specs.Prelude.{◌≡◌, ◌==◌, ℕ, if◌then◌else◌, false, nat_eq, None, Some};
+ghost use Rattle.std.specs.HashMap.{get};
+ghost use Rattle.std.specs.Option.{option_map, option_map_or};
+ghost use Rattle.std.specs.VecDeque.{deque_capacity};
+ghost use Rattle.nim_queue.specs.Counts.{AreReleased, IsRising, fewer, taken_out, times};
+ghost use Rattle.nim_queue.specs.declared.waiting.Waiting.{Waiting as waiting_type};
 
+use crate::tickets::Tickets;
 use crate::waiting::Waiting;
-use nim_base::{Short, Slot, Worker};
-use nim_command::{Command, Kind};
-use std::alloc::Global;
-use std::mem;
+use nim_command::Command;
+use std::collections::{HashMap, LinkedList};
 
 /// The command of this ticket is complete: it waits no more, and none waits for it. Gives it, if it was waiting.
-pub(crate) fn free_all(alloc: Global, waiting: &mut Vec<Waiting>, ticket: u64) -> Option<Command>
-    ensures rest { waiting.new.items ≡ spec.all_freed ticket waiting.old.items }
-    ensures command { result ≡ spec.command_at waiting.old.items ticket }
+pub(crate) fn free(
+    waiting: &mut HashMap<u64, Waiting>,
+    released: &mut Tickets,
+    ticket: u64,
+) -> Option<Command>
+    ensures command { result ≡ option_map (λ (w : waiting_type). w.command) (get nat_eq waiting.old ticket) }
+    ensures gone { (w : waiting_type) → get nat_eq waiting.old ticket ≡ Some w → (t : ℕ) → get nat_eq waiting.new t
+        ≡ option_map (fewer (times t w.followers)) (if ticket == t then None else get nat_eq waiting.old t) }
+    ensures absent { get nat_eq waiting.old ticket ≡ None → (t : ℕ) → get nat_eq waiting.new t ≡ get nat_eq waiting.old t }
+    ensures released { (n : ℕ) → AreReleased (get nat_eq waiting.old) released.old n → AreReleased (get nat_eq waiting.new) released.new n }
 {
-    let command = take_command(alloc, waiting, ticket);
-    drop_ticket(waiting, ticket);
-    free_each(waiting, ticket);
-    command
-}
-
-/// Moves the command of this ticket out; what is left in its place is of no use.
-fn take_command(alloc: Global, waiting: &mut [Waiting], ticket: u64) -> Option<Command>
-    ensures rest { spec.all_but ticket waiting.new ≡ spec.all_but ticket waiting.old }
-    ensures command { result ≡ spec.command_at waiting.old ticket }
-{
-    let at = place_of(waiting, ticket);
-    if at < waiting.len() {
-        Some(mem::replace(&mut waiting[at].command, nothing(alloc)))
-    } else {
-        None
+    match waiting.remove(&ticket) {
+        Some(done) => {
+            let Waiting {
+                group: _,
+                command,
+                pending,
+                followers,
+            } = done;
+            forget(released, ticket, pending);
+            count_down_all(waiting, released, followers);
+            Some(command)
+        }
+        None => None,
     }
 }
 
-/// The place of the command of this ticket; past the end where it isn't there.
-fn place_of(waiting: &[Waiting], ticket: u64) -> usize
-    ensures { result ≡ position_or_len (spec.has_ticket ticket) waiting.now }
+/// A command that waited for so many was complete.
+fn forget(released: &mut Tickets, ticket: u64, pending: u64)
+    ensures items { IsRising released.old.items.items
+        → released.new.items.items ≡ (if pending == 0 then taken_out ticket released.old.items.items else released.old.items.items) }
+    ensures capacity { deque_capacity released.new.items ≡ deque_capacity released.old.items }
 {
-    waiting.iter().take_while(|w| ticket != w.ticket).count()
-}
-
-/// A command of no use.
-fn nothing(alloc: Global) -> Command {
-    Command {
-        id: 0,
-        kind: Kind::Send {
-            slot: Slot(0),
-            peer: Worker(0),
-            entry: 0,
-        },
-        before: Short::new(alloc),
+    if pending == 0 {
+        released.take(ticket);
     }
 }
 
-fn drop_ticket(waiting: &mut Vec<Waiting>, ticket: u64)
-    ensures { waiting.new.items ≡ spec.all_but ticket waiting.old.items }
+/// A command that these commands wait for, as often as they stand here, is complete.
+fn count_down_all(
+    waiting: &mut HashMap<u64, Waiting>,
+    released: &mut Tickets,
+    followers: LinkedList<u64>,
+)
+    ensures waiting { (t : ℕ) → get nat_eq waiting.new t ≡ option_map (fewer (times t followers)) (get nat_eq waiting.old t) }
+    ensures released { (n : ℕ) → AreReleased (get nat_eq waiting.old) released.old n → AreReleased (get nat_eq waiting.new) released.new n }
 {
-    waiting.retain(|w| ticket != w.ticket);
+    for follower in followers {
+        count_down(waiting, released, follower);
+    }
 }
 
-fn free_each(waiting: &mut [Waiting], ticket: u64)
-    ensures { waiting.new ≡ map (spec.freed ticket) waiting.old }
+fn count_down(waiting: &mut HashMap<u64, Waiting>, released: &mut Tickets, ticket: u64)
+    ensures waiting { (t : ℕ) → get nat_eq waiting.new t ≡ option_map (fewer (if ticket == t then 1 else 0)) (get nat_eq waiting.old t) }
+    ensures released { (n : ℕ) → AreReleased (get nat_eq waiting.old) released.old n → AreReleased (get nat_eq waiting.new) released.new n }
 {
-    for w in waiting.iter_mut() {
-        w.free(ticket);
+    if has_last(waiting, ticket) {
+        released.put(ticket);
+    }
+}
+
+/// One of the waits of a command is complete, if it is there; whether it was the last.
+fn has_last(waiting: &mut HashMap<u64, Waiting>, ticket: u64) -> bool
+    ensures waiting { (t : ℕ) → get nat_eq waiting.new t ≡ option_map (fewer (if ticket == t then 1 else 0)) (get nat_eq waiting.old t) }
+    ensures last { result ≡ option_map_or (λ (w : waiting_type). w.pending == 1) (get nat_eq waiting.old ticket) false }
+{
+    match waiting.get_mut(&ticket) {
+        Some(w) => w.count_down(),
+        None => false,
     }
 }

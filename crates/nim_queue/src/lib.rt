@@ -3,8 +3,12 @@
 
 mod arrivals;
 mod complete;
+mod join;
+mod look;
 mod queue;
-mod search;
+mod room;
+mod slot_use;
+mod tickets;
 mod waiting;
 
 pub use queue::BeforeQueue;

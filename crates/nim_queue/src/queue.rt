@@ -1,29 +1,48 @@
-ghost use Rattle.std.specs.Prelude.{◌≡◌, ℕ, ◌+◌, ◌≤◌, ◌<◌, ◌^◌, ◌++◌, ◌∷◌, [], Bool, true, List, length, IfSome, OnOk, OnErr};
+ghost use Rattle.std.specs.Prelude.{◌≡◌, ℕ, ◌+◌, ◌≤◌, ◌<◌, ◌^◌, ◌++◌, ◌∷◌, [], Bool, true, List, length, map, nat_eq, ◌==◌, if◌then◌else◌, Some, IfSome, OnOk, OnErr};
 ghost use Rattle.std.specs.Vec.{vec_capacity, vec_len};
 ghost use Rattle.std.specs.Option.{option_copied};
 ghost use Rattle.nim_command.specs.Waits.{Group as group_type, placed_commands};
+ghost use Rattle.std.specs.HashMap.{get, spare};
+ghost use Rattle.std.specs.VecDeque.{deque_capacity, deque_len};
+ghost use Rattle.std.specs.Option.{option_map};
+ghost use Rattle.nim_base.specs.declared.number.Slot.{Slot as slot_type};
+ghost use Rattle.nim_command.specs.Slots.{is_among, writes_of};
+ghost use Rattle.nim_queue.specs.Arrived.{HaveArrived, link_to, reading_of};
+ghost use Rattle.nim_queue.specs.Counts.{IsRising, put_in};
+ghost use Rattle.nim_queue.specs.Joined.{AreBrief, AreShort, counted, followed, gathered, gathered_reads, kept_new, more_read, rewritten};
+ghost use Rattle.nim_queue.specs.Midway.{HasRoom, IsMidway};
 ghost use Rattle.nim_order.specs.Progress.{IsReleasedAt};
-ghost use Rattle.nim_queue.specs.Arrived.{joined};
 ghost use Rattle.nim_queue.specs.Stands.{Stands, command_of, done_with, group_of, is_after, nothing_done, ready_of};
 
-use crate::arrivals::{Arrivals, arrive, hide_all};
-use crate::complete::free_all;
-use crate::search::{command_at, first_free, group_at};
+use crate::arrivals::{Arrival, arrive_all};
+use crate::complete::free;
+use crate::join::{enter, follow, offer, read, write};
+use crate::look::{command_at, group_at};
+use crate::room::{count_all, cover_all};
+use crate::slot_use::SlotUse;
+use crate::tickets::Tickets;
 use crate::waiting::Waiting;
 use nim_base::NoMemory;
 use nim_command::Command;
 use std::alloc::Global;
+use std::collections::{HashMap, LinkedList};
 
 /// Commands that wait for others: those of their group that their before sets name, and those of earlier groups that
 /// they meet in a slot. The ticket of a command is its place in the order given. Which groups a queue stands for,
 /// and which of their commands are complete, is `Stands` of `specs/Stands.antt`.
 #[derive(Drop)]
 pub struct BeforeQueue {
-    alloc: Global,
-    /// The commands that aren't complete, in the order given.
-    waiting: Vec<Waiting>,
+    pub(crate) alloc: Global,
+    /// The commands that aren't complete, by ticket.
+    pub(crate) waiting: HashMap<u64, Waiting>,
+    /// Who uses a slot.
+    pub(crate) slots: HashMap<u16, SlotUse>,
+    /// Those that wait for nothing.
+    pub(crate) released: Tickets,
+    /// No list of followers or readers is longer.
+    links: u64,
     /// How many commands and groups were given.
-    given: u64,
+    pub(crate) given: u64,
     groups: u64,
 }
 
@@ -34,7 +53,10 @@ impl BeforeQueue {
     {
         BeforeQueue {
             alloc,
-            waiting: Vec::new(alloc),
+            waiting: HashMap::new(alloc),
+            slots: HashMap::new(alloc),
+            released: Tickets::new(alloc),
+            links: 0,
             given: 0,
             groups: 0,
         }
@@ -50,10 +72,12 @@ impl BeforeQueue {
         if group.len() as u64 > u64::MAX - self.given || self.groups == u64::MAX {
             return Err(NoMemory);
         }
-        self.waiting.reserve(group.len())?;
-        let waiting = self.waiting.as_slice();
-        let arrived = arrive(self.alloc, waiting, self.groups, self.given, group)?;
-        self.join(arrived);
+        let arrived = arrive_all(self.alloc, &self.waiting, &self.slots, self.given, group)?;
+        let links = count_all(self.links, arrived.as_slice())?;
+        self.make_room(arrived.as_slice())?;
+        self.join_all(arrived);
+        self.groups += 1;
+        self.links = links;
         Ok(())
     }
 
@@ -65,21 +89,21 @@ impl BeforeQueue {
             → IfSome result (λ ticket. IsReleasedAt (placed_commands groups) done ticket) }
         ensures later { IfSome result (λ ticket. is_after after ticket ≡ true) }
     {
-        first_free(self.waiting.as_slice(), after)
+        self.released.after(after)
     }
 
     /// The command of a ticket, while it isn't complete; takes no memory.
     pub fn command(&self, ticket: u64) -> Option<&Command>
         ensures { (groups : List group_type) (done : ℕ → Bool) → Stands self.now groups done → option_copied result ≡ command_of groups done ticket }
     {
-        command_at(self.waiting.as_slice(), ticket)
+        command_at(&self.waiting, ticket)
     }
 
     /// Which of the groups given, from 0 on, the command of a ticket is of, while it isn't complete; takes no memory.
     pub fn group(&self, ticket: u64) -> Option<u64>
         ensures { (groups : List group_type) (done : ℕ → Bool) → Stands self.now groups done → result ≡ group_of groups done ticket }
     {
-        group_at(self.waiting.as_slice(), ticket)
+        group_at(&self.waiting, ticket)
     }
 
     /// The command of a ticket is complete, and is handed back, where it wasn't complete before. A ticket that was never
@@ -88,25 +112,73 @@ impl BeforeQueue {
         ensures stands { (groups : List group_type) (done : ℕ → Bool) → Stands self.old groups done → Stands self.new groups (done_with groups done ticket) }
         ensures command { (groups : List group_type) (done : ℕ → Bool) → Stands self.old groups done → result ≡ command_of groups done ticket }
     {
-        if ticket < self.given {
-            return free_all(self.alloc, &mut self.waiting, ticket);
-        }
-        None
+        free(&mut self.waiting, &mut self.released, ticket)
+    }
+
+    /// Room for what has arrived.
+    fn make_room(&mut self, arrived: &[Arrival]) -> Result<(), NoMemory>
+        ensures stands { (groups : List group_type) (done : ℕ → Bool) → Stands self.old groups done → Stands self.new groups done }
+        ensures room { OnOk result (HaveArrived (get nat_eq self.old.waiting) (get nat_eq self.old.slots) self.old.given [] arrived.now
+            → self.old.links + counted arrived.now < 2 ^ 62 → HasRoom self.new arrived.now) }
+        ensures given { self.new.given ≡ self.old.given }
+        ensures groups { self.new.groups ≡ self.old.groups }
+        ensures links { self.new.links ≡ self.old.links }
+    {
+        cover_all(self.alloc, &mut self.slots, arrived)?;
+        self.waiting.reserve(arrived.len())?;
+        let count = self.waiting.len().saturating_add(arrived.len());
+        self.released.make_room(count)
     }
 
     /// Takes in what has arrived, for which there is room.
-    fn join(&mut self, arrived: Arrivals)
-        requires room { vec_len self.old.waiting + vec_len arrived.fresh ≤ vec_capacity self.old.waiting }
-        requires tickets { self.old.given + vec_len arrived.fresh < 2 ^ 64 }
-        requires number { self.old.groups + 1 < 2 ^ 64 }
-        ensures waiting { self.new.waiting.items ≡ joined self.old.waiting.items arrived }
-        ensures given { self.new.given ≡ self.old.given + length arrived.fresh.items }
-        ensures groups { self.new.groups ≡ self.old.groups + 1 }
+    fn join_all(&mut self, arrived: Vec<Arrival>)
+        requires tickets { self.old.given + length arrived.items < 2 ^ 64 }
+        ensures midway { (groups : List group_type) (done : ℕ → Bool) → group_type → HasRoom self.old arrived.items → Stands self.old groups done
+            → IsMidway self.old self.new arrived.items groups done }
+        ensures groups { self.new.groups ≡ self.old.groups }
     {
-        let Arrivals { mut fresh, written } = arrived;
-        hide_all(&mut self.waiting, written.as_slice());
-        self.given += fresh.len() as u64;
-        self.groups += 1;
-        let _ = self.waiting.append(&mut fresh);
+        for arrival in arrived {
+            self.join(arrival);
+        }
+    }
+
+    /// Takes in a command that has arrived, for which there is room.
+    fn join(&mut self, arrival: Arrival)
+        requires tickets { self.old.given + 1 < 2 ^ 64 }
+        ensures waiting { (k : ℕ) (d : List ℕ) → AreShort (get nat_eq self.old.waiting) k → arrival.waits.items ≡ map (link_to self.old.given) d
+            → k + length d < 2 ^ 63 → 0 < spare self.old.waiting → (t : ℕ) → get nat_eq self.new.waiting t
+            ≡ (if self.old.given == t then Some (kept_new self.old.groups arrival.command (length d))
+            else option_map (followed (gathered t (map (link_to self.old.given) d))) (get nat_eq self.old.waiting t)) }
+        ensures slots { (k : ℕ) (d : List slot_type) → AreBrief (get nat_eq self.old.slots) k → arrival.reads.items ≡ map (reading_of self.old.given) d
+            → k + length d < 2 ^ 63 → (s : ℕ) → get nat_eq self.new.slots s ≡ option_map (more_read (gathered_reads s arrival.reads.items))
+            (if is_among (writes_of arrival.command.kind) (record { 0 = s }) then option_map (rewritten self.old.given) (get nat_eq self.old.slots s)
+            else get nat_eq self.old.slots s) }
+        ensures released { IsRising self.old.released.items.items → deque_len self.old.released.items < deque_capacity self.old.released.items
+            → self.new.released.items.items ≡ (if length arrival.waits.items == 0 then put_in self.old.given self.old.released.items.items
+            else self.old.released.items.items) }
+        ensures capacity { deque_capacity self.old.released.items ≤ deque_capacity self.new.released.items }
+        ensures spare { spare self.old.waiting ≤ spare self.new.waiting + 1 }
+        ensures given { self.new.given ≡ self.old.given + 1 }
+        ensures groups { self.new.groups ≡ self.old.groups }
+        ensures links { self.new.links ≡ self.old.links }
+    {
+        let Arrival {
+            command,
+            waits,
+            reads,
+        } = arrival;
+        let pending = waits.len() as u64;
+        follow(&mut self.waiting, waits);
+        write(&mut self.slots, command.kind.writes(), self.given);
+        read(&mut self.slots, reads);
+        offer(&mut self.released, self.given, pending);
+        let w = Waiting {
+            group: self.groups,
+            command,
+            pending,
+            followers: LinkedList::new(self.alloc),
+        };
+        enter(&mut self.waiting, self.given, w);
+        self.given += 1;
     }
 }

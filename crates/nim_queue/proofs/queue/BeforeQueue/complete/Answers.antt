@@ -1,23 +1,25 @@
-use Rattle.std.proofs.Common.{◌∙◌, ℕ, ◌≤◌, List, ap, arith, refl, subst}
-use Rattle.nim_command.specs.Waits.{Member, members_of}
-use Rattle.nim_queue.specs.Steps.{command_at}
+use Rattle.std.proofs.Common.{◌≡◌, ◌∙◌, ℕ, nat_eq, refl, subst, sym, Option, None, Some, inl, inr}
+use Rattle.std.specs.HashMap.{get}
+use Rattle.nim_command.specs.Waits.{Member}
+use Rattle.nim_queue.specs.Stands.{Stands}
 use Rattle.nim_queue.specs.declared.waiting.Waiting.{Waiting}
-use Rattle.nim_queue.proofs.Handing.{none_given}
-use Rattle.nim_queue.proofs.Searches.{found_at}
-use Rattle.nim_queue.proofs.Standing.{completed}
+use Rattle.nim_queue.proofs.Completing.{completed, nothing_kept, option_cases, stands_still}
+use Rattle.nim_queue.proofs.Looking.{told_of}
 use Rattle.nim_queue.proofs.queue.BeforeQueue.complete.Goals as goal
 
-pub returns-then-ticket-self-clause-stands : goal.returns-then-ticket-self-clause-stands
-returns-then-ticket-self-clause-stands c = λ groups done stands.
-    completed c.args.self.now (record c.args.self.now { waiting = c.free_all.new.waiting }) groups done c.args.ticket
-    stands c.if-ticket-self.true c.free_all.ensures.rest refl refl
-
-pub returns-then-ticket-self-clause-command : goal.returns-then-ticket-self-clause-command
-returns-then-ticket-self-clause-command c = λ groups done stands.
-    c.free_all.ensures.command ∙ ap (λ (ws : List Waiting). command_at ws c.args.ticket) stands.waiting
-    ∙ found_at (λ (w : Waiting). w.command) (λ (m : Member). m.command) (members_of groups) done c.args.ticket 0 c.args.ticket (members_of groups)
-    (λ at x more. refl) (omega arith)
+pub returns-clause-stands : goal.returns-clause-stands
+returns-clause-stands c groups done stands =
+    let old = c.args.self.now in
+    let new = record old { waiting = c.free.new.waiting; released = c.free.new.released } in
+    let free = c.free.ensures.released old.given stands.released in
+    elim (option_cases (get nat_eq old.waiting c.args.ticket)) [
+      | inl none ↦
+          subst (Stands new groups) (sym (nothing_kept old groups done c.args.ticket stands none))
+          (stands_still old new groups done stands (c.free.ensures.absent none) (λ t s. refl) (λ t s. refl) free stands.brief refl refl refl)
+      | inr some ↦ completed old new groups done c.args.ticket some.0 stands some.1 (c.free.ensures.gone some.0 some.1) free (λ s. refl) refl refl refl
+    ]
 
 pub returns-clause-command : goal.returns-clause-command
-returns-clause-command c = λ groups done stands.
-    none_given (members_of groups) c.args.ticket (done c.args.ticket) (subst (λ (n : ℕ). n ≤ c.args.ticket) stands.given c.if-ticket-self.false)
+returns-clause-command c groups done stands =
+    c.free.ensures.command
+    ∙ told_of (λ (w : Waiting). w.command) (λ (m : Member). m.command) c.args.self.now groups done c.args.ticket stands (λ waits followers m. refl)
