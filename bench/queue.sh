@@ -17,7 +17,7 @@ cat >"$work/crates/bench_queue/src/main.rt" <<'END'
 //! Runs commands through the queue while so many wait, and prints what one of them took.
 #![tactic(auto)]
 
-use nim_base::{Seq, Slot};
+use nim_base::{Short, Slot};
 use nim_command::{Command, Kind};
 use nim_queue::BeforeQueue;
 use std::alloc::Global;
@@ -41,7 +41,7 @@ fn admit(queue: &mut BeforeQueue, alloc: Global, number: u64, slots: u64) -> io:
             iota: false,
             number: 3,
         },
-        before: Seq::new(alloc),
+        before: Short::new(alloc),
     })?;
     match queue.admit(group) {
         Ok(()) => Ok(()),
