@@ -8,7 +8,7 @@ work=$(mktemp -d)
 trap 'rm -rf "$work"' EXIT
 mkdir -p "$work/crates/bench_patch/src"
 cp HANDLES "$work"
-for crate in nim_base nim_command nim_place nim_patch; do
+for crate in nim_base nim_command nim_message nim_order nim_job nim_plan nim_place nim_patch; do
     cp -r "crates/$crate" "$work/crates"
     rm -rf "$work/crates/$crate/must-fail"
     grep "^$crate:" crates.txt >>"$work/crates.txt"
@@ -18,7 +18,7 @@ cat >"$work/crates/bench_patch/src/main.rt" <<'END'
 //! Flags the preconditions of a template ten thousand times, and prints picoseconds a precondition and how many fail.
 #![tactic(auto)]
 
-use nim_base::{Object, Seq, Slot, Worker};
+use nim_base::{Object, Seq, Short, Slot, Worker};
 use nim_command::{Command, Kind, WorkerTemplate};
 use nim_patch::failing;
 use nim_place::VersionMap;
@@ -63,7 +63,7 @@ fn template_of(alloc: Global) -> io::Result<WorkerTemplate> {
 fn fill(alloc: Global, map: &mut VersionMap, worker: u16, version: u64) {
     for object in 0..OBJECTS {
         let kind = Kind::Receive { slot: Slot(object), version };
-        map.apply_command(Worker(worker), &Command { id: 0, kind, before: Seq::new(alloc) });
+        map.apply_command(Worker(worker), &Command { id: 0, kind, before: Short::new(alloc) });
     }
 }
 

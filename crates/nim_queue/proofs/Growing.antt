@@ -76,9 +76,13 @@ released_joined kept next more old new n w are has put capacity room = record {
 
     fits : deque_len old.items < deque_capacity old.items
     fits =
-        omega
-        (arith, room, old.items.ok.0, ap length are.items,
-        fewer_pass (λ t. is_free (kept t)) (λ t. is_some (kept t)) (λ t free. free_some (kept t) free) (range_with_len 0 n))
+        omega (
+          arith,
+          room,
+          old.items.ok.0,
+          ap length are.items,
+          fewer_pass (λ t. is_free (kept t)) (λ t. is_some (kept t)) (λ t free. free_some (kept t) free) (range_with_len 0 n),
+        )
 
     other : (x : ℕ) → (n == x) ≡ false → is_free (next x) ≡ is_free (kept x)
     other x apart = ap is_free (entered_other kept next more n w x has apart) ∙ free_followed (more x) (kept x)

@@ -127,10 +127,14 @@ stepped start now after past rest a groups done any room began mid waiting slots
   spare = omega (arith, mid.spare, free, long);
   capacity = omega (arith, mid.capacity, capacity);
   count =
-      omega
-      (arith, mid.count, long, ap (λ (n : ℕ). length (kept_ones (get nat_eq after.waiting) n)) given,
-      kept_count (get nat_eq now.waiting) (get nat_eq after.waiting) (λ t. gathered t (map (link_to now.given) d)) now.given
-      (kept_new (length groups) a.command (length d)) entered);
+      omega (
+        arith,
+        mid.count,
+        long,
+        ap (λ (n : ℕ). length (kept_ones (get nat_eq after.waiting) n)) given,
+        kept_count (get nat_eq now.waiting) (get nat_eq after.waiting) (λ t. gathered t (map (link_to now.given) d)) now.given
+            (kept_new (length groups) a.command (length d)) entered,
+      );
   covered = λ s there.
       ap is_some (slots_are s) ∙ use_stays now.given (does_write kind (record { 0 = s })) (gathered_reads s a.reads.items) (get nat_eq now.slots s) ∙ mid.covered s there;
   number = number ∙ mid.number;

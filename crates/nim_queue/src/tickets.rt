@@ -80,13 +80,7 @@ fn only_past(ticket: Option<u64>, after: u64) -> Option<u64>
     ensures later { IfSome result (λ ticket. nat_lt after ticket ≡ true) }
 {
     match ticket {
-        Some(ticket) => {
-            if after < ticket {
-                Some(ticket)
-            } else {
-                None
-            }
-        }
+        Some(ticket) => { if after < ticket { Some(ticket) } else { None } }
         None => None,
     }
 }

@@ -6,7 +6,9 @@ ghost use Rattle.nim_template.specs.Fits.{is_fit};
 ghost use Rattle.nim_template.specs.Walk as spec;
 
 use crate::entry::push_all;
-use nim_base::{Copied, NoMemory, Object, Position, Seq, Short, Slot, Task, TaskForm, Version, Worker};
+use nim_base::{
+    Copied, NoMemory, Object, Position, Seq, Short, Slot, Task, TaskForm, Version, Worker,
+};
 use nim_command::{Command, Entry, Kind};
 use nim_place::{Placement, VersionMap, home, schedule_task};
 use std::alloc::Global;

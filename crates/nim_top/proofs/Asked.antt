@@ -58,18 +58,21 @@ in_group number (g ∷ groups) place below = elim (cases_lt place (length g.comm
 ] where
   as_member : Command → Member
   as_member command = record { group = number; command = command }
+
   front : List Member
   front = map as_member g.commands
+
   rest : List Member
   rest = members_from (number + 1) groups
+
   count : length front ≡ length g.commands
-  count = length-map as_member g.commands
+  count = length-map g.commands as_member
 
 pub asked_there : (groups : List Group) (place : ℕ) → place < length (members_of groups) → (asked : Asked) × (asked_at groups place ≡ Some asked)
 asked_there groups place below =
     let at = in_group 0 groups place below in
-    let same : at.member.group ≡ at.index = at.number_is in
-    (
+    let plain : 0 + at.index ≡ at.index = omega arith in
+    let same : at.member.group ≡ at.index = at.number_is ∙ plain in (
       record { number = at.member.group; group = at.group; command = at.member.command },
       ap (option_and_then (λ (m : Member). option_map (λ (group : Group). record { number = m.group; group = group; command = m.command }) (slice_get groups m.group))) at.is
           ∙ ap (λ (o : Option Group). option_map (λ (group : Group). record { number = at.member.group; group = group; command = at.member.command }) o) (ap (slice_get groups) same ∙ at.found),

@@ -1,6 +1,6 @@
 -- Of commands that need no other worker and are complete up to a place, a batch of one takes the next.
 use Rattle.std.proofs.Common.{◌≡◌, ℕ, ◌+◌, ◌-◌, ◌<◌, ◌≤◌, suc, zero, Bool, true, false, not, List, [], ◌∷◌, ◌++◌, length, refl, ap, ap₂, sym, subst, ◌∙◌, arith, Option, None, Some, inl, inr}
-use Rattle.std.specs.Prelude.{◌&&◌, ◌||◌, ◌==◌, if◌then◌else◌, nat_lt, slice_get}
+use Rattle.std.specs.Prelude.{◌&&◌, ◌||◌, ◌⊎◌, ◌==◌, if◌then◌else◌, nat_lt, slice_get}
 use Rattle.std.specs.FinMap as map
 use Rattle.std.specs.List.{filter, list_all, range_with_len}
 use Rattle.std.specs.Option.{option_map_or}
@@ -34,20 +34,25 @@ not_ranged from (suc n) place past =
     or_from (from == place) (is_one_of (range_with_len (from + 1) n) place) (ne_eqb from place (λ same. let both : from ≡ place = same in omega (arith, both, past))) (not_ranged (from + 1) n place (omega (arith, past)))
 
 range_joined : (from n m : ℕ) → range_with_len from (n + m) ≡ range_with_len from n ++ range_with_len (from + n) m
-range_joined from zero m = let start : from ≡ from + 0 = omega arith in ap (λ (k : ℕ). range_with_len k m) start
+range_joined from zero m =
+    let start : from ≡ from + 0 = omega arith in
+    let count : 0 + m ≡ m = omega arith in
+    ap₂ range_with_len start count
 range_joined from (suc n) m =
     let next : from + 1 + n ≡ from + suc n = omega arith in
-    ap (λ (ks : List ℕ). from ∷ ks) (range_joined (from + 1) n m ∙ ap (λ (k : ℕ). range_with_len (from + 1) n ++ range_with_len k m) next)
+    let count : suc n + m ≡ suc (n + m) = omega arith in
+    ap (range_with_len from) count
+    ∙ ap (λ (ks : List ℕ). from ∷ ks) (range_joined (from + 1) n m ∙ ap (λ (k : ℕ). range_with_len (from + 1) n ++ range_with_len k m) next)
 
 all_ranged : (test kept : ℕ → Bool) (from n : ℕ) → ((place : ℕ) → from ≤ place → place < from + n → test place ≡ true)
     → list_all test (filter kept (range_with_len from n)) ≡ true
 all_ranged test kept from zero are = refl
-all_ranged test kept from (suc n) are = either (kept from) where
-  more : list_all test (filter kept (range_with_len (from + 1) n)) ≡ true
-  more = all_ranged test kept (from + 1) n (λ place low high. are place (omega (arith, low)) (omega (arith, high)))
-  either : (b : Bool) → list_all test (if b then from ∷ filter kept (range_with_len (from + 1) n) else filter kept (range_with_len (from + 1) n)) ≡ true
-  either true = and_from (test from) (list_all test (filter kept (range_with_len (from + 1) n))) (are from (omega arith) (omega arith)) more
-  either false = more
+all_ranged test kept from (suc n) are =
+    either (kept from) (all_ranged test kept (from + 1) n (λ place low high. are place (omega (arith, low)) (omega (arith, high)))) where
+      either : (b : Bool) → list_all test (filter kept (range_with_len (from + 1) n)) ≡ true
+          → list_all test (if b then from ∷ filter kept (range_with_len (from + 1) n) else filter kept (range_with_len (from + 1) n)) ≡ true
+      either true more = and_from (test from) (list_all test (filter kept (range_with_len (from + 1) n))) (are from (omega arith) (omega arith)) more
+      either false more = more
 
 -- ---- what is taken
 
@@ -94,9 +99,10 @@ next_taken state done ran below may =
     let count = length (members_of state.session.groups) in
     let rest : List ℕ = range_with_len (done + 1) (count - done - 1) in
     let parts : count ≡ done + suc (count - done - 1) = omega (arith, below) in
+    let start : 0 + done ≡ done = omega arith in
     let yes : is_taken state [] done ≡ true = ap (λ (b : Bool). b && true) may in
     ap (λ (n : ℕ). taken_from state 1 [] (range_with_len 0 n)) parts
-    ∙ ap (taken_from state 1 []) (range_joined 0 done (suc (count - done - 1)))
+    ∙ ap (taken_from state 1 []) (range_joined 0 done (suc (count - done - 1)) ∙ ap (λ (from : ℕ). range_with_len 0 done ++ range_with_len from (suc (count - done - 1))) start)
     ∙ skipped state 0 done (done ∷ rest) (λ place low high. complete_below state done place ran (omega (arith, high)))
     ∙ ap (λ (b : Bool). if nat_lt 0 1 && b then taken_from state 1 (done ∷ []) rest else taken_from state 1 [] rest) yes
     ∙ full state done rest
@@ -111,11 +117,12 @@ none_taken state done ran past =
 -- a batch of at most one takes none or one
 either_taken : (state : WorkerState) (places : List ℕ) → (taken_from state 1 [] places ≡ []) ⊎ ((place : ℕ) × (taken_from state 1 [] places ≡ place ∷ []))
 either_taken state [] = inl refl
-either_taken state (place ∷ places) = either (is_taken state [] place) where
-  either : (b : Bool) → ((if nat_lt 0 1 && b then taken_from state 1 (place ∷ []) places else taken_from state 1 [] places) ≡ [])
+either_taken state (place ∷ places) = either (is_taken state [] place) (either_taken state places) where
+  either : (b : Bool) → (taken_from state 1 [] places ≡ []) ⊎ ((other : ℕ) × (taken_from state 1 [] places ≡ other ∷ []))
+      → ((if nat_lt 0 1 && b then taken_from state 1 (place ∷ []) places else taken_from state 1 [] places) ≡ [])
       ⊎ ((other : ℕ) × ((if nat_lt 0 1 && b then taken_from state 1 (place ∷ []) places else taken_from state 1 [] places) ≡ other ∷ []))
-  either true = inr (place, full state place places)
-  either false = either_taken state places
+  either true more = inr (place, full state place places)
+  either false more = more
 
 pub none_or_one : (state : WorkerState) → (taken_of state 1 ≡ []) ⊎ ((place : ℕ) × (taken_of state 1 ≡ place ∷ []))
 unfolding taken_of
@@ -126,16 +133,14 @@ none_or_one state = either_taken state (range_with_len 0 (length (members_of sta
 at_most : (first second : ℕ → Bool) (from n : ℕ) → ((place : ℕ) → second place ≡ true → first place ≡ true)
     → length (filter second (range_with_len from n)) ≤ length (filter first (range_with_len from n))
 at_most first second from zero fewer = omega arith
-at_most first second from (suc n) fewer = either (first from) refl (second from) refl where
-  more : length (filter second (range_with_len (from + 1) n)) ≤ length (filter first (range_with_len (from + 1) n))
-  more = at_most first second (from + 1) n fewer
-  either : (a : Bool) → first from ≡ a → (b : Bool) → second from ≡ b
+at_most first second from (suc n) fewer = either (at_most first second (from + 1) n fewer) (first from) refl (second from) refl where
+  either : length (filter second (range_with_len (from + 1) n)) ≤ length (filter first (range_with_len (from + 1) n)) → (a : Bool) → first from ≡ a → (b : Bool) → second from ≡ b
       → length (if b then from ∷ filter second (range_with_len (from + 1) n) else filter second (range_with_len (from + 1) n))
       ≤ length (if a then from ∷ filter first (range_with_len (from + 1) n) else filter first (range_with_len (from + 1) n))
-  either true is true also = omega (arith, more)
-  either true is false also = omega (arith, more)
-  either false is true also = absurd (both_ways (first from) is (fewer from also))
-  either false is false also = more
+  either more true is true also = omega (arith, more)
+  either more true is false also = omega (arith, more)
+  either more false is true also = absurd (both_ways (first from) is (fewer from also))
+  either more false is false also = more
 
 -- where one less passes a test, fewer do
 pub fewer_pass : (first second : ℕ → Bool) (from n place : ℕ) → ((other : ℕ) → second other ≡ true → first other ≡ true) → from ≤ place → place < from + n
@@ -154,6 +159,7 @@ fewer_pass first second from (suc n) place fewer low high is gone = elim (cases_
   later more true a_is false b_is = omega (arith, more)
   later more false a_is true b_is = absurd (both_ways (first from) a_is (fewer from b_is))
   later more false a_is false b_is = more
+
   now : length (filter second (range_with_len (from + 1) n)) ≤ length (filter first (range_with_len (from + 1) n)) → (a b : Bool) → a ≡ true → b ≡ false
       → length (if b then from ∷ filter second (range_with_len (from + 1) n) else filter second (range_with_len (from + 1) n))
       < length (if a then from ∷ filter first (range_with_len (from + 1) n) else filter first (range_with_len (from + 1) n))

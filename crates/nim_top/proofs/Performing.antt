@@ -7,11 +7,10 @@ use Rattle.std.proofs.lemmas.Bool.{both_ways, cond-false, eq-eqb, or_left, or_ri
 use Rattle.std.proofs.lemmas.List.{append-nil, append_cancel_left, length-map}
 use Rattle.std.proofs.lemmas.List.Concat.{flat_map-append}
 use Rattle.nim_command.specs.declared.command.Command.{Command}
-use Rattle.nim_command.specs.Waits.{Member, commands_of, members_of, placed_commands}
+use Rattle.nim_command.specs.Waits.{Member, commands_of, members_of, placed, placed_commands}
 use Rattle.nim_message.specs.declared.order.ToWorker.{ToWorker}
 use Rattle.nim_message.specs.Orders.{Session, session_of}
 use Rattle.nim_order.specs.Progress.{is_one_of}
-use Rattle.nim_order.proofs.Listed.{length_from}
 use Rattle.nim_order.proofs.Orders.{one_more as gains}
 use Rattle.nim_job.specs.declared.job.Job.{Job}
 use Rattle.nim_job.specs.Whole.{is_whole}
@@ -61,7 +60,7 @@ finished old mid new batch outs history places f taken =
     let all : completions_of mid batch ≡ completions places =
     cond-false mid.stale [] (completions (tickets_of batch.works.items)) fresh ∙ ap completions tickets in
     record {
-      may = subst (λ (ps : List ℕ). MayAllHappen (state_of history) (completions ps)) tickets (may_out mid.stale f.out.at.out fresh);
+      may = subst (λ (ps : List ℕ). MayAllHappen (state_of history) (completions ps)) tickets (may_out mid batch (state_of history) mid.stale f.out.at.out fresh);
       stands = subst (λ (more : List Happening). Stands new None (history ++ more)) all f.stands;
       gave = subst (λ (more : List Happening). Gave (state_of history) outs (state_of (history ++ more))) all f.gave;
     }
@@ -161,13 +160,13 @@ some_works old mid new batch outs job orders done serve was f below =
     let within : done < length (members_of state.session.groups) = omega (arith, below, count) in
     let found = asked_there state.session.groups done within in
     let may = next_may state done found.0 was.ran found.1 (next_own was.history orders done found.0 was.given serve.own below found.1) in
-    sym (length-map (λ (w : Work). w.ticket) batch.works.items) ∙ ap length (f.taken ∙ next_taken state done was.ran within may)
+    sym (length-map batch.works.items (λ (w : Work). w.ticket)) ∙ ap length (f.taken ∙ next_taken state done was.ran within may)
 
 pub no_works : (old mid new : WorkerCore) (batch : Batch) (outs : List Out) (orders : List ToWorker) (done : ℕ) → (was : IsInOrder old orders done)
     → IsFinished old mid new batch outs was.history → length (asked_for orders) ≤ done → length batch.works.items ≡ 0
 no_works old mid new batch outs orders done was f past =
     let count = count_is was.history orders was.given in
-    sym (length-map (λ (w : Work). w.ticket) batch.works.items) ∙ ap length (f.taken ∙ none_taken (state_of was.history) done was.ran (omega (arith, past, count)))
+    sym (length-map batch.works.items (λ (w : Work). w.ticket)) ∙ ap length (f.taken ∙ none_taken (state_of was.history) done was.ran (omega (arith, past, count)))
 
 -- ---- whatever happened before
 
@@ -177,10 +176,14 @@ rests_then old mid new batch outs history f =
     let h = finished old mid new batch outs history (taken_of (state_of history) 1) f refl in
     record { history = history ++ completions (taken_of (state_of history) 1); stands = h.stands }
 
+placed_length : (all : List Member) (from : ℕ) (ms : List Member) → length (placed all (range_with_len from (length ms)) ms) ≡ length ms
+placed_length all from [] = refl
+placed_length all from (m ∷ ms) = ap (λ (n : ℕ). suc n) (placed_length all (from + 1) ms)
+
 within_members : (state : WorkerState) (place : ℕ) → place < length (placed_commands state.session.groups) → place < length (members_of state.session.groups)
 within_members state place below =
     let members : List Member = members_of state.session.groups in
-    omega (arith, below, length_from members 0 members)
+    omega (arith, below, placed_length members 0 members)
 
 ran_last : (ran : List ℕ) (place : ℕ) → is_one_of (ran ++ place ∷ []) place ≡ true
 ran_last ran place = gains ran place place ∙ or_right (is_one_of ran place) (place == place) (eq-eqb place place refl)
@@ -196,7 +199,7 @@ still_left ran place other left = either (is_one_of ran other) refl where
 pub fewer_left : (old mid new : WorkerCore) (batch : Batch) (outs : List Out) (history : List Happening) → IsFinished old mid new batch outs history
     → (length batch.works.items ≡ 0 → ⊥) → left_in new < left_in old
 fewer_left old mid new batch outs history f some = elim (none_or_one (state_of history)) [
-  | inl none ↦ absurd (some (sym (length-map (λ (w : Work). w.ticket) batch.works.items) ∙ ap length (f.taken ∙ none)))
+  | inl none ↦ absurd (some (sym (length-map batch.works.items (λ (w : Work). w.ticket)) ∙ ap length (f.taken ∙ none)))
   | inr one ↦ completed_one one.0 (finished old mid new batch outs history (one.0 ∷ []) f one.1)
 ] where
   completed_one : (place : ℕ) → HasHappened new outs history (place ∷ []) → left_in new < left_in old

@@ -10,7 +10,7 @@ use Rattle.std.proofs.lemmas.List.Elements.{All-head, All-nil, All-push, All-tai
 use Rattle.std.proofs.lemmas.List.Sums.{fold_push}
 use Rattle.nim_base.specs.declared.number.Object.{Object}
 use Rattle.nim_base.specs.declared.number.Slot.{Slot}
-use Rattle.nim_base.specs.Value.{Grid}
+use Rattle.nim_base.specs.Value.{Grid, empty_grid}
 use Rattle.nim_command.specs.declared.command.Command.{Command}
 use Rattle.nim_command.specs.declared.command.Kind.{Kind}
 use Rattle.nim_command.specs.declared.command.Kind.TheVariants.{Fetch, Run}
@@ -31,7 +31,7 @@ use Rattle.nim_plan.specs.Legal.{AreLegal, AreLegalFrom, IsLegal, IsLegalKind}
 use Rattle.nim_store.specs.declared.held.Held.{Held}
 use Rattle.nim_history.specs.declared.out.Out.{Out}
 use Rattle.nim_history.specs.History.{Asked, Happening, IsHistory, MayComplete, WorkerState, asked_at, frames_in, left_of, orders_in, outs_of, state_of, through_outs}
-use Rattle.nim_history.specs.Kept.{is_single, own_outs, seen}
+use Rattle.nim_history.specs.Kept.{held_at, is_single, own_outs, seen}
 use Rattle.nim_history.specs.Truth.{AreCovered, AreCoveredFrom, FindsRight, IsHandedTruth, IsTrueHeld, IsTrueOf, content_in}
 use Rattle.nim_history.proofs.GoesOn.{history_goes_on}
 use Rattle.nim_history.proofs.Law.{histories_are_true}
@@ -46,8 +46,7 @@ covered_from : (past orders : List ToWorker) → All IsOrderByRule past → All 
 covered_from past [] before rule = tt
 covered_from past (order ∷ orders) before rule =
     let more : All IsOrderByRule (past ++ order ∷ []) = All-push IsOrderByRule past order before (All-head IsOrderByRule order orders rule) in
-    let next : session_of (past ++ order ∷ []) ≡ after_order (session_of past) order = fold_push after_order no_session past order in
-    (
+    let next : session_of (past ++ order ∷ []) ≡ after_order (session_of past) order = fold_push after_order no_session past order in (
       subst (λ (s : Session). is_covered (placed_commands s.groups) ≡ true) next (orders_cover (past ++ order ∷ []) more),
       subst (λ (s : Session). AreCoveredFrom s orders) next (covered_from (past ++ order ∷ []) orders more (All-tail IsOrderByRule order orders rule)),
     )
@@ -93,7 +92,7 @@ fetched job now before slot same are some = either (now slot) refl where
   either None is = absurd (some (sym same ∙ ap (option_map (λ (held : Held). (held.object, held.version))) is))
   either (Some held) is =
       let true_held : IsTrueHeld job held = subst (λ (o : Option Held). IfSome o (IsTrueHeld job)) is are in
-      ap (λ (o : Option Held). (option_map_or (λ (h : Held). h) o held).value ∷ []) is ∙ ap (λ (g : Grid). g ∷ []) true_held.value
+      ap (λ (o : Option Held). (option_map_or (λ (h : Held). h) o (held_at slot 0 empty_grid)).value ∷ []) is ∙ ap (λ (g : Grid). g ∷ []) true_held.value
       ∙ ap (λ (o : Content). option_map_or (λ (c : Object × ℕ). version_value job c.0 c.1 ∷ []) o [])
       (sym (ap (option_map (λ (h : Held). (h.object, h.version))) is) ∙ same)
 

@@ -120,9 +120,6 @@ none_begun old history most stands none =
     let not : old.begun ≡ false = unbegun old.begun (is_some old.room ≡ true) stands.at.out.1.room (λ there. both_ways true (sym there ∙ ap is_some none) refl) in
     sym (nothing_taken (state_of history) most (none_asked history (sym stands.at.has.session.begun ∙ not)))
 
-pub never_begun : (old : WorkerCore) (history : List Happening) → Stands old None history → old.room ≡ None → old.begun ≡ true → ⊥
-never_begun old history stands none begun = both_ways true (sym (stands.at.out.1.room begun) ∙ ap is_some none) refl
-
 -- what a Run has read is what its task reads
 run_right : (job : Job) (before : Slot → Option Held) (kind : Kind) (work : Work) → work.position ≡ position_of kind → HasRead before kind work → truth.ReadsRight job before kind → ReadsRight job work
 run_right job before (Run at func params reads writes) work is read right position named =

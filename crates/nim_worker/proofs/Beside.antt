@@ -12,7 +12,7 @@ use Rattle.nim_base.specs.Apply.{apply_of, has_counts}
 use Rattle.nim_base.specs.Value.{Grid, empty_grid}
 use Rattle.nim_command.specs.declared.command.Kind.{Kind}
 use Rattle.nim_command.specs.declared.command.Kind.TheVariants.{Run}
-use Rattle.nim_command.specs.Slots.{does_read, does_touch, does_write, is_among, reads_of, writes_of}
+use Rattle.nim_command.specs.Slots.{does_read, does_touch, does_write, is_among, reads_of}
 use Rattle.nim_store.specs.declared.held.Held.{Held}
 use Rattle.nim_history.specs.Kept.{content_seen, fitting_shape, held_at, seen}
 use Rattle.nim_worker.specs.declared.batch.Work.{Work}
@@ -31,9 +31,6 @@ beside kind inner outer = λ s. if does_touch kind s then inner s else outer s
 
 pub touch_read : (kind : Kind) (s : Slot) → is_among (reads_of kind) s ≡ true → does_touch kind s ≡ true
 touch_read kind s is = or_left (does_read kind s) (does_write kind s) is
-
-pub touch_write : (kind : Kind) (s : Slot) → is_among (writes_of kind) s ≡ true → does_touch kind s ≡ true
-touch_write kind s is = or_right (does_read kind s) (does_write kind s) is
 
 -- what is taken is read
 pub touch_taken : (kind : Kind) (s : Slot) → is_among (reads_taken kind) s ≡ true → does_touch kind s ≡ true

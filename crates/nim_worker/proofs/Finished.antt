@@ -14,7 +14,7 @@ use Rattle.nim_store.specs.Stored.{slot_at}
 use Rattle.nim_history.specs.declared.out.Out.{Out}
 use Rattle.nim_history.specs.History.{Asked, Happening, Completed, MayAllHappen, WorkerState, after_asked, after_happening, asked_at, completed, outs_of, state_of}
 use Rattle.nim_history.specs.Truth.{IsGoodOut, IsHandedTruth}
-use Rattle.nim_history.proofs.GoesOn.{history_goes_on, truth_goes_on}
+use Rattle.nim_history.proofs.GoesOn.{truth_goes_on}
 use Rattle.nim_history.proofs.Law.{histories_are_true}
 use Rattle.nim_worker.specs.declared.batch.Batch.{Batch}
 use Rattle.nim_worker.specs.declared.batch.Work.{Work}
@@ -33,10 +33,6 @@ pub record AreCompleted (state : WorkerState) (all left : List Work) (outs : Lis
   pub has : HasState core (after_completions state (tickets_of past))
   pub work : IsAtWork core left (after_completions state (tickets_of past))
   pub gave : Gave state outs (after_completions state (tickets_of past))
-
--- none of them is at first
-pub none_completed : (state : WorkerState) (all : List Work) (core : WorkerCore) → HasState core state → IsAtWork core all state → AreCompleted state all all [] core
-none_completed state all core has work = record { past = []; split = refl; has = has; work = work; gave = sym (append-nil state.gave) }
 
 -- what a worker gave once one more command is complete
 pub gave_one : (state : WorkerState) (place : ℕ) → Gave state (outs_at state place) (completed state place)
@@ -76,15 +72,6 @@ pub record AllCompleted (state : WorkerState) (all : List Work) (outs : List Out
   pub work : IsAtWork core [] (after_completions state (tickets_of all))
   pub gave : Gave state outs (after_completions state (tickets_of all))
 
-pub all_completed : (state : WorkerState) (all : List Work) (outs : List Out) (core : WorkerCore) → AreCompleted state all [] outs core → AllCompleted state all outs core
-all_completed state all outs core are =
-    let same : are.past ≡ all = sym (are.split ∙ append-nil are.past) in
-    record {
-      has = subst (λ (ws : List Work). HasState core (after_completions state (tickets_of ws))) same are.has;
-      work = subst (λ (ws : List Work). IsAtWork core [] (after_completions state (tickets_of ws))) same are.work;
-      gave = subst (λ (ws : List Work). Gave state outs (after_completions state (tickets_of ws))) same are.gave;
-    }
-
 -- The command of the first work that is out.
 pub record IsFirstOut (core : WorkerCore) (first : Work) (left : List Work) (state : WorkerState) : Type 0 where
   pub asked : Asked
@@ -116,35 +103,6 @@ stands_finished old new batch history outs stands fresh all busy stale room =
     subst (λ (more : List Happening). Stands new None (history ++ more)) (sym (ap (λ (b : Bool). if b then [] else completions (tickets_of batch.works.items)) fresh))
     (stands_on new None history (completions (tickets_of batch.works.items)) stands.history out.0.may
     (record { has = all.has; busy = busy; out = (stale, record { slots = sym all.work.chain; room = room }) }))
-
-pub gave_finished : (old new : WorkerCore) (batch : Batch) (history : List Happening) (outs : List Out) → old.stale ≡ false → AllCompleted (state_of history) batch.works.items outs new
-    → Gave (state_of history) outs (state_of (history ++ completions_of old batch))
-gave_finished old new batch history outs fresh all =
-    ap (λ (more : List Happening). (state_of (history ++ more)).gave) (ap (λ (b : Bool). if b then [] else completions (tickets_of batch.works.items)) fresh)
-    ∙ ap (λ (s : WorkerState). s.gave) (history_goes_on.state history (completions (tickets_of batch.works.items)))
-    ∙ all.gave
-
--- a batch that was begun before the last Reset
-pub stands_dropped : (old : WorkerCore) (batch : Batch) (history : List Happening) → Stands old (Some batch) history → old.stale ≡ true
-    → Stands (record old { busy = false; stale = false }) None (history ++ completions_of old batch)
-stands_dropped old batch history stands stale =
-    let new : WorkerCore = record old { busy = false; stale = false } in
-    let out = subst (λ (s : Bool). IsOut old s batch (state_of history)) stale stands.at.out in
-    let has = stands.at.has in
-    let none : history ++ completions_of old batch ≡ history = ap (λ (b : Bool). history ++ (if b then [] else completions (tickets_of batch.works.items))) stale ∙ append-nil history in
-    subst (Stands new None) (sym none) (record {
-      history = stands.history;
-      at = record {
-        has = record { failed = has.failed; session = record { begun = has.session.begun; epoch = has.session.epoch; shapes = has.session.shapes; installed = has.session.installed }; admitted = has.admitted; inbox = has.inbox };
-        busy = refl;
-        out = (refl, record { slots = out.slots; room = out.room });
-      };
-    })
-
-pub gave_nothing : (old : WorkerCore) (batch : Batch) (history : List Happening) (outs : List Out) → old.stale ≡ true → outs ≡ [] → Gave (state_of history) outs (state_of (history ++ completions_of old batch))
-gave_nothing old batch history outs stale none =
-    ap (λ (h : List Happening). (state_of h).gave) (ap (λ (b : Bool). history ++ (if b then [] else completions (tickets_of batch.works.items))) stale ∙ append-nil history)
-    ∙ sym (append-nil (state_of history).gave) ∙ ap (λ (g : List Out). (state_of history).gave ++ g) (sym none)
 
 -- what is given is true of the job
 handed_still : (job : Job) (history : List Happening) (stale : Bool) (places : List ℕ) → IsHandedTruth job history → IsHandedTruth job (history ++ (if stale then [] else completions places))

@@ -23,11 +23,6 @@ use Rattle.nim_worker.specs.Stands.{HasState, IsAtWork, begun_of, outs_at, ticke
 use Rattle.nim_worker.specs.Works.{begun_as}
 use Rattle.nim_worker.proofs.Finished.{IsFirstOut}
 
--- what follows where a call succeeds
-pub on_ok : {T E P Q : Type 0} (r : Result T E) → (P → Q) → OnOk r P → OnOk r Q
-on_ok (Ok x) follows is = follows is
-on_ok (Err e) follows is = tt
-
 pub both_ok : {T E S : Type 0} {P Q : T → Type 0} (r : Result T E) → (S → (x : T) → P x → Q x) → OnOk r S → IfOk r P → IfOk r Q
 both_ok (Ok x) follows stands is = follows stands x is
 both_ok (Err e) follows stands is = tt

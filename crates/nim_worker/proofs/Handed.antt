@@ -201,26 +201,6 @@ stands_taken old installed admitted batch state order is taken begun epoch shape
     (subst (λ (s : Session). IsAdmitted admitted s.groups state.ran) (sym counts) (admit at.has.admitted))
     at
 
--- a core that lost nothing of what it stands for
-pub stands_kept : (old : WorkerCore) (installed : Installed) (admitted : Admitted) (batch : Option Batch) (state : WorkerState)
-    → (Has old.installed state.session.halves state.session.patches → Has installed state.session.halves state.session.patches)
-    → (IsAdmitted old.admitted state.session.groups state.ran → IsAdmitted admitted state.session.groups state.ran)
-    → StandsAt old batch state → StandsAt (record old { installed = installed; admitted = admitted }) batch state
-stands_kept old installed admitted batch state install admit at =
-    let new : WorkerCore = record old { installed = installed; admitted = admitted } in
-    let has = at.has.session in
-    let same : OutStays old new = record { store = refl; room = refl; begun = refl; stale = refl; busy = refl } in
-    record {
-      has = record {
-        failed = at.has.failed;
-        session = record { begun = has.begun; epoch = has.epoch; shapes = has.shapes; installed = install has.installed };
-        admitted = admit at.has.admitted;
-        inbox = at.has.inbox;
-      };
-      busy = at.busy;
-      out = out_stays old new batch state state same refl (λ works work. record { may = work.may; chain = work.chain }) at.out;
-    }
-
 -- a Reset
 stands_reset : (old new : WorkerCore) (batch : Option Batch) (state : WorkerState) (epoch : ℕ) (worker : Worker) (workers : ℕ) (shapes : List Shape) → IsReset old epoch shapes new
     → StandsAt old batch state → StandsAt new batch (ordered state (ToWorker.Reset epoch worker workers shapes))
@@ -355,8 +335,3 @@ stands_framed old inbox batch state frame late kept at =
       busy = at.busy;
       out = out_stays old new batch state (framed state frame) same (ap (λ (s : WorkerState). s.slots) is) (λ works work. work_framed old new state frame works is same work) at.out;
     }
-
--- an inbox that stays
-pub stands_as_it_was : (old : WorkerCore) (inbox : map.FinMap key_cmp Grid) (batch : Option Batch) (past : List Happening) → inbox ≡ old.inbox → Stands old batch past
-    → Stands (record old { inbox = inbox }) batch past
-stands_as_it_was old inbox batch past same stands = subst (λ (i : map.FinMap key_cmp Grid). Stands (record old { inbox = i }) batch past) (sym same) stands

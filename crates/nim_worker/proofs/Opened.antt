@@ -113,6 +113,18 @@ ended_is admitted groups ran ticket number command group through is known gave c
     })) entry.asked)
 
 -- it can't be that its group isn't there
+not_none : {X Y : Type 0} (f : X → Y) (xs : List X) (k : ℕ) → k < length xs → option_map f (slice_get xs k) ≡ None → ⊥
+not_none f [] k below is = omega (arith, below)
+not_none f (x ∷ xs) zero below is = none-some (f x) (sym is)
+not_none f (x ∷ xs) (suc k) below is = not_none f xs k (omega (arith, below)) is
+
+-- a command that isn't complete is there, and so is its group
+pub is_there : {Y : Type 0} (of : Member → Y) (groups : List Group) (ran : List ℕ) (ticket : ℕ) (A : Type 0) → ticket < queue.count_of groups → is_one_of ran ticket ≡ false
+    → (if is_one_of ran ticket then None else option_map of (slice_get (members_of groups) ticket)) ≡ None → A
+is_there of groups ran ticket A below waiting none =
+    absurd (not_none of (members_of groups) ticket below
+    (sym (cond-false (is_one_of ran ticket) None (option_map of (slice_get (members_of groups) ticket)) waiting) ∙ none))
+
 pub is_counted : (admitted : Admitted) (groups : List Group) (ran : List ℕ) (ticket number : ℕ) (A : Type 0) → IsAdmitted admitted groups ran
     → queue.group_of groups (is_one_of ran) ticket ≡ Some number → option_map one_less (get nat_cmp admitted.unfinished number) ≡ None → A
 is_counted admitted groups ran ticket number A is known none =

@@ -1,9 +1,10 @@
 use Rattle.std.proofs.Common.{◌∙◌, Bool, ap, refl, sym}
 use Rattle.std.specs.Prelude.{◌==◌, ◌&&◌}
+use Rattle.nim_command.specs.Waits.{Member}
 use Rattle.nim_order.specs.Progress.{is_one_of}
-use Rattle.nim_worker.proofs.Opened.{completed_stands, ended_is, is_counted}
+use Rattle.nim_worker.proofs.Opened.{completed_stands, ended_is, is_counted, is_there}
 use Rattle.nim_worker.proofs.admitted.Admitted.complete.Goals as goal
-use Rattle.nim_worker.proofs.admitted.Admitted.complete.Goals.{then-group, else-group}
+use Rattle.nim_worker.proofs.admitted.Admitted.complete.Goals.{then-group, else-group, in_default-via-in-Some+in_default, in_default-via-in_default}
 
 pub returns-after-group-clause-ended : goal.returns-after-group-clause-ended
 returns-after-group-clause-ended c = λ groups ran is within waiting.
@@ -31,3 +32,14 @@ pub returns-in-None-clause-stands : goal.returns-in-None-clause-stands
 returns-in-None-clause-stands c = λ groups ran is within waiting.
     is_counted c.args.self.now groups ran c.args.ticket c.in-Some-Some.number _ is
     (sym (c.group.ensures groups (is_one_of ran) is.queue) ∙ c.in-Some-Some.is-0) (sym c.count_down.ensures.group ∙ c.in-None.is)
+
+pub returns-in_default-clause-stands : goal.returns-in_default-clause-stands
+returns-in_default-clause-stands c = λ groups ran is within waiting.
+    elim c.in_default.branch [
+      | in_default-via-in-Some+in_default w ↦
+          is_there (λ (m : Member). m.command) groups ran c.args.ticket _ within waiting
+          (sym (c.complete.ensures.command groups (is_one_of ran) is.queue) ∙ w.in_default.is-1)
+      | in_default-via-in_default w ↦
+          is_there (λ (m : Member). m.group) groups ran c.args.ticket _ within waiting
+          (sym (c.group.ensures groups (is_one_of ran) is.queue) ∙ w.in_default.is-0)
+    ]
