@@ -1,5 +1,5 @@
 -- What a queue stands for that was given nothing.
-use Rattle.std.proofs.Common.{◌≡◌, ◌∙◌, ℕ, ◌≤◌, [], List, Option, None, nat_eq, refl, ap, sym, arith, true, false, not}
+use Rattle.std.proofs.Common.{◌≡◌, ◌∙◌, ℕ, [], List, Option, None, nat_eq, refl, ap, sym, arith, false, not}
 use Rattle.std.specs.HashMap.{get}
 use Rattle.std.specs.List.{filter, range_with_len}
 use Rattle.std.specs.Option.{option_map, option_map_or}
@@ -9,7 +9,7 @@ use Rattle.std.proofs.lemmas.Option.{slice_get_past}
 use Rattle.nim_base.specs.declared.number.Slot.{Slot}
 use Rattle.nim_command.specs.declared.command.Kind.{Kind}
 use Rattle.nim_command.specs.Slots.{does_read, does_write}
-use Rattle.nim_command.specs.Waits.{Group, Member, is_written_by, members_of, waits_of}
+use Rattle.nim_command.specs.Waits.{Member, is_written_by, members_of}
 use Rattle.nim_queue.specs.Counts.{is_free, is_in}
 use Rattle.nim_queue.specs.Stands.{Keeps, is_reader, is_writer, kept_at, nothing_done}
 use Rattle.nim_queue.specs.declared.queue.BeforeQueue.{BeforeQueue}

@@ -1,6 +1,6 @@
 -- What a queue stands for after a command is complete.
-use Rattle.std.proofs.Common.{◌≡◌, ℕ, zero, suc, ◌+◌, ◌-◌, ◌<◌, ◌≤◌, Bool, true, false, not, List, [], ◌∷◌, length, refl, ap, ap₂, sym, subst, ◌∙◌, ◌⊎◌, arith, Option, None, Some, inl, inr}
-use Rattle.std.specs.Prelude.{◌==◌, ◌&&◌, ◌||◌, if◌then◌else◌, is_some, nat_eq, nat_lt, slice_get, unwrap_or}
+use Rattle.std.proofs.Common.{◌≡◌, ℕ, zero, suc, ◌-◌, ◌<◌, ◌≤◌, Bool, true, false, not, List, [], ◌∷◌, length, refl, ap, ap₂, sym, subst, ◌∙◌, ◌⊎◌, arith, Option, None, Some, inl, inr}
+use Rattle.std.specs.Prelude.{◌==◌, ◌&&◌, ◌||◌, if◌then◌else◌, is_some, nat_eq, slice_get, unwrap_or}
 use Rattle.std.specs.HashMap.{get}
 use Rattle.std.specs.List.{filter}
 use Rattle.std.specs.Option.{option_map}
@@ -131,7 +131,7 @@ option_cases (Some x) = inr (x, refl)
 pub stands_still : (old new : BeforeQueue) (groups : List Group) (done : ℕ → Bool) → Keeps old groups done
     → ((t : ℕ) → get nat_eq new.waiting t ≡ get nat_eq old.waiting t)
     → ((t s : ℕ) → is_writer t (get nat_eq new.slots s) ≡ is_writer t (get nat_eq old.slots s))
-    → ((t s : ℕ) → is_reader t (get nat_eq new.slots s) ≡ is_reader t (get nat_eq old.slots s))
+    → ((t s : ℕ) → done t ≡ false → is_reader t (get nat_eq new.slots s) ≡ is_reader t (get nat_eq old.slots s))
     → AreReleased (get nat_eq new.waiting) new.released old.given → AreBrief (get nat_eq new.slots) new.links → new.links ≡ old.links
     → new.given ≡ old.given → new.groups ≡ old.groups → Keeps new groups done
 stands_still old new groups done stands waiting written read released brief links given numbered = record {
@@ -142,7 +142,7 @@ stands_still old new groups done stands waiting written read released brief link
   mirrored = stands.mirrored;
   released = subst (λ (n : ℕ). AreReleased (get nat_eq new.waiting) new.released n) (sym given) released;
   written = λ t s now. written t s ∙ stands.written t s now;
-  read = λ t s now. read t s ∙ stands.read t s now;
+  read = λ t s now. read t s now ∙ stands.read t s now;
   short = λ t w got. subst (λ (most : ℕ). length w.followers ≤ most) (sym links) (stands.short t w (sym (waiting t) ∙ got));
   brief = brief;
   given = given ∙ stands.given;

@@ -1,10 +1,10 @@
 -- What a queue stands for when one more command joins it.
-use Rattle.std.proofs.Common.{◌≡◌, ℕ, zero, suc, ◌+◌, ◌-◌, ◌<◌, ◌≤◌, Bool, true, false, not, List, [], ◌∷◌, ◌++◌, drop, length, map, refl, ap, ap₂, sym, subst, ◌∙◌, ◌⊎◌, arith, zero-add, Option, None, Some, inl, inr, is_some}
+use Rattle.std.proofs.Common.{◌≡◌, ℕ, zero, suc, ◌+◌, ◌≤◌, Bool, true, false, not, List, [], ◌∷◌, ◌++◌, drop, length, map, refl, ap, ap₂, sym, subst, ◌∙◌, arith, zero-add, Option, None, Some, inl, inr}
 use Rattle.std.specs.Prelude.{◌==◌, ◌&&◌, ◌||◌, if◌then◌else◌, nat_eq, slice_get}
 use Rattle.std.specs.HashMap.{get}
-use Rattle.std.specs.List.{filter, list_any, range_with_len}
+use Rattle.std.specs.List.{filter, range_with_len}
 use Rattle.std.specs.Option.{option_map, option_map_or}
-use Rattle.std.proofs.lemmas.Bool.{cases_eq, cases_lt, eq-eqb, eqb-true, false≢true, ne_eqb}
+use Rattle.std.proofs.lemmas.Bool.{cases_lt, eq-eqb, eqb-true, false≢true, ne_eqb}
 use Rattle.std.proofs.lemmas.List.{drop-append-le, drop_all, length-append}
 use Rattle.std.proofs.lemmas.List.Elements.{filter-append}
 use Rattle.std.proofs.lemmas.List.Folds.{list_any-append}
@@ -18,13 +18,12 @@ use Rattle.nim_order.proofs.Longer.{waits_of_front}
 use Rattle.nim_queue.specs.Arrived.{link_to}
 use Rattle.nim_queue.specs.Counts.{AreBrief, AreReleased, AreShort, is_in, times}
 use Rattle.nim_queue.specs.Joined.{followed, gathered}
-use Rattle.nim_queue.specs.Stands.{Keeps, count_of, does_use_last, is_reader, is_writer, kept_at, open_waits}
-use Rattle.nim_queue.specs.declared.arrivals.Link.{Link}
+use Rattle.nim_queue.specs.Stands.{Keeps, does_use_last, is_reader, is_writer, kept_at, open_waits}
 use Rattle.nim_queue.specs.declared.queue.BeforeQueue.{BeforeQueue}
 use Rattle.nim_queue.specs.declared.waiting.Waiting.{Waiting}
 use Rattle.nim_queue.proofs.Lists.{get_at}
 use Rattle.nim_queue.proofs.Looking.{waits_none}
-use Rattle.nim_queue.proofs.Counting.{in_filter}
+use Rattle.nim_queue.proofs.Counting.{in_filter, same_ways}
 
 -- one that isn't among tickets is there no time
 no_times : (t : ℕ) (xs : List ℕ) → is_in t xs ≡ false → times t xs ≡ 0
@@ -72,10 +71,6 @@ copies n t [] l = none (l == n) 0 where
   none true k = refl
   none false k = refl
 copies n t (e ∷ d) l = by (e == t) (same_ways e t) (l == n) refl (copies n t d l) where
-  same_ways : (a b : ℕ) → (a == b) ≡ (b == a)
-  same_ways a b =
-      elim (cases_eq a b) [ inl same ↦ eq-eqb a b same ∙ sym (eq-eqb b a (sym same)) | inr other ↦ ne_eqb a b other ∙ sym (ne_eqb b a (λ is. other (sym is))) ]
-
   by : (b : Bool) → b ≡ (t == e) → (c : Bool) → (l == n) ≡ c → times l (gathered t (map (link_to n) d)) ≡ (if c then times t d else 0)
       → times l ((if b then n ∷ [] else []) ++ gathered t (map (link_to n) d)) ≡ (if c then times t (e ∷ d) else 0)
   by true is true here rest =

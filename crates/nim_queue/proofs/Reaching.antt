@@ -1,8 +1,8 @@
 -- Whom a command of a group that arrives waits for.
-use Rattle.std.proofs.Common.{◌≡◌, ℕ, zero, suc, ◌+◌, ◌-◌, ◌<◌, ◌≤◌, Bool, true, false, not, List, [], ◌∷◌, ◌++◌, drop, take, get_or, length, map, ◌⊎◌, refl, ap, ap₂, sym, subst, ◌∙◌, arith, Option, None, Some, inl, inr, is_some}
+use Rattle.std.proofs.Common.{◌≡◌, ℕ, zero, suc, ◌+◌, ◌-◌, ◌<◌, ◌≤◌, Bool, true, false, not, List, [], ◌∷◌, ◌++◌, drop, take, get_or, length, map, ◌⊎◌, refl, ap, ap₂, sym, ◌∙◌, arith, Option, None, Some, inl, inr, is_some}
 use Rattle.std.specs.Prelude.{◌==◌, ◌&&◌, ◌||◌, if◌then◌else◌, nat_eq, slice_get, slice_range}
 use Rattle.std.specs.HashMap.{get}
-use Rattle.std.specs.List.{filter, list_any, range_with_len}
+use Rattle.std.specs.List.{list_any, range_with_len}
 use Rattle.std.specs.Option.{option_map, option_map_or}
 use Rattle.std.proofs.lemmas.Bool.{cases_eq, cases_lt, eq-eqb, eqb-true, false≢true, ne_eqb}
 use Rattle.std.proofs.lemmas.List.{drop-append-le, length-append, length-drop, length-map, take-append-le, take_all}
@@ -16,17 +16,12 @@ use Rattle.nim_command.proofs.Lists.{any_nothing, any_same}
 use Rattle.nim_order.proofs.Items.{get_front}
 use Rattle.nim_queue.specs.Arrived.{Sight, as_members, is_met, is_reached, is_written_in, named_in, sight_of}
 use Rattle.nim_queue.specs.Counts.{is_in}
-use Rattle.nim_queue.specs.Stands.{Keeps, count_of, does_use_last, is_reader, is_writer, kept_at, open_waits}
+use Rattle.nim_queue.specs.Stands.{Keeps, is_reader, is_writer, kept_at, open_waits}
 use Rattle.nim_queue.specs.declared.queue.BeforeQueue.{BeforeQueue}
 use Rattle.nim_queue.specs.declared.slot_use.SlotUse.{SlotUse}
-use Rattle.nim_queue.specs.declared.waiting.Waiting.{Waiting}
-use Rattle.nim_queue.proofs.Counting.{in_filter}
+use Rattle.nim_queue.proofs.Counting.{in_filter, same_ways}
 use Rattle.nim_queue.proofs.Joining.{not_before}
 use Rattle.nim_queue.proofs.Lists.{get_at}
-
-same_ways : (a b : ℕ) → (a == b) ≡ (b == a)
-same_ways a b =
-    elim (cases_eq a b) [ inl same ↦ eq-eqb a b same ∙ sym (eq-eqb b a (sym same)) | inr other ↦ ne_eqb a b other ∙ sym (ne_eqb b a (λ is. other (sym is))) ]
 
 named_below : (first : ℕ) (past : List Command) (n e : ℕ) → e < first → is_in e (named_in first past n) ≡ false
 named_below first [] n e less = refl

@@ -10,7 +10,7 @@ use Rattle.std.proofs.lemmas.List.Elements.{filter-append, filter_agree}
 use Rattle.std.proofs.lemmas.List.FromFn.{get_or-range_with_len, length-range_with_len}
 use Rattle.std.proofs.lemmas.List.Kept.{IsNonDecreasingBy-filter}
 use Rattle.std.proofs.lemmas.Option.{slice_get_past, slice_get_read}
-use Rattle.nim_command.proofs.Lists.{filter_all, filter_twice}
+use Rattle.nim_command.proofs.Lists.{filter_twice}
 use Rattle.nim_order.proofs.Items.{filter_range}
 use Rattle.nim_queue.specs.Counts.{IsRising, below, not_below, put_in, taken_out}
 use Rattle.nim_queue.specs.Stands.{first_that}

@@ -1,15 +1,12 @@
 -- A queue that takes in a group goes on by one command.
-use Rattle.std.proofs.Common.{◌≡◌, ℕ, suc, ◌+◌, ◌<◌, ◌≤◌, ◌^◌, Bool, true, false, not, List, [], ◌∷◌, ◌++◌, length, map, refl, ap, ap₂, sym, subst, ◌∙◌, arith, Option, None, Some, is_some}
-use Rattle.std.specs.Prelude.{◌==◌, ◌&&◌, if◌then◌else◌, nat_eq}
-use Rattle.std.specs.HashMap.{get, spare}
+use Rattle.std.proofs.Common.{◌≡◌, ℕ, ◌+◌, Bool, true, List, [], ◌∷◌, ◌++◌, length, ap, sym, ◌∙◌, arith}
 use Rattle.std.specs.List.{list_all}
 use Rattle.std.proofs.lemmas.Bool.{and_parts}
-use Rattle.std.proofs.lemmas.List.{append-nil, append_assoc, length-append, length-map, map-append}
+use Rattle.std.proofs.lemmas.List.{append-nil, append_assoc, map-append}
 use Rattle.nim_command.specs.declared.command.Command.{Command}
 use Rattle.nim_command.specs.Waits.{Group, Member, members_of}
 use Rattle.nim_order.proofs.Longer.{members_append}
-use Rattle.nim_queue.specs.Arrived.{as_members, commands_of}
-use Rattle.nim_queue.specs.Joined.{are_covered, counted}
+use Rattle.nim_queue.specs.Arrived.{as_members}
 use Rattle.nim_queue.specs.declared.arrivals.Arrival.{Arrival}
 
 -- the members of one more group

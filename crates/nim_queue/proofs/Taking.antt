@@ -1,5 +1,5 @@
 -- A queue takes in the commands of a group that have arrived: none of them, and one more.
-use Rattle.std.proofs.Common.{◌≡◌, ℕ, suc, ◌+◌, ◌<◌, ◌≤◌, ◌^◌, Bool, true, false, not, List, [], ◌∷◌, ◌++◌, length, map, refl, ap, ap₂, sym, subst, ◌∙◌, arith, Option, None, Some, is_some}
+use Rattle.std.proofs.Common.{◌≡◌, ℕ, suc, ◌+◌, ◌<◌, ◌≤◌, ◌^◌, Bool, true, not, List, [], ◌∷◌, ◌++◌, length, map, refl, ap, ap₂, sym, subst, ◌∙◌, arith, Option, None, is_some}
 use Rattle.std.specs.Prelude.{◌==◌, ◌&&◌, ◌||◌, if◌then◌else◌, nat_eq, slice_get}
 use Rattle.std.specs.HashMap.{get, spare}
 use Rattle.std.specs.List.{list_all}
@@ -14,15 +14,14 @@ use Rattle.nim_command.specs.declared.command.Kind.{Kind}
 use Rattle.nim_command.specs.Slots.{does_read, does_write, is_among, reads_of, writes_of}
 use Rattle.nim_command.specs.Waits.{Group, Member, members_of}
 use Rattle.nim_queue.specs.Arrived.{HasArrived, as_members, commands_of, link_to, reading_of, sight_of}
-use Rattle.nim_queue.specs.Counts.{AreBrief, AreReleased, AreShort, AreWithin, IsRising, is_in, kept_ones, put_in}
-use Rattle.nim_queue.specs.Joined.{are_covered, counted, followed, gathered, gathered_reads, kept_new, more_read, rewritten}
+use Rattle.nim_queue.specs.Counts.{AreBrief, AreShort, IsRising, is_in, kept_ones, put_in}
+use Rattle.nim_queue.specs.Joined.{are_covered, counted, gathered, gathered_reads, kept_new, more_read, rewritten}
 use Rattle.nim_queue.specs.Midway.{HasRoom, IsMidway}
 use Rattle.nim_queue.specs.Stands.{Keeps, does_use_last, is_reader, is_writer, kept_at, open_waits}
 use Rattle.nim_queue.specs.declared.arrivals.Arrival.{Arrival}
 use Rattle.nim_queue.specs.declared.arrivals.Reading.{Reading}
 use Rattle.nim_queue.specs.declared.queue.BeforeQueue.{BeforeQueue}
 use Rattle.nim_queue.specs.declared.slot_use.SlotUse.{SlotUse}
-use Rattle.nim_queue.specs.declared.waiting.Waiting.{Waiting}
 use Rattle.nim_queue.proofs.Counting.{same_ways}
 use Rattle.nim_queue.proofs.Growing.{HasEntered, among_all, kept_count, length_gathered, length_gathered_reads, released_joined, short_joined, use_stays}
 use Rattle.nim_queue.proofs.Joining.{joined}

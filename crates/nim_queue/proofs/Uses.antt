@@ -1,25 +1,20 @@
 -- The uses of slots, the lists and the released tickets after one more command.
-use Rattle.std.proofs.Common.{◌≡◌, ℕ, zero, suc, ◌+◌, ◌<◌, ◌≤◌, Bool, true, false, not, List, [], ◌∷◌, ◌++◌, length, map, refl, ap, ap₂, sym, subst, ◌∙◌, arith, Option, None, Some, inl, inr, is_some}
+use Rattle.std.proofs.Common.{◌≡◌, ℕ, ◌+◌, ◌≤◌, Bool, true, false, not, List, [], ◌∷◌, ◌++◌, length, map, refl, ap, sym, subst, ◌∙◌, arith, Option, None, Some, is_some}
 use Rattle.std.specs.Prelude.{◌==◌, ◌&&◌, ◌||◌, if◌then◌else◌, unwrap_or}
-use Rattle.std.specs.List.{filter, list_any, range_with_len}
 use Rattle.std.specs.Option.{option_map}
-use Rattle.std.specs.VecDeque.{deque_capacity, deque_len}
-use Rattle.std.proofs.lemmas.Bool.{eq-eqb, eqb-true, false≢true, ne_eqb}
+use Rattle.std.proofs.lemmas.Bool.{false≢true}
 use Rattle.std.proofs.lemmas.List.{append-nil, append_assoc, length-append}
 use Rattle.nim_command.specs.declared.command.Command.{Command}
 use Rattle.nim_queue.specs.declared.arrivals.Arrival.{Arrival}
 use Rattle.std.proofs.lemmas.List.Folds.{list_any-append}
 use Rattle.nim_base.specs.declared.number.Slot.{Slot}
 use Rattle.nim_command.specs.Slots.{is_among}
-use Rattle.nim_order.proofs.Items.{filter_range}
-use Rattle.nim_queue.specs.Arrived.{HasArrived, HaveArrived, commands_of, link_to, reading_of, sight_of}
-use Rattle.nim_queue.specs.Counts.{AreReleased, AreWithin, IsRising, free_ones, is_free, is_in, kept_ones, put_in}
-use Rattle.nim_queue.specs.Joined.{followed, gathered, gathered_reads, more_read, rewritten}
+use Rattle.nim_queue.specs.Arrived.{HasArrived, HaveArrived, commands_of, reading_of, sight_of}
+use Rattle.nim_queue.specs.Counts.{AreWithin, is_in}
+use Rattle.nim_queue.specs.Joined.{gathered_reads, more_read, rewritten}
 use Rattle.nim_queue.specs.Stands.{is_reader, is_writer}
 use Rattle.nim_queue.specs.declared.slot_use.SlotUse.{SlotUse}
-use Rattle.nim_queue.specs.declared.tickets.Tickets.{Tickets}
 use Rattle.nim_queue.specs.declared.waiting.Waiting.{Waiting}
-use Rattle.nim_queue.proofs.Rising.{one_more, range_last, rising}
 
 both_false : (b : Bool) → (b && false) ≡ false
 both_false true = refl

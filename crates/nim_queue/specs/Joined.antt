@@ -1,5 +1,5 @@
 -- What one more command changes of those that wait and of the uses of slots.
-use Rattle.std.specs.Prelude.{◌≡◌, ℕ, ◌+◌, ◌≤◌, ◌==◌, ◌&&◌, Bool, true, if◌then◌else◌, List, [], ◌∷◌, ◌++◌, length, Option, Some, is_some, sum_by}
+use Rattle.std.specs.Prelude.{◌≡◌, ℕ, ◌+◌, ◌==◌, ◌&&◌, Bool, false, true, if◌then◌else◌, List, [], ◌∷◌, ◌++◌, length, Option, None, Some, is_some, sum_by}
 use Rattle.std.specs.List.{list_all}
 use Rattle.nim_base.specs.declared.number.Slot.{Slot}
 use Rattle.nim_command.specs.declared.command.Command.{Command}
@@ -47,10 +47,29 @@ are_covered used arrival =
 abbrev pub counted : List Arrival → ℕ
 counted arrived = sum_by (λ (a : Arrival). length a.waits.items + length a.reads.items) arrived
 
--- The uses of slots are those that there were, and maybe some that nobody has.
-pub record HaveSameUses (old new : ℕ → Option SlotUse) : Type 0 where
+-- readers without those in front that don't wait any more
+abbrev pub without_front : (ℕ → Option Waiting) → List ℕ → List ℕ
+without_front kept [] = []
+without_front kept (t ∷ rest) = if is_some (kept t) then t ∷ rest else without_front kept rest
+
+-- a slot's use with these readers left
+abbrev pub left_by : (ℕ → Option Waiting) → SlotUse → SlotUse
+left_by kept u = record u { readers = without_front kept u.readers }
+
+-- a use that nobody has
+abbrev pub no_use : SlotUse
+no_use = record { writer = None; readers = [] }
+
+-- what a slot has once it is to be used
+abbrev pub use_at : (ℕ → Option Waiting) → Option SlotUse → Option SlotUse
+use_at kept None = Some no_use
+use_at kept (Some u) = Some (left_by kept u)
+
+-- The uses of slots are those that there were, and maybe some that nobody has, or without readers that don't wait.
+pub record HaveSameUses (kept : ℕ → Option Waiting) (old new : ℕ → Option SlotUse) : Type 0 where
   pub written : (ticket slot : ℕ) → is_writer ticket (new slot) ≡ is_writer ticket (old slot)
-  pub read : (ticket slot : ℕ) → is_reader ticket (new slot) ≡ is_reader ticket (old slot)
+  pub read : (ticket slot : ℕ) → is_some (kept ticket) ≡ true → is_reader ticket (new slot) ≡ is_reader ticket (old slot)
+  pub fewer : (ticket slot : ℕ) → is_reader ticket (old slot) ≡ false → is_reader ticket (new slot) ≡ false
   pub stays : (slot : ℕ) → is_some (old slot) ≡ true → is_some (new slot) ≡ true
   pub brief : (most : ℕ) → AreBrief old most → AreBrief new most
 

@@ -1,6 +1,6 @@
 -- A queue that takes in the commands of a group, one after the other.
 use Rattle.std.specs.Prelude.{◌≡◌, ℕ, ◌+◌, ◌≤◌, ◌<◌, ◌^◌, ◌++◌, ◌∷◌, [], Bool, true, List, length, is_some, nat_eq}
-use Rattle.std.specs.HashMap.{get, hash_map_len, spare}
+use Rattle.std.specs.HashMap.{get, spare}
 use Rattle.std.specs.List.{list_all}
 use Rattle.std.specs.VecDeque.{deque_capacity}
 use Rattle.nim_command.specs.Waits.{Group}

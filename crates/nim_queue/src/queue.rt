@@ -124,7 +124,7 @@ impl BeforeQueue {
         ensures groups { self.new.groups ≡ self.old.groups }
         ensures links { self.new.links ≡ self.old.links }
     {
-        cover_all(self.alloc, &mut self.slots, arrived)?;
+        cover_all(self.alloc, &self.waiting, &mut self.slots, arrived)?;
         self.waiting.reserve(arrived.len())?;
         let count = self.waiting.len().saturating_add(arrived.len());
         self.released.make_room(count)

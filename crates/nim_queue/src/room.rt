@@ -1,64 +1,110 @@
-ghost use Rattle.std.specs.Prelude.{◌≡◌, ◌+◌, ◌<◌, ◌^◌, ℕ, false, true, is_some, length, nat_eq, IfOk, OnOk};
+ghost use Rattle.std.specs.Prelude.{◌≡◌, ◌≢◌, ◌==◌, ◌+◌, ◌<◌, ◌^◌, ℕ, false, true, drop, if◌then◌else◌, is_some, length, nat_eq, IfOk, OnErr, OnOk};
+ghost use Rattle.std.specs.Option.{option_map};
 ghost use Rattle.std.specs.HashMap.{get};
 ghost use Rattle.std.specs.List.{list_all};
 ghost use Rattle.nim_base.specs.declared.number.Slot.{Slot as slot_type};
-ghost use Rattle.nim_queue.specs.Joined.{HaveSameUses, are_covered, counted};
+ghost use Rattle.nim_queue.specs.Joined.{HaveSameUses, are_covered, counted, left_by, use_at, without_front};
 
 use crate::arrivals::Arrival;
 use crate::slot_use::SlotUse;
+use crate::waiting::Waiting;
 use nim_base::{NoMemory, Slot};
 use std::alloc::Global;
-use std::collections::HashMap;
+use std::collections::{HashMap, LinkedList};
 
 /// No list of followers or readers can be longer than this.
 const MOST: u64 = 1 << 62;
 
-/// Gives each slot that the commands use a use.
+/// Gives each slot that the commands use a use, and lets readers in front of others leave it that don't wait any more.
 pub(crate) fn cover_all(
     alloc: Global,
+    waiting: &HashMap<u64, Waiting>,
     slots: &mut HashMap<u16, SlotUse>,
     arrived: &[Arrival],
 ) -> Result<(), NoMemory>
-    ensures same { HaveSameUses (get nat_eq slots.old) (get nat_eq slots.new) }
+    ensures same { HaveSameUses (get nat_eq waiting.now) (get nat_eq slots.old) (get nat_eq slots.new) }
     ensures covered { OnOk result (list_all (are_covered (get nat_eq slots.new)) arrived.now ≡ true) }
 {
     for arrival in arrived {
-        cover_arrival(alloc, slots, arrival)?;
+        cover_arrival(alloc, waiting, slots, arrival)?;
     }
     Ok(())
 }
 
 fn cover_arrival(
     alloc: Global,
+    waiting: &HashMap<u64, Waiting>,
     slots: &mut HashMap<u16, SlotUse>,
     arrival: &Arrival,
 ) -> Result<(), NoMemory>
-    ensures same { HaveSameUses (get nat_eq slots.old) (get nat_eq slots.new) }
+    ensures same { HaveSameUses (get nat_eq waiting.now) (get nat_eq slots.old) (get nat_eq slots.new) }
     ensures covered { OnOk result (are_covered (get nat_eq slots.new) arrival.now ≡ true) }
 {
-    cover(alloc, slots, arrival.command.kind.reads())?;
-    cover(alloc, slots, arrival.command.kind.writes())?;
+    cover(alloc, waiting, slots, arrival.command.kind.reads())?;
+    cover(alloc, waiting, slots, arrival.command.kind.writes())?;
     Ok(())
 }
 
-fn cover(alloc: Global, slots: &mut HashMap<u16, SlotUse>, used: &[Slot]) -> Result<(), NoMemory>
-    ensures same { HaveSameUses (get nat_eq slots.old) (get nat_eq slots.new) }
+fn cover(
+    alloc: Global,
+    waiting: &HashMap<u64, Waiting>,
+    slots: &mut HashMap<u16, SlotUse>,
+    used: &[Slot],
+) -> Result<(), NoMemory>
+    ensures same { HaveSameUses (get nat_eq waiting.now) (get nat_eq slots.old) (get nat_eq slots.new) }
     ensures covered { OnOk result (list_all (λ (slot : slot_type). is_some (get nat_eq slots.new slot.0)) used.now ≡ true) }
 {
     for slot in used {
-        cover_one(alloc, slots, *slot)?;
+        cover_one(alloc, waiting, slots, *slot)?;
     }
     Ok(())
 }
 
-fn cover_one(alloc: Global, slots: &mut HashMap<u16, SlotUse>, slot: Slot) -> Result<(), NoMemory>
-    ensures same { HaveSameUses (get nat_eq slots.old) (get nat_eq slots.new) }
-    ensures covered { OnOk result (is_some (get nat_eq slots.new slot.0) ≡ true) }
+fn cover_one(
+    alloc: Global,
+    waiting: &HashMap<u64, Waiting>,
+    slots: &mut HashMap<u16, SlotUse>,
+    slot: Slot,
+) -> Result<(), NoMemory>
+    ensures uses { OnOk result ((s : ℕ) → get nat_eq slots.new s
+        ≡ (if slot.0 == s then use_at (get nat_eq waiting.now) (get nat_eq slots.old s) else get nat_eq slots.old s)) }
+    ensures err { OnErr result ((s : ℕ) → get nat_eq slots.new s ≡ get nat_eq slots.old s) }
 {
-    if !slots.contains_key(&slot.0) {
-        slots.insert(slot.0, SlotUse::new(alloc))?;
+    if slots.contains_key(&slot.0) {
+        leave(waiting, slots, slot);
+        return Ok(());
     }
+    slots.insert(slot.0, SlotUse::new(alloc))?;
     Ok(())
+}
+
+/// The readers of a slot in front that don't wait any more leave.
+fn leave(waiting: &HashMap<u64, Waiting>, slots: &mut HashMap<u16, SlotUse>, slot: Slot)
+    ensures { (s : ℕ) → get nat_eq slots.new s
+        ≡ (if slot.0 == s then option_map (left_by (get nat_eq waiting.now)) (get nat_eq slots.old s) else get nat_eq slots.old s) }
+{
+    if let Some(used) = slots.get_mut(&slot.0) {
+        drop_front(waiting, &mut used.readers);
+    }
+}
+
+fn drop_front(waiting: &HashMap<u64, Waiting>, readers: &mut LinkedList<u64>)
+    ensures { readers.new ≡ without_front (get nat_eq waiting.now) readers.old }
+{
+    while is_past(waiting, readers) {
+        let _ = readers.pop_front();
+    }
+}
+
+/// Whether there is a first reader that doesn't wait.
+fn is_past(waiting: &HashMap<u64, Waiting>, readers: &LinkedList<u64>) -> bool
+    ensures past { result ≡ true → (length readers.now ≢ 0) × (without_front (get nat_eq waiting.now) readers.now ≡ without_front (get nat_eq waiting.now) (drop 1 readers.now)) }
+    ensures kept { result ≡ false → without_front (get nat_eq waiting.now) readers.now ≡ readers.now }
+{
+    match readers.front() {
+        Some(first) => !waiting.contains_key(first),
+        None => false,
+    }
 }
 
 /// How long lists of followers or readers may be at most with these.

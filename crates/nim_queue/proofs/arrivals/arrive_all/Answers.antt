@@ -1,12 +1,11 @@
-use Rattle.std.proofs.Common.{◌≡◌, ◌∙◌, ◌+◌, ◌++◌, ◌∷◌, [], ◌==◌, ℕ, Bool, List, length, map, nat_eq, ap, ap₂, sym, subst, arith}
-use Rattle.std.specs.Prelude.{◌||◌, if◌then◌else◌, unwrap_or}
+use Rattle.std.proofs.Common.{◌∙◌, ◌+◌, ◌++◌, ◌∷◌, [], ◌==◌, ℕ, Bool, List, length, nat_eq, ap, ap₂, sym, subst, arith}
+use Rattle.std.specs.Prelude.{◌||◌, if◌then◌else◌}
 use Rattle.std.specs.HashMap.{get}
-use Rattle.std.specs.HashSet as bag
 use Rattle.std.proofs.Math.Path.{fun_ext}
 use Rattle.std.proofs.lemmas.List.{length-append, map-append}
 use Rattle.nim_command.specs.declared.command.Command.{Command}
 use Rattle.nim_command.specs.Slots.{does_write}
-use Rattle.nim_queue.specs.Arrived.{HasArrived, HaveArrived, Sight, commands_of, is_written_in, named_in, sight_of}
+use Rattle.nim_queue.specs.Arrived.{HasArrived, HaveArrived, Sight, commands_of, sight_of}
 use Rattle.nim_queue.specs.declared.arrivals.Arrival.{Arrival}
 use Rattle.nim_queue.proofs.Arriving.{arrived_more, named_more, written_more}
 use Rattle.nim_queue.proofs.arrivals.arrive_all.Goals as goal

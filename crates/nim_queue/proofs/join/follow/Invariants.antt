@@ -2,7 +2,6 @@
 use Rattle.std.proofs.Common.{◌≡◌, ◌++◌, ℕ, ◌+◌, ◌<◌, ◌^◌, List, length, map, nat_eq}
 use Rattle.std.specs.HashMap.{get, spare}
 use Rattle.std.specs.Option.{option_map}
-use Rattle.nim_base.specs.declared.number.Slot.{Slot}
 use Rattle.nim_queue.specs.Arrived.{link_to}
 use Rattle.nim_queue.specs.Joined.{AreShort, followed, gathered}
 use Rattle.nim_queue.proofs.join.follow.Given as goal

@@ -1,19 +1,19 @@
-use Rattle.std.proofs.Common.{◌≡◌, ◌∙◌, true, is_some, nat_eq, rules, take}
+use Rattle.std.proofs.Common.{is_some, nat_eq, rules, take}
 use Rattle.std.specs.HashMap.{get}
 use Rattle.nim_base.specs.declared.number.Slot.{Slot}
-use Rattle.nim_queue.proofs.Covering.{all_more, all_stay, same_again}
+use Rattle.nim_queue.proofs.Covering.{all_more, all_stay, one_used, same_again, unchanged}
 use Rattle.nim_queue.proofs.room.cover.Goals as goal
 
 pub returns-in_err-cover_one-clause-same : goal.returns-in_err-cover_one-clause-same
-returns-in_err-cover_one-clause-same c = same_again _ _ _ c.loop-slot.invariant.same c.cover_one.ensures.same
+returns-in_err-cover_one-clause-same c = same_again _ _ _ _ c.loop-slot.invariant.same (unchanged _ _ _ c.in_err-cover_one.ensures.err)
 
 pub loop-slot-preserved : goal.loop-slot-preserved
 loop-slot-preserved c = record {
-  same = same_again _ _ _ c.loop-slot.invariant.same c.cover_one.ensures.same;
+  same = same_again _ _ _ _ c.loop-slot.invariant.same (one_used _ _ _ _ c.in_ok-cover_one.ensures.uses);
   covered =
       all_more (λ (slot : Slot). is_some (get nat_eq c.cover_one.new.slots slot.0)) c.args.used.now c.loop-slot.slot-index (record { 0 = 0 })
       (search rules)
       (all_stay (λ (slot : Slot). is_some (get nat_eq c.loop-slot.slots slot.0)) (λ (slot : Slot). is_some (get nat_eq c.cover_one.new.slots slot.0)) (take c.loop-slot.slot-index c.args.used.now)
-      (λ slot there. c.cover_one.ensures.same.stays slot.0 there) c.loop-slot.invariant.covered)
+      (λ slot there. (one_used _ _ _ _ c.in_ok-cover_one.ensures.uses).stays slot.0 there) c.loop-slot.invariant.covered)
       (search rules);
 }

@@ -8,6 +8,6 @@ use Rattle.nim_queue.proofs.room.cover.Given as goal
 
 abbrev pub invariant-loop-slot : goal.invariant-loop-slot
 invariant-loop-slot l = record {
-  same : HaveSameUses (get nat_eq l.fn.slots) (get nat_eq l.slots);
+  same : HaveSameUses (get nat_eq l.waiting) (get nat_eq l.fn.slots) (get nat_eq l.slots);
   covered : list_all (λ (slot : Slot). is_some (get nat_eq l.slots slot.0)) (take l.slot-index l.used) ≡ true;
 }

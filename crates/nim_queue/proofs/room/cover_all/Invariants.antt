@@ -7,6 +7,6 @@ use Rattle.nim_queue.proofs.room.cover_all.Given as goal
 
 abbrev pub invariant-loop-arrival : goal.invariant-loop-arrival
 invariant-loop-arrival l = record {
-  same : HaveSameUses (get nat_eq l.fn.slots) (get nat_eq l.slots);
+  same : HaveSameUses (get nat_eq l.waiting) (get nat_eq l.fn.slots) (get nat_eq l.slots);
   covered : list_all (are_covered (get nat_eq l.slots)) (take l.arrival-index l.arrived) ≡ true;
 }

@@ -1,4 +1,4 @@
-use Rattle.std.proofs.Common.{◌≡◌, ◌∙◌, true, is_some, nat_eq, List, ap, sym}
+use Rattle.std.proofs.Common.{◌∙◌, is_some, nat_eq, ap, sym}
 use Rattle.std.specs.HashMap.{get}
 use Rattle.std.specs.List.{list_all}
 use Rattle.std.proofs.lemmas.Bool.{and_from}
@@ -8,10 +8,10 @@ use Rattle.nim_queue.proofs.Covering.{all_stay, same_again}
 use Rattle.nim_queue.proofs.room.cover_arrival.Goals as goal
 
 pub returns-in_err-cover-2-clause-same : goal.returns-in_err-cover-2-clause-same
-returns-in_err-cover-2-clause-same c = same_again _ _ _ c.cover.ensures.same c.cover-2.ensures.same
+returns-in_err-cover-2-clause-same c = same_again _ _ _ _ c.cover.ensures.same c.cover-2.ensures.same
 
 pub returns-clause-same : goal.returns-clause-same
-returns-clause-same c = same_again _ _ _ c.cover.ensures.same c.cover-2.ensures.same
+returns-clause-same c = same_again _ _ _ _ c.cover.ensures.same c.cover-2.ensures.same
 
 pub returns-clause-covered : goal.returns-clause-covered
 returns-clause-covered c =

@@ -1,4 +1,4 @@
-use Rattle.std.proofs.Common.{◌≡◌, ◌∙◌, ℕ, [], Bool, List, false, nat_eq, ap, ap₂}
+use Rattle.std.proofs.Common.{◌∙◌, [], Bool, List, nat_eq, ap, ap₂}
 use Rattle.std.specs.Prelude.{◌||◌, unwrap_or}
 use Rattle.std.specs.HashMap.{get}
 use Rattle.std.specs.HashSet as bag

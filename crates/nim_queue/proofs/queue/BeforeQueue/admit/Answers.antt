@@ -1,6 +1,5 @@
 use Rattle.std.proofs.Common.{◌≡◌, ◌∙◌, ◌<◌, ◌^◌, ◌+◌, ◌++◌, ◌∷◌, [], ℕ, List, length, nat_eq, ap, sym, subst}
 use Rattle.std.specs.HashMap.{get}
-use Rattle.nim_command.specs.Waits.{Group}
 use Rattle.nim_queue.specs.Arrived.{HaveArrived}
 use Rattle.nim_queue.specs.Joined.{counted}
 use Rattle.nim_queue.specs.Midway.{HasRoom}

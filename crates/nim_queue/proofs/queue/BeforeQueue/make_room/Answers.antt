@@ -1,5 +1,5 @@
-use Rattle.std.proofs.Common.{◌≡◌, ◌∙◌, ◌≤◌, [], ℕ, Option, length, nat_eq, refl, ap, sym, subst, arith}
-use Rattle.std.specs.HashMap.{get, hash_map_len}
+use Rattle.std.proofs.Common.{◌≡◌, ◌≤◌, [], ℕ, Option, nat_eq, refl, sym, subst, arith}
+use Rattle.std.specs.HashMap.{get}
 use Rattle.std.specs.VecDeque.{deque_capacity}
 use Rattle.std.proofs.Math.Path.{fun_ext}
 use Rattle.nim_queue.specs.Arrived.{HaveArrived}
@@ -38,8 +38,8 @@ returns-clause-room c =
     ok_more c.make_room.result c.make_room.ensures.room
     (λ enough have few. record {
       arrived =
-          arrivals_same (get nat_eq new.waiting) (get nat_eq old.slots) (get nat_eq new.slots) old.given [] c.args.arrived.now c.cover_all.ensures.same
-          (subst (λ (k : ℕ → Option Waiting). HaveArrived k (get nat_eq old.slots) old.given [] c.args.arrived.now) kept have);
+          subst (λ (k : ℕ → Option Waiting). HaveArrived k (get nat_eq new.slots) old.given [] c.args.arrived.now) kept
+          (arrivals_same (get nat_eq old.waiting) (get nat_eq old.slots) (get nat_eq new.slots) old.given [] c.args.arrived.now c.cover_all.ensures.same have);
       covered = c.in_ok-cover_all.ensures.covered;
       few = few;
       spare = c.in_ok-reserve.ensures.ok;

@@ -1,11 +1,5 @@
-use Rattle.std.proofs.Common.{◌≡◌, ◌∙◌, ℕ, [], List, None, nat_eq, refl, ap, sym, arith}
-use Rattle.std.specs.HashMap.{get}
-use Rattle.std.specs.List.{filter}
+use Rattle.std.proofs.Common.{nat_eq, refl, ap}
 use Rattle.std.specs.Map.{lookup}
-use Rattle.std.specs.Option.{option_map, option_map_or}
-use Rattle.std.proofs.lemmas.Option.{slice_get_past}
-use Rattle.nim_command.specs.Waits.{Group, Member, members_of}
-use Rattle.nim_queue.proofs.Looking.{waits_none}
 use Rattle.nim_queue.proofs.Beginning.{begun}
 use Rattle.nim_queue.proofs.Opening.{closed}
 use Rattle.nim_queue.proofs.queue.BeforeQueue.new.Goals as goal

@@ -1,4 +1,4 @@
-use Rattle.std.proofs.Common.{◌∙◌, ℕ, List, Option, IfSome, subst, sym}
+use Rattle.std.proofs.Common.{ℕ, Option, IfSome, subst, sym}
 use Rattle.nim_command.specs.Waits.{placed_commands}
 use Rattle.nim_order.specs.Progress.{IsReleasedAt}
 use Rattle.nim_queue.proofs.Looking.{ready_first}

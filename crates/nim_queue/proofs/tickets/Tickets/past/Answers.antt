@@ -1,6 +1,5 @@
-use Rattle.std.proofs.Common.{rules, ◌≡◌, ℕ, true, List, Option, IfSome, drop, not, nat_lt, ap, subst, sym, ◌∙◌}
+use Rattle.std.proofs.Common.{rules, ◌≡◌, ℕ, true, List, Option, IfSome, nat_lt, ap, subst, sym, ◌∙◌}
 use Rattle.std.specs.Prelude.{slice_get, nat_le}
-use Rattle.std.specs.List.{filter}
 use Rattle.std.proofs.lemmas.List.Sorted.{IsPartitionPoint-from_clause, IsPartitionedBy-leb}
 use Rattle.nim_queue.specs.Stands.{first_that}
 use Rattle.nim_queue.proofs.Rising.{cut, first_passes, first_passing, get_dropped, past_all, read_at}

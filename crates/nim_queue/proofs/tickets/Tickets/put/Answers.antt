@@ -1,4 +1,4 @@
-use Rattle.std.proofs.Common.{rules, ◌≡◌, ◌++◌, ◌∷◌, ℕ, List, nat_lt, ap₂, ◌∙◌, arith}
+use Rattle.std.proofs.Common.{rules, ◌++◌, ◌∷◌, ℕ, List, nat_lt, ap₂, ◌∙◌, arith}
 use Rattle.std.proofs.lemmas.List.Sorted.{IsPartitionPoint-from_clause, IsPartitionedBy-ltb}
 use Rattle.nim_queue.proofs.Rising.{cut, ok_only}
 use Rattle.nim_queue.proofs.tickets.Tickets.put.Goals as goal

@@ -1,4 +1,4 @@
-use Rattle.std.proofs.Common.{rules, ◌≡◌, ◌++◌, ℕ, List, drop, nat_lt, ap, ap₂, sym, ◌∙◌}
+use Rattle.std.proofs.Common.{rules, ◌++◌, ℕ, List, drop, nat_lt, ap, ap₂, sym, ◌∙◌}
 use Rattle.std.proofs.lemmas.List.Sorted.{IsPartitionPoint-from_clause, IsPartitionedBy-ltb}
 use Rattle.nim_queue.proofs.Rising.{cut, drop_one, taken_at}
 use Rattle.nim_queue.proofs.tickets.Tickets.take.Goals as goal
