@@ -105,11 +105,9 @@ nimbus="$work/crates/bench_queue/out/bench_queue"
 peak() { /usr/bin/time -f "%M KiB" "$@" 2>&1 >/dev/null; }
 for run in 1 2 3; do
     for waiting in 16 256 4096 65536; do
-        turns=20000
-        [ "$waiting" -lt 65536 ] || turns=300
         for slots in 1 "$waiting"; do
             name="run $run, $([ "$slots" = 1 ] && echo chain || echo independent)"
-            echo "$name, nimbus: $("$nimbus" "$waiting" "$slots" "$turns"), $(peak "$nimbus" "$waiting" "$slots" 1)"
+            echo "$name, nimbus: $("$nimbus" "$waiting" "$slots" 20000), $(peak "$nimbus" "$waiting" "$slots" 1)"
             echo "$name, plain:  $("$work/plain" "$waiting" "$slots" 20000), $(peak "$work/plain" "$waiting" "$slots" 1)"
         done
     done

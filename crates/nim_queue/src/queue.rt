@@ -63,7 +63,8 @@ impl BeforeQueue {
     }
 
     /// Takes a group of commands behind all others, with all memory that they will need. Of a before set, numbers that
-    /// no earlier command of the group has are nothing. Memory is also refused where tickets run out.
+    /// no earlier command of the group has are nothing. Memory is also refused where tickets or the count of all
+    /// waits run out.
     pub fn admit(&mut self, group: Vec<Command>) -> Result<(), NoMemory>
         ensures ok { (groups : List group_type) (done : ℕ → Bool) (next : group_type) → Stands self.old groups done → next.commands ≡ group.items
             → OnOk result (Stands self.new (groups ++ next ∷ []) done) }
