@@ -114,8 +114,7 @@ unfoldable pub IsKept : BeforeQueue → List Group → (ℕ → Bool) → Type 0
 IsKept queue groups done = Keeps queue groups done
 
 -- The queue was given these groups, and just these of their commands are complete, each by its place in the order
--- given, which is its ticket. Of the complete ones it keeps but their number, and the tickets of users of a slot since
--- it was written.
+-- given, which is its ticket. It keeps nothing of those but their number, and their tickets where they used a slot last.
 pub record Stands (queue : BeforeQueue) (groups : List Group) (done : ℕ → Bool) : Type 0 where
   pub kept : IsKept queue groups done
   -- no command is complete before it is given

@@ -98,8 +98,7 @@ fn drop_front(waiting: &HashMap<u64, Waiting>, readers: &mut LinkedList<u64>)
 
 /// Whether there is a first reader that doesn't wait.
 fn is_past(waiting: &HashMap<u64, Waiting>, readers: &LinkedList<u64>) -> bool
-    ensures past { result ≡ true → (length readers.now ≢ 0)
-        × (without_front (get nat_eq waiting.now) readers.now ≡ without_front (get nat_eq waiting.now) (drop 1 readers.now)) }
+    ensures past { result ≡ true → (length readers.now ≢ 0) × (without_front (get nat_eq waiting.now) readers.now ≡ without_front (get nat_eq waiting.now) (drop 1 readers.now)) }
     ensures kept { result ≡ false → without_front (get nat_eq waiting.now) readers.now ≡ readers.now }
 {
     match readers.front() {
