@@ -80,6 +80,7 @@ greatest numbers = fold max 0 numbers
 abbrev pub height_of : List Grid → ℕ
 height_of reads = greatest (map (λ grid. length grid.rows) reads)
 
+-- the greatest width of these values, 0 where there are none
 abbrev pub width_of : List Grid → ℕ
 width_of reads = greatest (map (λ grid. grid.width) reads)
 

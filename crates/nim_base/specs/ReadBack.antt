@@ -8,6 +8,7 @@ use Rattle.nim_base.specs.Value.{Grid}
 abbrev pub IsInner : ℕ → Type 0
 IsInner byte = (byte ≢ 32) × (byte ≢ 10)
 
+-- bytes without a space and without a newline
 abbrev pub IsWord : List ℕ → Type 0
 IsWord word = All IsInner word
 
@@ -68,6 +69,7 @@ row_lines (suc n) width bytes =
     (λ first. option_and_then (λ row. option_map (λ (more : RowLines). record more { rows = row ∷ more.rows }) (row_lines n width first.rest)) (row_of width first.line))
     (line_of bytes)
 
+-- what the first line of a part says: the variable's name, the part's number, and how many rows of how many cells
 pub record Header : Type 0 where
   pub name : List ℕ
   pub part : ℕ

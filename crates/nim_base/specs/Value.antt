@@ -4,6 +4,7 @@ use Rattle.std.specs.Int.{int_wrapping_add, w64}
 use Rattle.std.specs.List.{flat_map}
 use Rattle.nim_base.specs.declared.number.Shape.{Shape}
 
+-- how many cells each row has, and the rows from the first to the last
 pub record Grid : Type 0 where
   pub width : ℕ
   pub rows : List (List ℤ)

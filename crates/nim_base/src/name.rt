@@ -21,12 +21,14 @@ impl Model for Name {
 }
 
 impl Name {
+    /// The name that this text is, which isn't copied.
     pub fn from_string(text: String) -> Name
         ensures { result ≡ string_bytes text }
     {
         Name { text }
     }
 
+    /// The name that a copy of this text is; memory may be refused.
     pub fn from_str(alloc: Global, text: &str) -> Result<Name, NoMemory>
         ensures { IfOk result (λ name. name ≡ text.now) }
     {
@@ -34,6 +36,7 @@ impl Name {
         Ok(Name { text })
     }
 
+    /// Its text.
     pub fn as_str(&self) -> &str
         ensures { result.now ≡ self.now }
     {

@@ -31,12 +31,14 @@ impl<T> Seq<T> {
         }
     }
 
+    /// The same items, none of them copied; takes no memory.
     pub fn from_vec(items: Vec<T>) -> Seq<T>
         ensures { result ≡ items.items }
     {
         Seq { items }
     }
 
+    /// Gives its items away, in order.
     pub fn into_vec(self) -> Vec<T>
         ensures { result.items ≡ self }
     {
@@ -44,12 +46,14 @@ impl<T> Seq<T> {
         items
     }
 
+    /// All items, in order.
     pub fn as_slice(&self) -> &[T]
         ensures { result.now ≡ self.now }
     {
         self.items.as_slice()
     }
 
+    /// How many items there are.
     pub fn len(&self) -> usize
         ensures { result ≡ length self.now }
     {
@@ -63,6 +67,7 @@ impl<T> Seq<T> {
 }
 
 impl<T: Drop> Seq<T> {
+    /// One item more at the end. Where memory is refused all is as it was.
     pub fn push(&mut self, item: T) -> Result<(), NoMemory>
         ensures ok { OnOk result (self.new ≡ self.old ++ item ∷ []) }
         ensures err { OnErr result (self.new ≡ self.old) }

@@ -23,12 +23,14 @@ impl<T, const N: usize> Model for Short<T, N> {
 }
 
 impl<T, const N: usize> Short<T, N> {
+    /// All items, in order.
     pub fn as_slice(&self) -> &[T]
         ensures { result.now ≡ self.now }
     {
         self.items.as_slice()
     }
 
+    /// How many items there are.
     pub fn len(&self) -> usize
         ensures { result ≡ length self.now }
     {

@@ -48,12 +48,14 @@ impl Value {
         Value { width, rows, cells }
     }
 
+    /// How many cells each row has, at least 1.
     pub fn width(&self) -> u32
         ensures { result ≡ self.now.width }
     {
         self.width
     }
 
+    /// How many rows there are; there may be none.
     pub fn rows(&self) -> u32
         ensures { result ≡ length self.now.rows }
     {

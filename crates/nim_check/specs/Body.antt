@@ -33,10 +33,12 @@ pub record AreFew (names : Names) : Type 0 where
   pub blocks : length names.blocks ≤ 32
   pub scalars : length names.scalars ≤ 64
 
+-- a number as it stands, a scalar by its number in place of its name
 abbrev pub atom_of : Names → Atom → job_atom
 atom_of names (Number number) = Const number
 atom_of names (Name scalar) = Scalar (place_in names.scalars scalar)
 
+-- what is done to the two atoms of a `let`, by the sign between them
 abbrev pub arith_of : Operator → Arith
 arith_of Add = arith_is.Plus
 arith_of Subtract = arith_is.Minus
@@ -44,6 +46,7 @@ arith_of Multiply = arith_is.Times
 arith_of Divide = arith_is.Divide
 arith_of Remainder = arith_is.Remainder
 
+-- how the two atoms of a condition are compared, by the sign between them
 abbrev pub cmp_of : Relation → Cmp
 cmp_of Less = cmp.Less
 cmp_of AtMost = cmp.AtMost
@@ -57,10 +60,12 @@ abbrev pub cond_of : Names → Condition → Cond
 cond_of names (NotZero atom) = record { left = atom_of names atom; cmp = cmp.Differs; right = Const (pos 0) }
 cond_of names (Holds left relation right) = record { left = atom_of names left; cmp = cmp_of relation; right = atom_of names right }
 
+-- the atom that the value of a `let` begins with
 abbrev pub first_of : Names → Expression → job_atom
 first_of names (Alone atom) = atom_of names atom
 first_of names (Two left operator right) = atom_of names left
 
+-- what is done to the first atom of a `let`, and with which other one; nothing where it is an atom alone
 abbrev pub rest_of : Names → Expression → Option (Arith × job_atom)
 rest_of names (Alone atom) = None
 rest_of names (Two left operator right) = Some (arith_of operator, atom_of names right)
@@ -70,6 +75,7 @@ pub record Body : Type 0 where
   pub first : List Stmt
   pub second : List Stmt
 
+-- a body that has no statements yet
 abbrev pub no_body : Body
 no_body = record { first = []; second = [] }
 
@@ -107,17 +113,21 @@ abbrev pub bodies_of : Names → List Line → List Body
 bodies_of names [] = no_body ∷ []
 bodies_of names (line ∷ lines) = with_line names line.statement (bodies_of names lines)
 
+-- the statements of the innermost body, none where there is no body
 abbrev pub first_body : List Body → List Stmt
 first_body [] = []
 first_body (body ∷ bodies) = body.first
 
+-- the statements of a job, from the lines of its driver
 abbrev pub body_of : Names → List Line → List Stmt
 body_of names lines = first_body (bodies_of names lines)
 
 -- ---- the bodies as they are held: the innermost last, and of each the last statement first
 
+-- one body as it is held, with its statements in order again
 abbrev pub body_in : Held → Body
 body_in held = record { first = reverse held.first.items; second = reverse held.second.items }
 
+-- all bodies as they are held, the innermost first again
 abbrev pub bodies_in : List Held → List Body
 bodies_in helds = map body_in (reverse helds)

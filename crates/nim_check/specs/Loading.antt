@@ -12,10 +12,12 @@ use Rattle.nim_data.specs.Wanted.{refusal_of, values_in}
 
 -- ---- what is to be loaded
 
+-- whether what a variable holds at first comes from a data file
 abbrev pub is_load : Init → Bool
 is_load (Loaded values) = true
 is_load _ = false
 
+-- one part that a data file is to give: the variable's name and shape, and the part's number
 abbrev pub want : Var → ℕ → Wanted
 want v part = record { name = v.name; part = part; shape = v.shape }
 
@@ -23,9 +25,11 @@ want v part = record { name = v.name; part = part; shape = v.shape }
 abbrev pub wants : Var → ℕ → ℕ → List Wanted
 wants v part count = map (want v) (range_with_len part count)
 
+-- the parts of a variable that a data file is to give: all of them, or none where it isn't loaded
 abbrev pub wanted_of : Var → List Wanted
 wanted_of v = if is_load v.init then wants v 0 v.parts else []
 
+-- all that a data file is to give, in order of declaration and then of part
 abbrev pub wanted : List Var → List Wanted
 wanted vars = flat_map wanted_of vars
 

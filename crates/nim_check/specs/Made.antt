@@ -45,28 +45,35 @@ init_of (Fill number) = init.Fill number
 init_of Iota = init.Iota
 init_of Load = init.Loaded []
 
+-- a declared variable: its name, how many parts it has, their shape, and what they hold at first
 abbrev pub var_of : Var → job_var
 var_of v = record { name = text_of v.name; parts = v.parts; shape = record { width = v.width; rows = v.rows }; init = init_of v.init }
 
+-- the names of variables, in order of declaration
 abbrev pub var_names : List Var → List Word
 var_names vars = map (λ v. v.name) vars
 
+-- the names of blocks, in order of declaration
 abbrev pub block_names : List Block → List Word
 block_names blocks = map (λ b. b.name) blocks
 
+-- a fixed part, or the task's own number and what is added to it or taken away; `i` alone adds 0
 abbrev pub place_of : Index → Place
 place_of (Part number) = Fixed number
 place_of Own = Plus 0
 place_of (After number) = Plus number
 place_of (Before number) = Minus number
 
+-- a reference by its variable's number in place of the name
 abbrev pub ref_of : List Word → Ref → job_ref
 ref_of vars ref = record { var = place_in vars ref.name; place = place_of ref.index }
 
+-- a number as it stands, an argument of the block by its place
 abbrev pub param_of : List Word → Atom → Param
 param_of args (Number number) = param.Const number
 param_of args (Name arg) = param.Arg (place_in args arg)
 
+-- a stage by its function, the numbers of the variables that it reads and writes, and its parameters
 abbrev pub stage_of : List Word → List Word → Stage → job_stage
 stage_of vars args stage = record {
   func = unwrap_or (func_of stage.function) func.Set;
@@ -76,12 +83,15 @@ stage_of vars args stage = record {
   each = stage.each;
 }
 
+-- a block by its name, how many arguments it has, and its stages
 abbrev pub block_of : List Word → Block → job_block
 block_of vars block = record { name = text_of block.name; args = length block.arguments; stages = map (stage_of vars block.arguments) block.stages }
 
+-- the names that statements may use, each at the place of its number
 abbrev pub names_of : Sections → Names
 names_of tree = record { vars = var_names tree.vars; blocks = block_names tree.blocks; scalars = scalars_of tree.statements }
 
+-- the most statements that are counted: what the `steps` line says, or the usual number without one
 abbrev pub steps_of : Option Steps → ℕ
 steps_of steps = option_map_or (λ s. s.most) steps most_steps
 

@@ -14,10 +14,12 @@ abbrev pub parts_text : Word → ℕ → List Grid → List ℕ
 parts_text name part [] = []
 parts_text name part (value ∷ values) = text_of name part value ++ parts_text name (part + 1) values
 
+-- the text of a variable's loaded parts, one after another; none where nothing is loaded
 abbrev pub printed_by : Word → Init → List ℕ
 printed_by name (Loaded values) = parts_text name 0 values
 printed_by name _ = []
 
+-- the text of all loaded variables, in order of declaration
 abbrev pub printed : List Var → List ℕ
 printed vars = flat_map (λ v. printed_by v.name v.init) vars
 
@@ -33,6 +35,7 @@ pub record IsValue (grid : Grid) : Type 0 where
   pub shaped : IsGrid grid
   pub cells : All (All IsCell) grid.rows
 
+-- each loaded part is what a value can be; nothing is asked where none are loaded
 abbrev pub HasValues : Init → Type 0
 HasValues (Loaded values) = All IsValue values
 HasValues _ = Unit {0}

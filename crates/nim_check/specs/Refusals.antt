@@ -16,6 +16,7 @@ use Rattle.nim_check.specs.Made.{job_of}
 use Rattle.nim_check.specs.Rules.{rule_of}
 use Rattle.nim_check.specs.Sites.{Site, line_of, sites_of}
 
+-- the number of a line and the smallest rule that refuses it, if one does
 abbrev pub refused_at : Site → Option Refusal
 refused_at site = refused_line (line_of site) (rule_of site)
 
@@ -38,6 +39,7 @@ driver_refusal bytes = option_or (text_refusal bytes) (refusal_of (tree_of bytes
 
 -- ---- a driver with its data
 
+-- a refusal together with which of the two files it is of
 abbrev pub in_file : Input → Refusal → FileRefusal
 in_file input refusal = record { input = input; refusal = refusal }
 

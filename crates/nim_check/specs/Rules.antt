@@ -70,10 +70,12 @@ abbrev pub has_block : List Block → Statement → Bool
 has_block blocks (Do block arguments) = option_map_or (λ b. length arguments == length b.arguments) (slice_get blocks (place_in (block_names blocks) block)) false
 has_block blocks _ = true
 
+-- the atoms of the value of a `let`, one or two
 abbrev pub value_reads : Expression → List Atom
 value_reads (Alone atom) = atom ∷ []
 value_reads (Two left operator right) = left ∷ right ∷ []
 
+-- the atoms of a condition, one or two
 abbrev pub condition_reads : Condition → List Atom
 condition_reads (NotZero atom) = atom ∷ []
 condition_reads (Holds left relation right) = left ∷ right ∷ []
@@ -178,6 +180,7 @@ rule_54 _ = false
 
 -- ---- the table
 
+-- a row of the table: its number, and which lines it refuses
 pub record Rule : Type 0 where
   pub number : ℕ
   pub refuses : Site → Bool
@@ -202,6 +205,7 @@ rules =
     ∷ record { number = 54; refuses = rule_54 }
     ∷ []
 
+-- the number of the first of these rules that refuses a line, if one does
 abbrev pub first_that : List Rule → Site → Option ℕ
 first_that [] site = None
 first_that (rule ∷ rules) site = if rule.refuses site then Some rule.number else first_that rules site

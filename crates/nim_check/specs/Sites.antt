@@ -15,9 +15,11 @@ use Rattle.nim_check.specs.Names.{Word, is_in}
 abbrev pub no_past : Past
 no_past = record { scalars = []; depth = 0 }
 
+-- the scalars that are set, with one more at the end where it wasn't set before
 abbrev pub with_scalar : List Word → Word → List Word
 with_scalar scalars name = if is_in scalars name then scalars else scalars ++ name ∷ []
 
+-- what the statements so far did and one more: it may set a scalar, open a loop, while or if, or end one
 abbrev pub past_with : Past → Statement → Past
 past_with past (Let name value) = record past { scalars = with_scalar past.scalars name }
 past_with past (Get name variable part row column) = record past { scalars = with_scalar past.scalars name }
@@ -27,6 +29,7 @@ past_with past (If condition) = record past { depth = past.depth + 1 }
 past_with past End = record past { depth = past.depth - 1 }
 past_with past _ = past
 
+-- what the statements so far did and those of some more lines
 abbrev pub past_of : Past → List Line → Past
 past_of past [] = past
 past_of past (line ∷ lines) = past_of (past_with past line.statement) lines
@@ -53,14 +56,17 @@ line_of (at_block vars before block) = block.line
 line_of (at_stage vars block before stage) = stage.line
 line_of (at_statement tree past line) = line.line
 
+-- the `steps` line, if there is one
 abbrev pub steps_sites : Option Steps → List Site
 steps_sites None = []
 steps_sites (Some steps) = at_steps steps ∷ []
 
+-- the lines of variables behind others, each with all those before it
 abbrev pub var_sites : List Var → List Var → List Site
 var_sites before [] = []
 var_sites before (v ∷ vars) = at_var before v ∷ var_sites (before ++ v ∷ []) vars
 
+-- the lines of a block's stages behind others, each with all those before it
 abbrev pub stage_sites : List Var → Block → List Stage → List Stage → List Site
 stage_sites vars block before [] = []
 stage_sites vars block before (stage ∷ stages) = at_stage vars block before stage ∷ stage_sites vars block (before ++ stage ∷ []) stages
@@ -69,10 +75,12 @@ stage_sites vars block before (stage ∷ stages) = at_stage vars block before st
 abbrev pub block_site : List Var → List Block → Block → List Site
 block_site vars before block = at_block vars before block ∷ stage_sites vars block [] block.stages
 
+-- the lines of blocks behind others, each block's own line with all blocks before it
 abbrev pub block_sites : List Var → List Block → List Block → List Site
 block_sites vars before [] = []
 block_sites vars before (block ∷ blocks) = block_site vars before block ++ block_sites vars (before ++ block ∷ []) blocks
 
+-- the lines of statements behind others, each with what those before it did
 abbrev pub statement_sites : Sections → Past → List Line → List Site
 statement_sites tree past [] = []
 statement_sites tree past (line ∷ lines) = at_statement tree past line ∷ statement_sites tree (past_with past line.statement) lines

@@ -15,6 +15,7 @@ pub struct Past {
 }
 
 impl Past {
+    /// Before the first statement: no scalar is set, and nothing is open.
     pub fn new(alloc: Global) -> Past
         ensures { result ≡ no_past }
     {

@@ -87,6 +87,7 @@ pub fn are_known(words: &[Seq<u8>], atoms: &[Atom]) -> bool
     true
 }
 
+/// Whether this is a number, or one of the words.
 pub fn is_known(words: &[Seq<u8>], atom: &Atom) -> bool
     ensures { result ≡ is_known words.now atom.now }
 {

@@ -11,6 +11,7 @@ pub record Footprint : Type 0 where
   pub reads : List Slot
   pub writes : List Slot
 
+-- what the rule looks at in a command: its number and its slots
 abbrev pub footprint_of : Command → Footprint
 footprint_of command = record { number = command.id; reads = reads_of command.kind; writes = writes_of command.kind }
 

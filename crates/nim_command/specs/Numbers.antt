@@ -28,8 +28,10 @@ counted_from base more = min (base + more) (2 ^ 64 - 1)
 abbrev pub offset_after : ℕ → ℕ
 offset_after task = min (task + 1) (2 ^ 16 - 1)
 
+-- the first of an object's two slots at a worker, which has the object's number
 abbrev pub main_slot : Object → Slot
 main_slot object = record { 0 = object.0 }
 
+-- the second of an object's two slots at a worker, 512 behind the first
 abbrev pub scratch_slot : Object → Slot
 scratch_slot object = record { 0 = min (512 + object.0) (2 ^ 16 - 1) }

@@ -50,8 +50,10 @@ is_among slots slot = list_any (λ (s : Slot). s.0 == slot.0) slots
 abbrev pub does_read : Kind → Slot → Bool
 does_read kind slot = is_among (reads_of kind) slot
 
+-- whether a slot is among those that a command writes
 abbrev pub does_write : Kind → Slot → Bool
 does_write kind slot = is_among (writes_of kind) slot
 
+-- whether a command reads a slot, writes it, or both
 abbrev pub does_touch : Kind → Slot → Bool
 does_touch kind slot = does_read kind slot || does_write kind slot

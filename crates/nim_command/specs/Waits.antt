@@ -34,6 +34,7 @@ members_from number [] = []
 members_from number (group ∷ groups) =
     map (λ command. record { group = number; command = command }) group.commands ++ members_from (number + 1) groups
 
+-- the commands of all groups in order, each with the number of its group from 0 on
 abbrev pub members_of : List Group → List Member
 members_of groups = members_from 0 groups
 
@@ -76,6 +77,7 @@ placed members (place ∷ places) (m ∷ ms) =
     record m.command { id = place; before = waits_of members place } ∷ placed members places ms
 placed members _ _ = []
 
+-- the commands of all groups as one list, numbered by their places, with the places that each waits for
 abbrev pub placed_commands : List Group → List Command
 placed_commands groups =
     let members : List Member = members_of groups in

@@ -45,6 +45,7 @@ impl Half {
         Half { entries }
     }
 
+    /// All entries, in ascending number.
     pub fn entries(&self) -> &[Entry]
         ensures { result.now ≡ self.now }
     {

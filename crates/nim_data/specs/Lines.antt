@@ -6,6 +6,7 @@ use Rattle.nim_lex.specs.Bytes.{is_blank, is_name_byte}
 use Rattle.nim_lex.specs.Numbers.{in_range, number_of, signed}
 use Rattle.nim_data.specs.declared.lines.Heading.{Heading}
 
+-- a byte that isn't a space, a tab or a carriage return
 abbrev pub is_word_byte : ℕ → Bool
 is_word_byte b = not (is_blank b)
 
@@ -25,6 +26,7 @@ behind text = drop (prefix_len is_word_byte (unblanked text)) (unblanked text)
 abbrev pub is_bare : List ℕ → Bool
 is_bare text = list_all is_blank text
 
+-- what is read next, from what was read before; nothing where nothing was
 abbrev pub then_read : {A B : Type 0} → Option A → (A → Option B) → Option B
 then_read None f = None
 then_read (Some x) f = f x
@@ -59,6 +61,7 @@ row width text = cells_from width [] text
 unfoldable pub is_short_name : List ℕ → Bool
 is_short_name text = (nat_le (length text) 16 && is_ascii_alphabetic (slice_index text 0)) && list_all is_name_byte text
 
+-- a header of these words and numbers, where the name is one, the width is 1 or more, and no word is left
 abbrev pub heading_of : List ℕ → List ℕ → ℕ → ℕ → ℕ → Option Heading
 heading_of name rest part rows width =
     if is_short_name name && (nat_lt 0 width && is_bare rest) then Some (record { name = name; part = part; rows = rows; width = width }) else None

@@ -26,6 +26,7 @@ pub record Loaded : Type 0 where
 
 -- ---- the lines so far
 
+-- before the first line: no part has begun
 abbrev pub none_loaded : Loaded
 none_loaded = record { parts = []; last = None }
 
@@ -52,6 +53,7 @@ begun line h = record {
 abbrev pub longer : Loading → List ℤ → Loading
 longer l cells = record l { part = record l.part { value = record l.part.value { rows = l.part.value.rows ++ cells ∷ [] } } }
 
+-- a part with the row that was read, if one was
 abbrev pub longer_by : Loading → Option (List ℤ) → Option Loading
 longer_by l None = None
 longer_by l (Some cells) = Some (longer l cells)
@@ -82,10 +84,12 @@ abbrev pub with_heading : Loaded → ℕ → Option Heading → Loaded
 with_heading st line None = st
 with_heading st line (Some h) = record { parts = parts_of st; last = Some (begun line h) }
 
+-- after a row of the last part; where none was read, as before
 abbrev pub with_row : Loaded → Option Loading → Option (List ℤ) → Loaded
 with_row st (Some l) (Some cells) = record st { last = Some (longer l cells) }
 with_row st _ _ = st
 
+-- after one more line, which is a row where the last part lacks one, and else a header
 unfoldable pub data_after : Loaded → ℕ → List ℕ → Loaded
 data_after st line text =
     if is_bare text then st
@@ -93,6 +97,7 @@ data_after st line text =
 
 -- ---- a data file
 
+-- a refusal where there is one, and else what comes without it
 abbrev pub unless : {A : Type 0} → Option Refusal → Result A Refusal → Result A Refusal
 unless (Some refusal) outcome = Err refusal
 unless None outcome = outcome

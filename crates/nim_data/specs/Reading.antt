@@ -15,9 +15,11 @@ use Rattle.nim_data.specs.Lines.{heading, is_bare, row}
 use Rattle.nim_data.specs.Parts.{unless}
 use Rattle.nim_data.specs.Wanted.{rule_at}
 
+-- where no part has begun there is no row to come
 abbrev pub no_part : Last
 no_part = Passed 0 1
 
+-- before the first line: no value is kept, and no header was refused
 abbrev pub nothing : Reading
 nothing = record { values = []; last = no_part; refused = None }
 
@@ -26,19 +28,23 @@ abbrev pub lacks : Last → Bool
 lacks (Kept wanted value) = nat_lt (length value.rows) wanted
 lacks (Passed left width) = nat_lt 0 left
 
+-- how many cells a row of the last part has
 abbrev pub width_of : Last → ℕ
 width_of (Kept wanted value) = value.width
 width_of (Passed left width) = width
 
+-- the last part with one more row, which is kept, or only counted off where the part isn't kept
 abbrev pub with_row : List ℤ → Last → Last
 with_row cells (Kept wanted value) = Kept wanted (record value { rows = value.rows ++ cells ∷ [] })
 with_row cells (Passed left width) = Passed (left - 1) width
 
 -- ---- a line
 
+-- the rule that refuses a line in the place of a row, where no row could be read
 abbrev pub row_rule : Option (List ℤ) → Option ℕ
 row_rule cells = if is_none cells then Some 72 else None
 
+-- the rule that refuses a line in the place of a header, where no header could be read
 abbrev pub heading_rule : Option Heading → Option ℕ
 heading_rule h = if is_none h then Some 71 else None
 
@@ -48,6 +54,7 @@ line_rule r text =
     if is_bare text then None
     else (if lacks r.last then row_rule (row (width_of r.last) text) else heading_rule (heading text))
 
+-- after a row of the last part; where none was read, as before
 abbrev pub after_row : Reading → Option (List ℤ) → Reading
 after_row r None = r
 after_row r (Some cells) = record r { last = with_row cells r.last }
@@ -59,6 +66,7 @@ closed r = close r.last where
   close (Kept wanted value) = record r { values = r.values ++ value ∷ []; last = no_part }
   close (Passed left width) = record r { last = no_part }
 
+-- a part that isn't kept: as many rows of a width are to come as its header says
 abbrev pub passed : Heading → Last
 passed h = Passed h.rows h.width
 
@@ -74,6 +82,7 @@ begun ws r line h = begin r.refused where
   begin None = begun_by (rule_at (slice_get ws (length r.values)) h) r line h
   begin (Some refusal) = record r { last = passed h }
 
+-- after a header, which ends the part before it; where none was read, as before
 abbrev pub after_heading : List Wanted → Reading → ℕ → Option Heading → Reading
 after_heading ws r line None = r
 after_heading ws r line (Some h) = begun ws (closed r) line h
@@ -93,6 +102,7 @@ given end ws r = give r.refused where
   give None = if nat_lt (length r.values) (length ws) then Err (record { line = end; rule = 73 }) else Ok r.values
   give (Some refusal) = Err refusal
 
+-- what a file gives that ends here, which is refused where the last part lacks a row
 abbrev pub ended : ℕ → List Wanted → Reading → Result (List Grid) Refusal
 ended end ws r = if lacks r.last then Err (record { line = end; rule = 72 }) else given end ws (closed r)
 

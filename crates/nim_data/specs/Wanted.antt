@@ -38,6 +38,7 @@ rule_at (Some w) h = header_rule w h
 abbrev pub header_of : Part → Heading
 header_of part = record { name = part.name; part = part.part; rows = length part.value.rows; width = part.value.width }
 
+-- the part that is to be loaded next, if one is left
 abbrev pub next_of : List Wanted → Option Wanted
 next_of [] = None
 next_of (w ∷ ws) = Some w
@@ -62,6 +63,7 @@ refusal_of ws bytes = refusal_by (line_count bytes + 1) ws (data_of bytes)
 abbrev pub values_of : List Part → List Grid
 values_of parts = map (λ part. part.value) parts
 
+-- the parts that a file gives, none where it is refused
 abbrev pub parts_in : Result (List Part) Refusal → List Part
 parts_in (Ok parts) = parts
 parts_in (Err refusal) = []

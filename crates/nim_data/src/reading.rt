@@ -77,6 +77,7 @@ impl Last {
 }
 
 impl Reading {
+    /// Before the first line: no part has begun, and no header was refused.
     pub fn new(alloc: Global) -> Reading
         ensures { result ≡ spec.nothing }
     {

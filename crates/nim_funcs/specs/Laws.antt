@@ -47,6 +47,7 @@ SumInAnyOrder reads others = IsPermutation reads others → sum_of others ≡ su
 abbrev pub numbers_of : Grid → List ℤ
 numbers_of groups = map (at_column (pos 0)) groups.rows
 
+-- the second cells of grouped rows, each the sum over the rows of its group
 abbrev pub sums_of : Grid → List ℤ
 sums_of groups = map (at_column (pos 1)) groups.rows
 

@@ -83,6 +83,7 @@ key_received group number (Receive slot version) =
     Some (record { epoch = group.epoch; instance = group.instance; entry = number; object = object; version = version })
 key_received group number kind = None
 
+-- the key of the frame that a command asked of a worker receives, if it receives one
 abbrev pub key_for : Asked → Option Key
 key_for asked = key_received asked.group asked.command.id asked.command.kind
 
@@ -169,12 +170,15 @@ abbrev pub order_in : Happening → List ToWorker
 order_in (Ordered order) = order ∷ []
 order_in happening = []
 
+-- all orders that a worker was handed, in the order in which they came
 abbrev pub orders_in : List Happening → List ToWorker
 orders_in history = flat_map order_in history
 
+-- the frame that a worker was handed, where that is what happened
 abbrev pub frame_in : Happening → List Data
 frame_in (Framed frame) = frame ∷ []
 frame_in happening = []
 
+-- all frames that a worker was handed, in the order in which they came
 abbrev pub frames_in : List Happening → List Data
 frames_in history = flat_map frame_in history

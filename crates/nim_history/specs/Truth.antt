@@ -40,6 +40,7 @@ AreCoveredFrom session (order ∷ orders) =
     (is_covered (placed_commands (after_order session order).groups) ≡ true)
     × AreCoveredFrom (after_order session order) orders
 
+-- from a worker's start on, the commands asked for are covered after each of these orders
 unfoldable pub AreCovered : List ToWorker → Type 0
 AreCovered orders = AreCoveredFrom no_session orders
 

@@ -90,6 +90,7 @@ abbrev pub are_levels : List Stmt → Spot → List Level → Bool
 are_levels whole spot [] = true
 are_levels whole spot (level ∷ levels) = fits_level (enter whole spot level) && are_levels whole (enter whole spot level) levels
 
+-- whether a level is in the driver's own body
 abbrev pub is_driver : LevelKind → Bool
 is_driver kind.Driver = true
 is_driver _ = false
@@ -102,6 +103,7 @@ is_path whole (level ∷ levels) = is_driver level.kind && nat_le level.next (le
 
 -- ---- how deep a tree nests
 
+-- the greatest of some depths, 0 where there are none
 abbrev pub greatest : List ℕ → ℕ
 greatest [] = 0
 greatest (depth ∷ depths) = max depth (greatest depths)
@@ -113,6 +115,7 @@ stmt_depth (Stmt-F.While cond body) = suc (greatest body)
 stmt_depth (Stmt-F.If cond first second) = suc (max (greatest first) (greatest second))
 stmt_depth _ = 0
 
+-- how many bodies lie inside each other in a statement, 0 where it holds none
 abbrev pub depth_of : Stmt → ℕ
 depth_of stmt = fold-Stmt ℕ stmt_depth stmt
 
@@ -136,6 +139,7 @@ stmt_behind spot = stmt_before spot.body spot.level.next
 abbrev pub stmt_next : Spot → Option Stmt
 stmt_next spot = slice_get spot.body spot.level.next
 
+-- whether a level is in the body of a loop
 abbrev pub is_loop : LevelKind → Bool
 is_loop kind.Loop = true
 is_loop _ = false

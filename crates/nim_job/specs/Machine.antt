@@ -81,6 +81,7 @@ abbrev pub item_ask : Machine → Item → Ask
 item_ask m (Run stmt) = stmt_ask m.driver.scalars m.spans (out-Stmt stmt)
 item_ask m item = Ask.Finished
 
+-- which kind of ask an item makes; further turns of a loop make none
 abbrev pub item_asked : Item → Option Asked
 item_asked (Run stmt) = stmt_asked (out-Stmt stmt)
 item_asked item = None
@@ -100,6 +101,7 @@ items_asked m (item ∷ rest) = if nat_le m.steps m.driver.count then m else rec
 abbrev pub ask_now : Machine → Ask
 ask_now m = if m.full then Ask.Limit else items_ask m m.driver.todo
 
+-- where a machine stands once its first item has asked; a full one stays where it is
 abbrev pub asked_now : Machine → Machine
 asked_now m = if m.full then m else items_asked m m.driver.todo
 
@@ -146,6 +148,7 @@ asks_cell (Ask.Get object row cell) = true
 asks_cell Ask.Checkpoint = true
 asks_cell _ = false
 
+-- whether what is asked is answered by a text
 abbrev pub asks_text : Ask → Bool
 asks_text (Ask.Output var) = true
 asks_text _ = false

@@ -34,6 +34,7 @@ abbrev pub stmt_scalars : List ℤ → Stmt-F Stmt → List ℤ
 stmt_scalars scalars (Stmt-F.Let s first rest) = slice_set scalars s (let_value scalars first rest)
 stmt_scalars scalars _ = scalars
 
+-- the scalars once the first of these items is done, as far as it asks nothing
 abbrev pub items_scalars : List ℤ → List Item → List ℤ
 items_scalars scalars (Run stmt ∷ rest) = stmt_scalars scalars (out-Stmt stmt)
 items_scalars scalars _ = scalars

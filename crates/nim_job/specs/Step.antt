@@ -25,6 +25,7 @@ pub record State : Type 0 where
   pub values : List Grid
   pub position : ℕ
 
+-- a job before its first step: its objects hold what they hold at first, and no task ran
 abbrev pub start : Job → State
 start job = record { driver = start_driver job; values = initial_values job.vars; position = 0 }
 
@@ -81,6 +82,7 @@ stmt_told job state (Stmt-F.Get s var part row cell) driver =
 stmt_told job state (Stmt-F.Output var) driver = record driver { output = driver.output ++ output_of job.vars state.values var }
 stmt_told job state _ driver = driver
 
+-- the driver once the first of these items is told what it asks for
 abbrev pub items_told : Job → State → List Item → Driver → Driver
 items_told job state (Run stmt ∷ rest) driver = stmt_told job state (out-Stmt stmt) driver
 items_told job state _ driver = driver

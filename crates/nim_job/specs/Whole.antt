@@ -27,6 +27,7 @@ use Rattle.nim_job.specs.declared.stmt.Stmt.TheOpen.{Stmt-F}
 use Rattle.nim_job.specs.Objects.{objects_of}
 use Rattle.nim_job.specs.Tasks.{object_meant, task_count}
 
+-- whether a number is in a range, the ends with it
 abbrev pub is_between : ℕ → ℕ → ℕ → Bool
 is_between low high n = nat_le low n && nat_le n high
 
@@ -53,6 +54,7 @@ abbrev pub has_init : ℕ → Shape → Init → Bool
 has_init parts shape (Loaded values) = (length values == parts) && list_all (is_loaded shape) values
 has_init parts shape _ = true
 
+-- what a variable holds at first is there for each of its parts
 abbrev pub is_filled : Var → Bool
 is_filled v = has_init v.parts v.shape v.init
 
@@ -86,6 +88,7 @@ are_distinct (object ∷ objects) = not (list_any (λ (o : Object). o.0 == objec
 abbrev pub has_distinct : List Var → Stage → Bool
 has_distinct vars stage = list_all (λ i. are_distinct (map (object_meant vars i) stage.writes)) (range_with_len 0 (task_count vars stage))
 
+-- its counts are its function's, what it names is there, and no task of it writes an object twice
 abbrev pub is_stage : List Var → ℕ → Stage → Bool
 is_stage vars args stage = has_counts stage.func (length stage.params) (length stage.reads) (length stage.writes)
     && list_all (is_param args) stage.params && list_all (is_ref vars stage.each) stage.reads && list_all (is_ref vars stage.each) stage.writes
@@ -107,10 +110,12 @@ abbrev pub is_atom : ℕ → Atom → Bool
 is_atom scalars (atom.Const number) = true
 is_atom scalars (atom.Scalar s) = nat_lt s scalars
 
+-- behind the first atom of a `let` no scalar is read that wasn't set before
 abbrev pub is_rest : ℕ → Option (Arith × Atom) → Bool
 is_rest scalars None = true
 is_rest scalars (Some rest) = is_atom scalars rest.1
 
+-- on neither side of a condition a scalar is read that wasn't set before
 abbrev pub is_cond : ℕ → Cond → Bool
 is_cond scalars cond = is_atom scalars cond.left && is_atom scalars cond.right
 

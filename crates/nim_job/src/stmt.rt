@@ -8,6 +8,7 @@ pub enum Atom {
     Scalar(u8),
 }
 
+/// How a condition compares its two atoms.
 #[derive(Clone, Copy, Debug, PartialEq, Eq)]
 pub enum Cmp {
     Less,
@@ -18,6 +19,7 @@ pub enum Cmp {
     AtLeast,
 }
 
+/// What a `let` does with its two atoms; a result that 64 bits can't hold wraps, and a division by 0 gives 0.
 #[derive(Clone, Copy, Debug, PartialEq, Eq)]
 pub enum Arith {
     Plus,

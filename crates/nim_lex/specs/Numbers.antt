@@ -14,5 +14,6 @@ most = 9223372036854775807
 abbrev pub in_range : Bool → ℕ → Bool
 in_range negative n = if negative then nat_le n (most + 1) else nat_le n most
 
+-- a number below 0 where there is a `-` before it, else as it is
 abbrev pub signed : Bool → ℕ → ℤ
 signed negative n = if negative then pos 0 -ℤ pos n else pos n

@@ -27,6 +27,7 @@ value_bytes value = 8 + 8 * (length value.rows * value.width)
 abbrev pub list_bytes : ℕ → ℕ → ℕ → ℕ
 list_bytes count each items = count + each * items
 
+-- the fields of a command, as its kind has them
 abbrev pub kind_bytes : Kind → ℕ
 kind_bytes (Kind.Create slot iota number) = 11
 kind_bytes (Kind.Load slot version value) = 10 + value_bytes value
@@ -46,9 +47,11 @@ abbrev pub param_bytes : Param → ℕ
 param_bytes (Const number) = 9
 param_bytes (Arg place) = 2
 
+-- parameters one after another, behind a count of one byte
 abbrev pub params_bytes : List Param → ℕ
 params_bytes params = 1 + sum (map param_bytes params)
 
+-- the fields of an entry, as its kind has them
 abbrev pub entry_kind_bytes : EntryKind → ℕ
 entry_kind_bytes (EntryKind.Send slot peer entry) = 7
 entry_kind_bytes (EntryKind.Receive slot offset) = 4
@@ -56,12 +59,15 @@ entry_kind_bytes (EntryKind.Copy from to) = 4
 entry_kind_bytes (EntryKind.Run func params reads writes) =
     1 + params_bytes params + list_bytes 1 2 (length reads) + list_bytes 1 2 (length writes)
 
+-- an entry of a template: number, kind, fields, and the before set
 abbrev pub entry_bytes : Entry → ℕ
 entry_bytes entry = 5 + entry_kind_bytes entry.kind + list_bytes 2 4 (length entry.before)
 
+-- a moved task: function, parameters, the objects that it reads with their offsets, and those that it writes
 abbrev pub spec_bytes : Spec → ℕ
 spec_bytes spec = 1 + params_bytes spec.params + list_bytes 1 4 (length spec.reads) + list_bytes 1 2 (length spec.writes)
 
+-- kind, task, and where the edit has them a worker, a mask and the moved task
 abbrev pub edit_bytes : Edit → ℕ
 edit_bytes (Edit.Away task to mask spec) = 5 + spec_bytes spec
 edit_bytes (Edit.Here task from mask spec) = 5 + spec_bytes spec
@@ -79,6 +85,7 @@ order_body (ToWorker.RunPatch epoch instance patch versions) = 10 + list_bytes 2
 order_body (ToWorker.Reset epoch worker workers shapes) = 7 + list_bytes 2 8 (length shapes)
 order_body ToWorker.Stop = 1
 
+-- the body of a report, its kind first
 abbrev pub report_body : FromWorker → ℕ
 report_body (FromWorker.Value epoch ticket object version value) = 19 + value_bytes value
 report_body (FromWorker.Ran epoch position reads) = 13 + list_bytes 1 10 (length reads)
@@ -86,9 +93,11 @@ report_body (FromWorker.Through epoch instance) = 9
 report_body FromWorker.NoMemory = 1
 report_body (FromWorker.PeerDown peer) = 2
 
+-- the body of a frame of data: kind, epoch, instance, entry, object, version, and the value
 abbrev pub data_body : Data → ℕ
 data_body frame = 23 + value_bytes frame.value
 
+-- what follows the length number of any message
 abbrev pub body_of : Message → ℕ
 body_of (Message.Order order) = order_body order
 body_of (Message.Report report) = report_body report

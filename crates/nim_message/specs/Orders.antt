@@ -94,5 +94,6 @@ abbrev pub after_order : Session → ToWorker → Session
 after_order session (Reset epoch worker workers shapes) = new_session epoch shapes
 after_order session order = if does_count session order then counted session order else session
 
+-- what all orders come to that a worker was given, from its start on
 abbrev pub session_of : List ToWorker → Session
 session_of orders = fold after_order no_session orders

@@ -37,10 +37,12 @@ number_of (t ∷ ts) = t.line
 
 -- ---- what a line is
 
+-- a line by its first word: the form that was read, if it has one, and whether its ints are in range
 abbrev pub with_head : Head → Outcome Form → Found
 with_head head None = record { head = head; form = None; fits = true }
 with_head head (Some (form, rest)) = record { head = head; form = Some form; fits = rest.fits }
 
+-- what a line is of which nothing was read yet, by its first word and whether a block is open
 abbrev pub begun : State → ℕ → Input → Found
 begun st line i = with_head (head_of i) (line_form (is_some st.block) line (head_of i) i)
 
@@ -50,10 +52,12 @@ found source st line = begun st (number_of line) (start source line)
 
 -- ---- one line after the other
 
+-- after a line of this form; one that has none changes nothing
 abbrev pub after_form : State → Option Form → State
 after_form st None = st
 after_form st (Some form) = after st form
 
+-- after one more line, given as its tokens
 abbrev pub next : List ℕ → State → List Token → State
 next source st line = after_form st (found source st line).form
 

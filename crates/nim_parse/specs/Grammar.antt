@@ -39,6 +39,7 @@ more_from item (suc n) found = do
   ended ← eat (codes ")")
   if ended then pure found else (expect (codes ",") >> item >>= (λ x. more_from item n (found ++ x ∷ [])))
 
+-- {"," item} ")", behind a first item
 abbrev pub more : {A : Type 0} → Parser A → A → Parser (List A)
 more item first = λ i. more_from item (left i) (first ∷ []) i
 
@@ -95,6 +96,7 @@ reads_from (suc n) found = do
   ended ← eat (codes "->")
   if ended then pure found else (reference >>= (λ x. reads_from n (found ++ x ∷ [])))
 
+-- {ref} "->", from the first ref on
 unfoldable pub reads : Parser (List Ref)
 reads = λ i. reads_from (left i) [] i
 
@@ -107,6 +109,7 @@ unfoldable pub some_from : {A : Type 0} → Parser A → ℕ → List A → Pars
 some_from item zero found = pure found
 some_from item (suc n) found = λ i. if ends i then Some (found, i) else (item >>= (λ x. some_from item n (found ++ x ∷ []))) i
 
+-- the items of a list up to its end, behind a first item
 abbrev pub some_after : {A : Type 0} → Parser A → A → Parser (List A)
 some_after item first = λ i. some_from item (left i) (first ∷ []) i
 
@@ -130,12 +133,15 @@ each = do
   given ← eat (codes "each")
   if given then expect (codes "i") >> pure true else pure false
 
+-- the signs that may stand between the two atoms of a `let`
 abbrev pub operators : List (List ℕ × Operator)
 operators = (codes "+", Add) ∷ (codes "-", Subtract) ∷ (codes "*", Multiply) ∷ (codes "/", Divide) ∷ (codes "%", Remainder) ∷ []
 
+-- ["+"|"-"|"*"|"/"|"%"]
 unfoldable pub operator : Parser (Option Operator)
 operator = one_of operators
 
+-- a value from its left atom: that alone where no sign stands behind it, else the sign and one more atom
 abbrev pub with_right : Atom → Option Operator → Parser Expression
 with_right left None = pure (Alone left)
 with_right left (Some sign) = Two left sign <$> atom
@@ -147,12 +153,15 @@ expression = do
   sign ← operator
   with_right left sign
 
+-- the signs that may stand between the two atoms of a condition
 abbrev pub relations : List (List ℕ × Relation)
 relations = (codes "<", Less) ∷ (codes "<=", AtMost) ∷ (codes "=", Equal) ∷ (codes "!=", NotEqual) ∷ (codes ">", Greater) ∷ (codes ">=", AtLeast) ∷ []
 
+-- ["<"|"<="|"="|"!="|">"|">="]
 unfoldable pub relation : Parser (Option Relation)
 relation = one_of relations
 
+-- a condition from its left atom: that alone where no sign stands behind it, else the sign and one more atom
 abbrev pub compared : Atom → Option Relation → Parser Condition
 compared left None = pure (NotZero left)
 compared left (Some sign) = Holds left sign <$> atom
@@ -301,6 +310,7 @@ output_line = do
 
 -- ---- a line, by its first word
 
+-- the words of the language that lines begin with
 abbrev pub heads : List (List ℕ × Head)
 heads =
     (codes "nimbus", head.Nimbus) ∷ (codes "steps", head.Steps) ∷ (codes "var", head.Var) ∷ (codes "block", head.Block)
@@ -309,6 +319,7 @@ heads =
     ∷ (codes "else", head.Else) ∷ (codes "end", head.End)
     ∷ (codes "checkpoint", head.Checkpoint) ∷ (codes "output", head.Output) ∷ []
 
+-- which of these words a line begins with, or that it is none of them
 abbrev pub head_in : List (List ℕ × Head) → Input → Head
 head_in [] i = head.Other
 head_in (word ∷ words) i = if sees word.0 i then word.1 else head_in words i
@@ -317,6 +328,7 @@ head_in (word ∷ words) i = if sees word.0 i then word.1 else head_in words i
 unfoldable pub head_of : Input → Head
 head_of i = head_in heads i
 
+-- the statement on a line that begins with this word; refused where no statement does
 abbrev pub statement_by : Head → Parser Statement
 statement_by head.Do = do_line
 statement_by head.Let = let_line
@@ -330,6 +342,7 @@ statement_by head.Checkpoint = alone (codes "checkpoint") Checkpoint
 statement_by head.Output = output_line
 statement_by _ = refuse
 
+-- a statement beside the number of its line
 abbrev pub on_line : ℕ → Statement → Form
 on_line line statement = form.Statement (record { line = line; statement = statement })
 

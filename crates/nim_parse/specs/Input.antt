@@ -20,12 +20,15 @@ pub record Input : Type 0 where
   -- each `int` that was read is in the range of 64 bits with a sign
   pub fits : Bool
 
+-- a code that tells kinds of tokens apart
 abbrev pub kind_code : Coded TokenKind
 kind_code = kind.the_row.coded
 
+-- a code that tells tokens apart
 abbrev pub token_code : Coded Token
 token_code = token.the_row.coded
 
+-- a code that tells rests of lines apart, made of those of the three fields
 abbrev pub input_code : Coded Input
 input_code = code_by (List ℕ × (List Token × Bool)) (coded× (coded_list coded_ℕ) (coded× (coded_list token_code) coded_bool))
     (λ i. (i.source, (i.tokens, i.fits))) (λ p. record { source = p.0; tokens = p.1.0; fits = p.1.1 }) (λ _. refl)
@@ -40,28 +43,35 @@ start source tokens = record { source = source; tokens = tokens; fits = true }
 abbrev pub Outcome : Type 0 → Type 0
 Outcome A = Option (A × Input)
 
+-- reads one production from the rest of a line, or refuses it
 abbrev pub Parser : Type 0 → Type 0
 Parser A = Input → Outcome A
 
+-- a further production on what one read and left; nothing where that one refused
 abbrev pub and_then : {A B : Type 0} → Outcome A → (A → Parser B) → Outcome B
 and_then None f = None
 and_then (Some p) f = f p.0 p.1
 
 infixl 10 ◌>>=◌
+-- one production and then another that depends on what was read
 abbrev pub ◌>>=◌ : {A B : Type 0} → Parser A → (A → Parser B) → Parser B
 p >>= f = λ i. and_then (p i) f
 
 infixl 10 ◌>>◌
+-- one production and then another; only what the second read is kept
 abbrev pub ◌>>◌ : {A B : Type 0} → Parser A → Parser B → Parser B
 p >> q = p >>= (λ _. q)
 
+-- takes no token, and gives this
 abbrev pub pure : {A : Type 0} → A → Parser A
 pure a = λ i. Some (a, i)
 
 infixr 11 ◌<$>◌
+-- a production, and what it read made into something else
 abbrev pub ◌<$>◌ : {A B : Type 0} → (A → B) → Parser A → Parser B
 f <$> p = p >>= (λ x. pure (f x))
 
+-- no line has this form
 abbrev pub refuse : {A : Type 0} → Parser A
 refuse = λ i. None
 
@@ -84,6 +94,7 @@ sees text i = has_text text i.source i.tokens
 unfoldable pub next : Input → Input
 next i = record i { tokens = drop 1 i.tokens }
 
+-- the line without its next token where that is this word or sign, else the whole line
 unfoldable pub after : List ℕ → Input → Input
 after text i = if sees text i then next i else i
 

@@ -6,14 +6,17 @@ use Rattle.nim_parse.specs.declared.sections.Line.{Line}
 use Rattle.nim_parse.specs.declared.sections.Statement.{Statement}
 use Rattle.nim_parse.specs.declared.sections.Statement.TheVariants.{Loop, While, If, Else, End}
 
+-- whether nothing stands in a list
 abbrev pub is_empty : {A : Type 0} → List A → Bool
 is_empty [] = true
 is_empty (x ∷ xs) = false
 
+-- the first of a list, here the innermost, if there is one
 abbrev pub head : {A : Type 0} → List A → Option A
 head [] = None
 head (x ∷ xs) = Some x
 
+-- the rest behind the first of a list; nothing of an empty one
 abbrev pub tail : {A : Type 0} → List A → List A
 tail [] = []
 tail (x ∷ xs) = xs

@@ -12,18 +12,22 @@ use Rattle.nim_parse.specs.Nesting.{is_empty, may_stand}
 
 -- ---- what the rules ask of a line
 
+-- `nimbus 1`
 abbrev pub is_header : Option Form → Bool
 is_header (Some form.Header) = true
 is_header _ = false
 
+-- the first word is `steps`
 abbrev pub begins_steps : Head → Bool
 begins_steps head.Steps = true
 begins_steps _ = false
 
+-- the first word is `var`
 abbrev pub begins_var : Head → Bool
 begins_var head.Var = true
 begins_var _ = false
 
+-- the first word is `block`
 abbrev pub begins_block : Head → Bool
 begins_block head.Block = true
 begins_block _ = false
@@ -96,6 +100,7 @@ rule_15 st line = is_none st.block && not (is_outside st line.form)
 abbrev pub rule_19 : State → Found → Bool
 rule_19 st line = not line.fits
 
+-- a row of the table: its number, and which lines it refuses behind the lines before them
 pub record LineRule : Type 0 where
   pub number : ℕ
   pub refuses : State → Found → Bool
@@ -112,6 +117,7 @@ line_rules =
     ∷ record { number = 19; refuses = rule_19 }
     ∷ []
 
+-- the number of the first of these rules that refuses a line, if one does
 abbrev pub first_that : List LineRule → State → Found → Option ℕ
 first_that [] st line = None
 first_that (rule ∷ rules) st line = if rule.refuses st line then Some rule.number else first_that rules st line

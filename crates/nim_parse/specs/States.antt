@@ -31,6 +31,7 @@ closed (Some b) = b ∷ []
 abbrev pub with_block_end : State → State
 with_block_end st = record st { phase = Blocks; block = None; sections = record st.sections { blocks = st.sections.blocks ++ closed st.block } }
 
+-- a statement goes behind those before it, and what is open changes with it
 abbrev pub with_statement : Line → State → State
 with_statement l st = record st {
   phase = Statements;

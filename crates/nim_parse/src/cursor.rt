@@ -11,6 +11,7 @@ use nim_lex::{Token, TokenKind, signed};
 use std::alloc::Global;
 use std::marker::Model;
 
+/// The rest of a line: productions take its tokens one by one. Contracts see it as `Input` of `specs/Input.antt`.
 #[derive(Drop)]
 pub struct Cursor<'a> {
     source: &'a [u8],
@@ -31,6 +32,7 @@ impl<'a> Model for Cursor<'a> {
 }
 
 impl<'a> Cursor<'a> {
+    /// A line of which nothing was read: its tokens, and the bytes of the whole driver.
     pub fn new(source: &'a [u8], tokens: &'a [Token]) -> Cursor<'a>
         ensures { result ≡ spec.start source.now tokens.now }
     {
@@ -56,6 +58,7 @@ impl<'a> Cursor<'a> {
         self.tokens.len()
     }
 
+    /// Whether this word or sign comes next.
     #[tactic(auto, unfolding(crate::specs::Input::sees))]
     pub fn sees(&self, text: &[u8]) -> bool
         ensures { result ≡ spec.sees text.now self.now }
@@ -75,6 +78,7 @@ impl<'a> Cursor<'a> {
         }
     }
 
+    /// Takes this word or sign if it comes next, and says whether it did.
     #[tactic(auto, unfolding(crate::specs::Input::after))]
     pub fn eat(&mut self, text: &[u8]) -> bool
         ensures found { result ≡ spec.sees text.now self.old }
@@ -87,6 +91,7 @@ impl<'a> Cursor<'a> {
         found
     }
 
+    /// Takes this word or sign; `Malformed` where it doesn't come next.
     #[tactic(auto, unfolding(crate::specs::Input::expect))]
     pub fn expect(&mut self, text: &[u8]) -> Result<(), Unread>
         ensures { Reads (spec.expect text.now self.old) result self.new }
@@ -99,6 +104,7 @@ impl<'a> Cursor<'a> {
         }
     }
 
+    /// The end of the line; `Malformed` where tokens are left.
     #[tactic(auto, unfolding(crate::specs::Input::done))]
     pub fn done(&mut self) -> Result<(), Unread>
         ensures { Reads (spec.done self.old) result self.new }
@@ -110,6 +116,7 @@ impl<'a> Cursor<'a> {
         }
     }
 
+    /// Whether a name comes next.
     #[tactic(auto, unfolding(crate::specs::Input::sees_name))]
     pub fn sees_name(&self) -> bool
         ensures { result ≡ spec.sees_name self.now }
@@ -120,6 +127,7 @@ impl<'a> Cursor<'a> {
         }
     }
 
+    /// Takes a name and copies its bytes; `Malformed` where none comes next.
     #[tactic(auto, unfolding(crate::specs::Input::name))]
     pub fn name(&mut self, alloc: Global) -> Result<Seq<u8>, Unread>
         ensures { Reads (spec.name self.old) result self.new }
@@ -134,6 +142,7 @@ impl<'a> Cursor<'a> {
         }
     }
 
+    /// Takes a number without a sign; `Malformed` where none comes next.
     #[tactic(auto, unfolding(crate::specs::Input::number))]
     pub fn number(&mut self) -> Result<u64, Unread>
         ensures { Reads (spec.number self.old) result self.new }
@@ -163,6 +172,7 @@ impl<'a> Cursor<'a> {
         }
     }
 
+    /// Takes a number with its sign; `Malformed` where none comes next. One past the range is 0, and clears `fits`.
     #[tactic(auto, unfolding(crate::specs::Input::int))]
     pub fn int(&mut self) -> Result<i64, Unread>
         ensures { Reads (spec.int self.old) result self.new }

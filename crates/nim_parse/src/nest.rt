@@ -37,6 +37,7 @@ impl Model for Nest {
 }
 
 impl Nest {
+    /// Nothing is open.
     pub fn new(alloc: Global) -> Nest
         ensures { result ≡ [] }
     {
@@ -45,12 +46,14 @@ impl Nest {
         }
     }
 
+    /// Whether nothing is open.
     pub fn is_empty(&self) -> bool
         ensures { result ≡ is_empty self.now }
     {
         self.stack.is_empty()
     }
 
+    /// What was opened last of all that is still open.
     pub fn innermost(&self) -> Option<Open>
         ensures { result ≡ head self.now }
     {

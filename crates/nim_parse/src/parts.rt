@@ -35,6 +35,7 @@ impl Item for Ref {
     }
 }
 
+/// Names with commas between them, in brackets; there may be none.
 #[tactic(auto, unfolding(crate::specs::Grammar::names))]
 pub fn names(alloc: Global, cursor: &mut Cursor<'_>) -> Result<Seq<Seq<u8>>, Unread>
     ensures { Reads (spec.names cursor.old) result cursor.new }
@@ -42,6 +43,7 @@ pub fn names(alloc: Global, cursor: &mut Cursor<'_>) -> Result<Seq<Seq<u8>>, Unr
     listed(alloc, cursor)
 }
 
+/// A number with its sign, or a name.
 #[tactic(auto, unfolding(crate::specs::Grammar::atom))]
 pub fn atom(alloc: Global, cursor: &mut Cursor<'_>) -> Result<Atom, Unread>
     ensures { Reads (spec.atom cursor.old) result cursor.new }
@@ -53,6 +55,7 @@ pub fn atom(alloc: Global, cursor: &mut Cursor<'_>) -> Result<Atom, Unread>
     }
 }
 
+/// Atoms with commas between them, in brackets; there may be none.
 #[tactic(auto, unfolding(crate::specs::Grammar::atoms))]
 pub fn atoms(alloc: Global, cursor: &mut Cursor<'_>) -> Result<Seq<Atom>, Unread>
     ensures { Reads (spec.atoms cursor.old) result cursor.new }
@@ -95,6 +98,7 @@ fn reference(alloc: Global, cursor: &mut Cursor<'_>) -> Result<Ref, Unread>
     Ok(Ref { name, index })
 }
 
+/// What a variable holds at first: `fill` with a number, `iota`, or `load`.
 #[tactic(auto, unfolding(crate::specs::Grammar::init))]
 pub fn init(cursor: &mut Cursor<'_>) -> Result<Init, Unread>
     ensures { Reads (spec.init cursor.old) result cursor.new }
@@ -109,6 +113,7 @@ pub fn init(cursor: &mut Cursor<'_>) -> Result<Init, Unread>
     Ok(Init::Load)
 }
 
+/// The references that a stage reads, up to its `->`; there may be none.
 pub fn reads(alloc: Global, cursor: &mut Cursor<'_>) -> Result<Seq<Ref>, Unread>
     ensures { Reads (spec.reads cursor.old) result cursor.new }
 {
@@ -122,6 +127,7 @@ pub fn reads(alloc: Global, cursor: &mut Cursor<'_>) -> Result<Seq<Ref>, Unread>
     Err(Unread::Malformed)
 }
 
+/// The references that a stage writes, one or more, up to `with`, `each` or the end of the line.
 #[tactic(auto, unfolding(crate::specs::Grammar::writes))]
 pub fn writes(alloc: Global, cursor: &mut Cursor<'_>) -> Result<Seq<Ref>, Unread>
     ensures { Reads (spec.writes cursor.old) result cursor.new }
@@ -141,6 +147,7 @@ fn values(alloc: Global, cursor: &mut Cursor<'_>) -> Result<Seq<Atom>, Unread>
     some_after(alloc, cursor, first)
 }
 
+/// The atoms behind `with`, one or more; none where the word isn't there.
 #[tactic(auto, unfolding(crate::specs::Grammar::parameters))]
 pub fn parameters(alloc: Global, cursor: &mut Cursor<'_>) -> Result<Seq<Atom>, Unread>
     ensures { Reads (spec.parameters cursor.old) result cursor.new }
@@ -152,6 +159,7 @@ pub fn parameters(alloc: Global, cursor: &mut Cursor<'_>) -> Result<Seq<Atom>, U
     }
 }
 
+/// Whether `each i` comes next, which is taken; `Malformed` where `each` stands without `i`.
 #[tactic(auto, unfolding(crate::specs::Grammar::each))]
 pub fn each(cursor: &mut Cursor<'_>) -> Result<bool, Unread>
     ensures { Reads (spec.each cursor.old) result cursor.new }
@@ -183,6 +191,7 @@ fn operator(cursor: &mut Cursor<'_>) -> Option<Operator>
     }
 }
 
+/// The value of a `let`: an atom, or two with a sign between.
 #[tactic(auto, unfolding(crate::specs::Grammar::expression))]
 pub fn expression(alloc: Global, cursor: &mut Cursor<'_>) -> Result<Expression, Unread>
     ensures { Reads (spec.expression cursor.old) result cursor.new }
@@ -219,6 +228,7 @@ fn relation(cursor: &mut Cursor<'_>) -> Option<Relation>
     }
 }
 
+/// An atom, or two with a comparison between.
 #[tactic(auto, unfolding(crate::specs::Grammar::condition))]
 pub fn condition(alloc: Global, cursor: &mut Cursor<'_>) -> Result<Condition, Unread>
     ensures { Reads (spec.condition cursor.old) result cursor.new }

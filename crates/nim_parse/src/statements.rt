@@ -111,6 +111,7 @@ fn read_output(alloc: Global, cursor: &mut Cursor<'_>) -> Result<Statement, Unre
     Ok(Statement::Output { variable })
 }
 
+/// The statement on a line that begins with this word; `Malformed` where the line isn't of its form.
 pub fn read_statement(
     alloc: Global,
     cursor: &mut Cursor<'_>,

@@ -27,7 +27,7 @@ found_merged false true own x y h is same = refl
 found_merged false false own x y h is same = refl
 
 -- what the owner's main slot holds after copies
-after_copies : (base versions : Versions) (number : ℕ) (owner : Worker) (ms : List Moved) (object : Object) → IsWhole versions → owner.0 < versions.workers
+pub after_copies : (base versions : Versions) (number : ℕ) (owner : Worker) (ms : List Moved) (object : Object) → IsWhole versions → owner.0 < versions.workers
     → object.0 < versions.objects
     → (is_kept (after_commands versions (copies_of base number owner ms)) owner (main_slot object) ≡ true)
     × (held_at (after_commands versions (copies_of base number owner ms)) owner (main_slot object) ≡ (if is_moved ms object then Some (latest_of base object) else held_at versions owner (main_slot object)))
@@ -83,7 +83,7 @@ pick_either true x y other = refl
 pick_either false x y other = other refl
 
 -- what the owner's main slot of an object that is read holds after the copies
-latest_there : (versions : Versions) (owner : Worker) (reads : List Object) (object : Object) → is_one_of reads object ≡ true
+pub latest_there : (versions : Versions) (owner : Worker) (reads : List Object) (object : Object) → is_one_of reads object ≡ true
     → is_some (holder versions object) ≡ true
     → (if is_moved (moves versions owner [] reads) object then Some (latest_of versions object) else held_at versions owner (main_slot object))
     ≡ Some (latest_of versions object)

@@ -200,13 +200,13 @@ position_few job position task whole there =
     omega (arith, slice_get_within (tasks_of job) position task there, few_tasks job whole, steps_few job whole)
 
 -- the version that a task reads isn't past its position
-before_within : (tasks : List Task) (k : ℕ) (object : Object) → version_before tasks k object ≤ k
+pub before_within : (tasks : List Task) (k : ℕ) (object : Object) → version_before tasks k object ≤ k
 before_within tasks zero object = omega arith
 before_within tasks (suc k) object =
     cond_both (option_map_or (is_written object) (slice_get tasks k) false) (k + 1) (version_before tasks k object) (λ v. v ≤ suc k)
     (λ wrote. omega arith) (λ none. omega (arith, before_within tasks k object))
 
-read_next : (job : Job) (position : ℕ) (task : Task) (object : Object) → slice_get (tasks_of job) position ≡ Some task
+pub read_next : (job : Job) (position : ℕ) (task : Task) (object : Object) → slice_get (tasks_of job) position ≡ Some task
     → read_version job (position + 1) object ≡ (if is_one_of task.writes object then position + 1 else read_version job position object)
 read_next job position task object there =
     ap (λ (k : ℕ). read_version job k object) (add-one position)

@@ -50,7 +50,7 @@ holds_last commands c slot =
 
 -- ---- what one command leaves in a main slot
 
-one_left : (written slot : Slot) (version : ℕ) (rest : Content) (first second : Bool) → (slot.0 == written.0) ≡ first → (written.0 == slot.0) ≡ second
+pub one_left : (written slot : Slot) (version : ℕ) (rest : Content) (first second : Bool) → (slot.0 == written.0) ≡ first → (written.0 == slot.0) ≡ second
     → (if first then content_at written version else rest) ≡ (if second || false then content_at slot version else rest)
 one_left written slot version rest true true e f = ap (λ (n : ℕ). content_at (record { 0 = n }) version) (sym (eqb-true slot.0 written.0 e))
 one_left written slot version rest true false e f = absurd (eqb-false written.0 slot.0 f (sym (eqb-true slot.0 written.0 e)))

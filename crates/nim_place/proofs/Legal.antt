@@ -54,22 +54,22 @@ before_written tasks (suc k) object =
           let same : k + 1 - 1 ≡ k = omega arith in ap (λ (n : ℕ). option_map_or (is_written object) (slice_get tasks n) false) same ∙ wrote
 
 -- what a task reads is a version of the job
-read_there : (job : Job) (position : ℕ) (object : Object) → object.0 < objects_of job.vars
+pub read_there : (job : Job) (position : ℕ) (object : Object) → object.0 < objects_of job.vars
     → is_version job object (read_version job position object) ≡ true
 read_there job position object below =
     and_from (is_object (objects_of job.vars) object) (was_written (tasks_of job) object (read_version job position object))
     (lt-ltb object.0 (objects_of job.vars) below) (before_written (tasks_of job) position object)
 
 -- a task that is there passes what all tasks pass
-task_passes : (p : Task → Bool) (tasks : List Task) (i : ℕ) (task : Task) → list_all p tasks ≡ true → slice_get tasks i ≡ Some task → p task ≡ true
+pub task_passes : (p : Task → Bool) (tasks : List Task) (i : ℕ) (task : Task) → list_all p tasks ≡ true → slice_get tasks i ≡ Some task → p task ≡ true
 task_passes p [] i task all there = absurd (none-some task there)
 task_passes p (t ∷ tasks) zero task all there = ap p (sym (same_Some t task there)) ∙ (and_parts (p t) (list_all p tasks) all).0
 task_passes p (t ∷ tasks) (suc i) task all there = task_passes p tasks i task (and_parts (p t) (list_all p tasks) all).1 there
 
-task_objects : (n : ℕ) (task : Task) → is_task n task ≡ true → (list_all (is_object n) task.reads ≡ true) × (list_all (is_object n) task.writes ≡ true)
+pub task_objects : (n : ℕ) (task : Task) → is_task n task ≡ true → (list_all (is_object n) task.reads ≡ true) × (list_all (is_object n) task.writes ≡ true)
 task_objects n task fit = grind (arith, nat_tests)
 
-read_within : (n : ℕ) (reads : List Object) (object : Object) → list_all (is_object n) reads ≡ true → is_one_of reads object ≡ true → object.0 < n
+pub read_within : (n : ℕ) (reads : List Object) (object : Object) → list_all (is_object n) reads ≡ true → is_one_of reads object ≡ true → object.0 < n
 read_within n [] object all read = absurd (false≢true read)
 read_within n (r ∷ reads) object all read =
     let parts = and_parts (is_object n r) (list_all (is_object n) reads) all in
@@ -80,24 +80,24 @@ read_within n (r ∷ reads) object all read =
       either later below false other is = later is
 
 -- the main slot of an object is of it
-main_of : (object : Object) → object.0 < 512 → object_of (main_slot object) ≡ object
+pub main_of : (object : Object) → object.0 < 512 → object_of (main_slot object) ≡ object
 main_of object below = let same : object.0 % 512 ≡ object.0 = omega (arith, below) in ap (λ (n : ℕ). record { 0 = n }) same
 
-mains_of : (n : ℕ) (objects : List Object) → n ≤ 512 → list_all (is_object n) objects ≡ true → map object_of (map main_slot objects) ≡ objects
+pub mains_of : (n : ℕ) (objects : List Object) → n ≤ 512 → list_all (is_object n) objects ≡ true → map object_of (map main_slot objects) ≡ objects
 mains_of n [] few are = refl
 mains_of n (o ∷ objects) few are =
     let parts = and_parts (is_object n o) (list_all (is_object n) objects) are in
     ap₂ (λ (p : Object) (ps : List Object). p ∷ ps) (main_of o (omega (arith, few, ltb-true o.0 n parts.0))) (mains_of n objects few parts.1)
 
 -- What the map and the job say of the objects of a task.
-record IsFor (job : Job) (versions : Versions) (task : Task) (position : ℕ) : Type 0 where
+pub record IsFor (job : Job) (versions : Versions) (task : Task) (position : ℕ) : Type 0 where
   there : slice_get (tasks_of job) position ≡ Some task
   main : (object : Object) → is_one_of task.reads object ≡ true → object_of (main_slot object) ≡ object
   reads : (object : Object) → is_one_of task.reads object ≡ true → object.0 < versions.objects
   version : (object : Object) → is_one_of task.reads object ≡ true → is_version job (object_of (main_slot object)) (latest_of versions object) ≡ true
   writes : map object_of (map main_slot task.writes) ≡ task.writes
 
-is_for : (job : Job) (versions : Versions) (task : Task) (position : ℕ) → IsAt job position versions → IsTaskAt job position task
+pub is_for : (job : Job) (versions : Versions) (task : Task) (position : ℕ) → IsAt job position versions → IsTaskAt job position task
     → IsFor job versions task position
 is_for job versions task position at next =
     let n = objects_of job.vars in
@@ -120,7 +120,7 @@ is_for job versions task position at next =
 
 -- ---- commands behind others
 
-legal_append : (job : Job) (past xs ys : List Command) → AreLegal job past xs → AreLegal job (past ++ xs) ys → AreLegal job past (xs ++ ys)
+pub legal_append : (job : Job) (past xs ys : List Command) → AreLegal job past xs → AreLegal job (past ++ xs) ys → AreLegal job past (xs ++ ys)
 legal_append job past [] ys first second = subst (λ (all : List Command). AreLegal job all ys) (append-nil past) second
 legal_append job past (x ∷ xs) ys first second = (
   first.0,
@@ -146,7 +146,7 @@ receives_legal job versions task number position owner past (m ∷ ms) fits are 
     (fits.version m.object are.2, receives_legal job versions task number position owner (past ++ (receive_of versions number owner m).1 ∷ []) ms fits are.4)
 
 -- the slots hold what the task reads
-reads_held : (job : Job) (before : Slot → Content) (position : ℕ) (objects : List Object)
+pub reads_held : (job : Job) (before : Slot → Content) (position : ℕ) (objects : List Object)
     → ((object : Object) → is_one_of objects object ≡ true → before (main_slot object) ≡ Some (object, read_version job position object))
     → map before (map main_slot objects) ≡ map (λ (c : Object × ℕ). Some c) (map (λ object. (object, read_version job position object)) objects)
 reads_held job before position [] held = refl
@@ -193,7 +193,7 @@ owner_legal job versions owner task number position given ms is are below stands
           ∙ schedule_finds versions owner task number below given stands object read (fits.reads object read) (at.holders object (fits.reads object read))
           ∙ ap₂ (λ (o : Object) (v : ℕ). Some (o, v)) (fits.main object read) (at.latest object (fits.reads object read))
 
-worker_legal : (job : Job) (versions : Versions) (owner worker : Worker) (task : Task) (number position : ℕ) (given : List (Worker × Command)) (ms : List Moved)
+pub worker_legal : (job : Job) (versions : Versions) (owner worker : Worker) (task : Task) (number position : ℕ) (given : List (Worker × Command)) (ms : List Moved)
     → ms ≡ moves versions owner [] task.reads
     → AreMoves versions owner task.reads ms → AreHeld versions ms → owner.0 < versions.workers → Stands given versions → IsAt job position versions
     → IsFor job versions task position

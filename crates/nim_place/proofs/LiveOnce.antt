@@ -70,7 +70,7 @@ one_within live number a (suc n) first last lives =
           omega (arith, counted, none, one)
       either later (inr (inr behind)) = absurd (omega (arith, behind, first))
 
-live_within : (live : List Bool) (worker : Worker) → is_live live worker ≡ true → worker.0 < length live
+pub live_within : (live : List Bool) (worker : Worker) → is_live live worker ≡ true → worker.0 < length live
 live_within live worker lives = either (cases_lt worker.0 (length live)) where
   either : (worker.0 < length live) ⊎ (length live ≤ worker.0) → worker.0 < length live
   either (inl within) = within

@@ -29,7 +29,7 @@ pub each_weaker : {X : Type 0} (P Q : X → Type 0) → ((x : X) → P x → Q x
 each_weaker P Q f [] all = tt
 each_weaker P Q f (x ∷ xs) all = (f x all.0, each_weaker P Q f xs all.1)
 
-each_two : {X : Type 0} (P Q R : X → Type 0) → ((x : X) → P x → Q x → R x) → (xs : List X) → AllByRecursion P xs → AllByRecursion Q xs → AllByRecursion R xs
+pub each_two : {X : Type 0} (P Q R : X → Type 0) → ((x : X) → P x → Q x → R x) → (xs : List X) → AllByRecursion P xs → AllByRecursion Q xs → AllByRecursion R xs
 each_two P Q R f [] first second = tt
 each_two P Q R f (x ∷ xs) first second = (f x first.0 second.0, each_two P Q R f xs first.1 second.1)
 
@@ -37,7 +37,7 @@ pub each_map : {X Y : Type 0} (P : X → Type 0) (f : Y → X) (ys : List Y) →
 each_map P f [] all = tt
 each_map P f (y ∷ ys) all = (all.0, each_map P f ys all.1)
 
-each_of_map : {X Y : Type 0} (P : X → Type 0) (f : Y → X) (ys : List Y) → AllByRecursion P (map f ys) → AllByRecursion (λ (y : Y). P (f y)) ys
+pub each_of_map : {X Y : Type 0} (P : X → Type 0) (f : Y → X) (ys : List Y) → AllByRecursion P (map f ys) → AllByRecursion (λ (y : Y). P (f y)) ys
 each_of_map P f [] all = tt
 each_of_map P f (y ∷ ys) all = (all.0, each_of_map P f ys all.1)
 
@@ -58,7 +58,7 @@ flat_of_map : {X Y Z : Type 0} (f : Y → List Z) (h : X → Y) (xs : List X) �
 flat_of_map f h [] = refl
 flat_of_map {X} {Y} {Z} f h (x ∷ xs) = ap (λ (rest : List Z). f (h x) ++ rest) (flat_of_map f h xs)
 
-flat_agree : {X Z : Type 0} (f g : X → List Z) (xs : List X) → AllByRecursion (λ (x : X). f x ≡ g x) xs → flat_map f xs ≡ flat_map g xs
+pub flat_agree : {X Z : Type 0} (f g : X → List Z) (xs : List X) → AllByRecursion (λ (x : X). f x ≡ g x) xs → flat_map f xs ≡ flat_map g xs
 flat_agree f g [] same = refl
 flat_agree {X} {Z} f g (x ∷ xs) same = ap₂ (λ (first rest : List Z). first ++ rest) same.0 (flat_agree f g xs same.1)
 
@@ -165,7 +165,7 @@ to_once keys those each = recursion_from_All (λ (key : Key). count_by (is_key k
 from_once : (keys those : List Key) → Once keys those → EachOnce keys those
 from_once keys those once = All-from_recursion (λ (key : Key). count_by (is_key key) those ≡ 1) keys once
 
-paired_by : (live : List Bool) (lists : ℕ → List ToWorker) (to : Worker) → IsPairedAt (live_lists live lists) (given_of lists to) → IsPairedBy live lists to
+pub paired_by : (live : List Bool) (lists : ℕ → List ToWorker) (to : Worker) → IsPairedAt (live_lists live lists) (given_of lists to) → IsPairedBy live lists to
 paired_by live lists to is =
     let sent : List Key = flat_map (λ (g : Given). keys_sent to g.orders) (live_lists live lists) in
     let all = flat_of_map (λ (g : Given). keys_sent to g.orders) (given_of lists) (live_workers live) in

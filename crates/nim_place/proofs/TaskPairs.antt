@@ -72,7 +72,7 @@ key_for epoch instance versions number m = record {
   version = latest_of versions m.object;
 }
 
-itself : (key : Key) → is_key key key ≡ true
+pub itself : (key : Key) → is_key key key ≡ true
 itself key = rw (
   eq-eqb key.epoch key.epoch refl,
   eq-eqb key.instance key.instance refl,

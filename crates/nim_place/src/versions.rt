@@ -46,6 +46,13 @@ impl VersionMap {
         })
     }
 
+    /// How many workers it has.
+    pub fn workers(&self) -> u16
+        ensures { result ≡ self.now.workers }
+    {
+        self.workers
+    }
+
     /// How many objects it has.
     pub fn objects(&self) -> u16
         ensures { result ≡ self.now.objects }

@@ -29,6 +29,7 @@ pub record IsLexed (lines : List (List Word)) : Type 0 where
 abbrev pub WordsAreRead : List (List Word) → Type 0
 WordsAreRead lines = list_all (list_all is_word) lines ≡ true → length (lines_text lines) ≤ most_bytes → IsLexed lines
 
+-- what is printed of a tree: the words of its lines
 abbrev pub tree_text : Sections → List ℕ
 tree_text tree = lines_text (tree_words tree)
 
@@ -57,5 +58,6 @@ pub record IsRead (job : Job) : Type 0 where
   pub accepted : check.driver_refusal (tree_text (tree_for job)) ≡ None
   pub job_is : job_of (parse.tree_of (tree_text (tree_for job))) ≡ unloaded job
 
+-- what is printed of a job that can be written is read back, where it isn't longer than a driver may be
 abbrev pub JobIsRead : Job → Type 0
 JobIsRead job = is_checked job ≡ true → is_spelled job ≡ true → length (tree_text (tree_for job)) ≤ most_bytes → IsRead job

@@ -52,15 +52,19 @@ use Rattle.nim_parse.specs.declared.sections.Var.{Var}
 abbrev pub argument_name : ℕ → List ℕ
 argument_name arg = codes "k" ++ decimal arg
 
+-- what a scalar is called that has a number alone: `s` and the number
 abbrev pub scalar_name : ℕ → List ℕ
 scalar_name scalar = codes "s" ++ decimal scalar
 
+-- what a variable is called, by its number; no bytes where there is none
 abbrev pub var_name : List job_var → ℕ → List ℕ
 var_name vars var = slice_index_or (map (λ v. v.name) vars) var []
 
+-- what a block is called, by its number; no bytes where there is none
 abbrev pub block_name : List job_block → ℕ → List ℕ
 block_name blocks block = slice_index_or (map (λ b. b.name) blocks) block []
 
+-- what a function is called in the language
 abbrev pub func_name : Func → List ℕ
 func_name func.Set = codes "set"
 func_name func.Copy = codes "copy"
@@ -80,28 +84,34 @@ func_name func.Split = codes "split"
 
 -- ---- variables and blocks, the first on a line of this number
 
+-- what a variable holds at first; of loaded data only that they are to be loaded
 abbrev pub init_for : job_init → Init
 init_for (init.Fill number) = Fill number
 init_for init.Iota = Iota
 init_for (init.Loaded values) = Load
 
+-- the lines of variables, the first of them with this number
 abbrev pub vars_for : ℕ → List job_var → List Var
 vars_for line [] = []
 vars_for line (v ∷ vars) =
     record { line = line; name = v.name; parts = v.parts; width = v.shape.width; rows = v.shape.rows; init = init_for v.init } ∷ vars_for (line + 1) vars
 
+-- which part a reference means: a number, or `i` with a number that is added or taken away
 abbrev pub index_for : Place → Index
 index_for (Fixed number) = Part number
 index_for (Plus number) = After number
 index_for (Minus number) = Before number
 
+-- a reference by its variable's name in place of the number
 abbrev pub ref_for : List job_var → job_ref → Ref
 ref_for vars ref = record { name = var_name vars ref.var; index = index_for ref.place }
 
+-- a number as it stands, an argument of the block by its name
 abbrev pub param_for : Param → Atom
 param_for (Const number) = Number number
 param_for (Arg arg) = Name (argument_name arg)
 
+-- the lines of a block's stages, the first of them with this number
 abbrev pub stages_for : List job_var → ℕ → List job_stage → List Stage
 stages_for vars line [] = []
 stages_for vars line (stage ∷ stages) =
@@ -118,6 +128,7 @@ stages_for vars line (stage ∷ stages) =
 abbrev pub block_lines : job_block → ℕ
 block_lines block = 2 + length block.stages
 
+-- the lines of blocks, the head of the first with this number
 abbrev pub blocks_for : List job_var → ℕ → List job_block → List Block
 blocks_for vars line [] = []
 blocks_for vars line (block ∷ blocks) =
@@ -135,10 +146,12 @@ blocks_lines (block ∷ blocks) = block_lines block + blocks_lines blocks
 
 -- ---- statements
 
+-- a number as it stands, a scalar by its name
 abbrev pub atom_for : job_atom → Atom
 atom_for (atom_is.Const number) = Number number
 atom_for (atom_is.Scalar scalar) = Name (scalar_name scalar)
 
+-- the sign of what a `let` does with its two atoms
 abbrev pub operator_for : Arith → Operator
 operator_for arith_is.Plus = Add
 operator_for arith_is.Minus = Subtract
@@ -146,6 +159,7 @@ operator_for arith_is.Times = Multiply
 operator_for arith_is.Divide = Divide
 operator_for arith_is.Remainder = Remainder
 
+-- the sign of how a condition compares its two atoms
 abbrev pub relation_for : Cmp → Relation
 relation_for cmp.Less = Less
 relation_for cmp.AtMost = AtMost
@@ -154,13 +168,16 @@ relation_for cmp.Differs = NotEqual
 relation_for cmp.Greater = Greater
 relation_for cmp.AtLeast = AtLeast
 
+-- the value of a `let`: its first atom, and behind it a sign and another one if there is a rest
 abbrev pub value_for : job_atom → Option (Arith × job_atom) → Expression
 value_for first None = Alone (atom_for first)
 value_for first (Some rest) = Two (atom_for first) (operator_for rest.0) (atom_for rest.1)
 
+-- a condition, always written with both its atoms
 abbrev pub condition_for : Cond → Condition
 condition_for cond = Holds (atom_for cond.left) (relation_for cond.cmp) (atom_for cond.right)
 
+-- the statements of several parts, one part behind another
 abbrev pub joined : List (List Statement) → List Statement
 joined parts = flat_map (λ part. part) parts
 
@@ -180,9 +197,11 @@ stmt_for job (Stmt-F.If cond first second) = If (condition_for cond) ∷ joined 
 stmt_for job Stmt-F.Checkpoint = Checkpoint ∷ []
 stmt_for job (Stmt-F.Output var) = Output (var_name job.vars var) ∷ []
 
+-- a statement with all that it holds, on lines of their own
 abbrev pub statements_of : Job → Stmt → List Statement
 statements_of job stmt = fold-Stmt (List Statement) (stmt_for job) stmt
 
+-- statements on lines one after another, the first of them with this number
 abbrev pub lines_for : ℕ → List Statement → List Line
 lines_for line [] = []
 lines_for line (statement ∷ statements) = record { line = line; statement = statement } ∷ lines_for (line + 1) statements

@@ -36,36 +36,45 @@ is_int (negsuc n) = nat_le n 9223372036854775807
 
 -- ---- jobs
 
+-- a number that fills the variable is one of 64 bits
 abbrev pub is_init : job_init → Bool
 is_init (init.Fill number) = is_int number
 is_init _ = true
 
+-- the number of a part, or what is added to the task's own number or taken away, can be written
 abbrev pub is_place : Place → Bool
 is_place (Fixed n) = is_small n
 is_place (Plus n) = is_small n
 is_place (Minus n) = is_small n
 
+-- a parameter that is a number is one of 64 bits
 abbrev pub is_param : Param → Bool
 is_param (param.Const number) = is_int number
 is_param (param.Arg arg) = true
 
+-- all numbers in the references and parameters of a stage can be written
 abbrev pub is_stage : job_stage → Bool
 is_stage stage = list_all (λ (ref : job_ref). is_place ref.place) (stage.reads ++ stage.writes) && list_all is_param stage.params
 
+-- an atom that is a number is one of 64 bits
 abbrev pub is_atom : job_atom → Bool
 is_atom (atom.Const number) = is_int number
 is_atom (atom.Scalar scalar) = true
 
+-- the second atom of a `let`, if it has one, can be written
 abbrev pub is_rest : Option (Arith × job_atom) → Bool
 is_rest None = true
 is_rest (Some rest) = is_atom rest.1
 
+-- both atoms of a condition can be written
 abbrev pub is_cond : Cond → Bool
 is_cond cond = is_atom cond.left && is_atom cond.right
 
+-- all parts of a body can be written
 abbrev pub all_true : List Bool → Bool
 all_true parts = list_all (λ part. part) parts
 
+-- the numbers of a statement can be written, and so can the statements that it holds
 abbrev pub is_stmt : Stmt-F Bool → Bool
 is_stmt (Stmt-F.Do block args) = list_all is_atom args
 is_stmt (Stmt-F.Let scalar first rest) = is_atom first && is_rest rest
@@ -76,6 +85,7 @@ is_stmt (Stmt-F.If cond first second) = is_cond cond && all_true first && all_tr
 is_stmt Stmt-F.Checkpoint = true
 is_stmt (Stmt-F.Output var) = true
 
+-- the names of all variables and then of all blocks of a job
 abbrev pub names_in : Job → List Word
 names_in job = map (λ v. v.name) job.vars ++ map (λ b. b.name) job.blocks
 
@@ -91,5 +101,6 @@ abbrev pub without_data : job_init → job_init
 without_data (init.Loaded values) = init.Loaded []
 without_data i = i
 
+-- the job as it is before any data are loaded
 abbrev pub unloaded : Job → Job
 unloaded job = record job { vars = map (λ (v : job_var). record v { init = without_data v.init }) job.vars }

@@ -20,9 +20,11 @@ is_short_name word = is_name word && nat_le (length word) 16
 abbrev pub is_small_numeral : Word → Bool
 is_small_numeral word = is_numeral word && nat_le (number_of word) 9223372036854775808
 
+-- one of the signs of the language
 abbrev pub is_sign : Word → Bool
 is_sign word = list_any (bytes_eq word) signs
 
+-- a name, a number or a sign, as tokens may be
 abbrev pub is_word : Word → Bool
 is_word word = is_short_name word || is_small_numeral word || is_sign word
 
@@ -34,11 +36,13 @@ line_text [] = 10 ∷ []
 line_text (word ∷ []) = word ++ 10 ∷ []
 line_text (word ∷ more ∷ words) = word ++ 32 ∷ line_text (more ∷ words)
 
+-- lines of words, each with a newline at its end
 abbrev pub lines_text : List (List Word) → List ℕ
 lines_text lines = flat_map line_text lines
 
 -- ---- tokens
 
+-- a name, a number with its value, or else a sign
 abbrev pub kind_of : Word → TokenKind
 kind_of word = if is_name word then Name else if is_numeral word then Number (number_of word) else Sign
 

@@ -27,11 +27,14 @@ is_not_before epoch key = not (nat_lt key.epoch epoch)
 abbrev pub Numbers : Type 0
 Numbers = ℕ × (ℕ × (ℕ × (ℕ × ℕ)))
 
+-- epoch, instance, entry, object and version, in this order
 abbrev pub numbers_of : Key → Numbers
 numbers_of key = (key.epoch, (key.instance, (key.entry, (key.object.0, key.version))))
 
+-- the key that has these numbers
 abbrev pub from_numbers : Numbers → Key
 from_numbers p = record { epoch = p.0; instance = p.1.0; entry = p.1.1.0; object = record { 0 = p.1.1.1.0 }; version = p.1.1.1.1 }
 
+-- a code that tells keys apart, made of those of their numbers
 abbrev pub coded_key : Coded Key
 coded_key = code_by Numbers (coded× coded_ℕ (coded× coded_ℕ (coded× coded_ℕ (coded× coded_ℕ coded_ℕ)))) numbers_of from_numbers (λ _. refl)

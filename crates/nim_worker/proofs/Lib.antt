@@ -13,5 +13,7 @@ pub mod Meeting
 pub mod OneTaken
 pub mod Opened
 pub mod Puts
+pub mod Ready
 pub mod Released
+pub mod Runs
 pub mod Walk

@@ -41,7 +41,7 @@ walk_begins state most core begins = record {
 }
 
 -- once the batch is full no more is taken
-taken_full : (state : WorkerState) (most : ℕ) (taken xs : List ℕ) → nat_lt (length taken) most ≡ false → taken_from state most taken xs ≡ taken
+pub taken_full : (state : WorkerState) (most : ℕ) (taken xs : List ℕ) → nat_lt (length taken) most ≡ false → taken_from state most taken xs ≡ taken
 taken_full state most taken [] full = refl
 taken_full state most taken (x ∷ xs) full =
     ap (λ (b : Bool). if b && is_taken state taken x then taken_from state most (taken ++ x ∷ []) xs else taken_from state most taken xs) full

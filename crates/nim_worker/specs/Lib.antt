@@ -9,6 +9,7 @@ pub mod Lending
 pub mod Lent
 pub mod Messages
 pub mod Right
+pub mod Runs
 pub mod Stands
 pub mod Taken
 pub mod Works

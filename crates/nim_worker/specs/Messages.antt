@@ -32,6 +32,7 @@ pub record IsReset (old : WorkerCore) (number : ℕ) (all : List Shape) (new : W
   pub busy : new.busy ≡ old.busy
   pub stale : new.stale ≡ old.busy
   pub failed : new.failed ≡ old.failed
+  pub worker : new.worker ≡ old.worker
 
 -- the half of a block as an instance edits it
 abbrev pub half_asked : Installed → ℕ → Asked → List Entry

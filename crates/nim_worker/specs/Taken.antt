@@ -44,6 +44,10 @@ may_complete state place =
     is_released state.session.groups (is_one_of state.ran) place
     && option_map_or (has_frame state) (asked_at state.session.groups place) false
 
+-- whether some command may be completed
+abbrev pub has_released : WorkerState → Bool
+has_released state = list_any (may_complete state) (range_with_len 0 (length (members_of state.session.groups)))
+
 -- whether it is taken behind the commands at these places
 abbrev pub is_taken : WorkerState → List ℕ → ℕ → Bool
 is_taken state taken place =

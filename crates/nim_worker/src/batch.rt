@@ -53,6 +53,13 @@ impl Batch {
         self.works.is_empty()
     }
 
+    /// The works, in the order in which their commands were given.
+    pub fn as_slice(&self) -> &[Work]
+        ensures { result.now ≡ self.now.works.items }
+    {
+        self.works.as_slice()
+    }
+
     /// The works, in the order in which their commands were given. The batch ends with the works as they are left.
     pub fn works(&mut self) -> &mut [Work]
         ensures* lends { sem 𝓛 (LendsWorks self.entry result) }

@@ -11,8 +11,9 @@ ghost use Rattle.nim_worker.specs.Admitted.{IsAdmitted};
 ghost use Rattle.nim_worker.specs.Beginning.{MayBeBegun};
 ghost use Rattle.nim_worker.specs.Inputs.{AreIdle};
 ghost use Rattle.nim_worker.specs.Right.{ReadsRight};
+ghost use Rattle.nim_worker.specs.Runs.{all_read_by, runs_read};
 ghost use Rattle.nim_worker.specs.Stands.{HasRoom, HasState, IsBeginning, Stands, tickets_of};
-ghost use Rattle.nim_worker.specs.Taken.{is_taken, taken_of};
+ghost use Rattle.nim_worker.specs.Taken.{has_released, is_taken, taken_of};
 
 use crate::admitted::Admitted;
 use crate::inputs::Inputs;
@@ -38,6 +39,9 @@ impl WorkerCore {
         ensures stale { self.new.stale ≡ self.old.stale }
         ensures reads { (job : job_type) (history : List Happening) → IsTrue (is_whole job) → IsHandedTruth job history → Stands self.old None history
             → All (ReadsRight job) result.works.items }
+        ensures runs { (history : List Happening) → Stands self.old None history
+            → all_read_by result.works.items ≡ runs_read (state_of history) (tickets_of result.works.items) }
+        ensures worker { self.new.worker ≡ self.old.worker }
         ensures failed { self.old.failed ≡ true → result.works.items ≡ [] }
         ensures stays { self.new.failed ≡ self.old.failed }
     {
@@ -49,6 +53,20 @@ impl WorkerCore {
             Some(room) => self.fill(most, room),
             None => self.empty_batch(),
         }
+    }
+
+    /// Whether a batch that is begun now would take a command.
+    pub fn is_ready(&self) -> bool
+        ensures { (history : List Happening) → Stands self.now None history → result ≡ has_released (state_of history) }
+    {
+        let mut after = None;
+        while let Some(ticket) = self.admitted.ready(after) {
+            if self.has_frame(ticket) {
+                return true;
+            }
+            after = Some(ticket);
+        }
+        false
     }
 
     fn empty_batch(&self) -> Batch

@@ -44,6 +44,7 @@ impl WorkerCore {
             → IfOk result (λ outs. Gave (state_of history) outs.items (state_of (history ++ completions_of self.old batch))) }
         ensures good { (job : job_type) (history : List Happening) → IsTrue (is_whole job) → IsHandedTruth job history → Stands self.old (Some batch) history
             → IfOk result (λ outs. All (IsGoodOut job) outs.items) }
+        ensures worker { self.new.worker ≡ self.old.worker }
         ensures failed { OnErr result (self.new.failed ≡ true) }
         ensures stays { self.old.failed ≡ true → IsErr result }
     {
@@ -61,6 +62,7 @@ impl WorkerCore {
             → OnOk result (Stands self.new None (history ++ completions_of self.old batch)) }
         ensures outs { (history : List Happening) → Stands self.old (Some batch) history
             → IfOk result (λ outs. Gave (state_of history) outs.items (state_of (history ++ completions_of self.old batch))) }
+        ensures worker { self.new.worker ≡ self.old.worker }
     {
         self.busy = false;
         if self.stale {
@@ -96,6 +98,7 @@ impl WorkerCore {
         ensures busy { self.new.busy ≡ self.old.busy }
         ensures stale { self.new.stale ≡ self.old.stale }
         ensures begun { self.new.begun ≡ self.old.begun }
+        ensures worker { self.new.worker ≡ self.old.worker }
     {
         let mut outs = Vec::new(self.alloc);
         works.as_mut_slice().reverse();
@@ -118,6 +121,7 @@ impl WorkerCore {
         ensures busy { self.new.busy ≡ self.old.busy }
         ensures stale { self.new.stale ≡ self.old.stale }
         ensures begun { self.new.begun ≡ self.old.begun }
+        ensures worker { self.new.worker ≡ self.old.worker }
     {
         match self.admitted.complete(work.ticket) {
             Some(ended) => self.leave(work, ended, outs),

@@ -1,5 +1,6 @@
-ghost use Rattle.std.specs.Prelude.{◌≡◌, ◌++◌, ◌∷◌, [], ℕ, true, false, List, Option, IsErr, IsOk, OnErr, OnOk, nat_lt};
+ghost use Rattle.std.specs.Prelude.{◌≡◌, ◌++◌, ◌∷◌, ◌&&◌, [], ℕ, true, false, if◌then◌else◌, List, Option, IsErr, IsOk, OnErr, OnOk, is_ok, nat_lt};
 ghost use Rattle.nim_history.specs.History.{Framed, Happening, Ordered, WorkerState, framed, ordered};
+ghost use Rattle.nim_history.specs.InTurn.{is_reset};
 ghost use Rattle.nim_worker.specs.declared.batch.Batch.{Batch as batch_type};
 ghost use Rattle.nim_worker.specs.Messages.{IsInstantiated, IsKept, IsReset};
 ghost use Rattle.nim_worker.specs.Stands as spec;
@@ -22,6 +23,9 @@ impl WorkerCore {
             → OnOk result (Stands self.new out (history ++ Ordered order ∷ [])) }
         ensures err { (history : List Happening) (out : Option batch_type) → Stands self.old out history → OnErr result (Stands self.new out history) }
         ensures dropped { spec.is_passed self.old order ≡ true → self.old.failed ≡ false → IsOk result }
+        ensures stale { self.new.stale ≡ (if is_ok result && is_reset order then self.old.busy else self.old.stale) }
+        ensures busy { self.new.busy ≡ self.old.busy }
+        ensures worker { self.new.worker ≡ self.old.worker }
         ensures failed { self.old.failed ≡ true → IsErr result }
         ensures stays { self.new.failed ≡ self.old.failed }
     {
@@ -41,6 +45,9 @@ impl WorkerCore {
             → OnOk result (Stands self.new out (history ++ Framed frame ∷ [])) }
         ensures err { (history : List Happening) (out : Option batch_type) → Stands self.old out history → OnErr result (Stands self.new out history) }
         ensures dropped { nat_lt frame.epoch self.old.epoch ≡ true → self.old.failed ≡ false → IsOk result }
+        ensures stale { self.new.stale ≡ self.old.stale }
+        ensures busy { self.new.busy ≡ self.old.busy }
+        ensures worker { self.new.worker ≡ self.old.worker }
         ensures failed { self.old.failed ≡ true → IsErr result }
         ensures stays { self.new.failed ≡ self.old.failed }
     {
@@ -79,6 +86,9 @@ impl WorkerCore {
         requires { spec.is_passed self.old order ≡ false }
         ensures at { (state : WorkerState) (out : Option batch_type) → StandsAt self.old out state → OnOk result (StandsAt self.new out (ordered state order)) }
         ensures err { (state : WorkerState) (out : Option batch_type) → StandsAt self.old out state → OnErr result (StandsAt self.new out state) }
+        ensures stale { self.new.stale ≡ (if is_ok result && is_reset order then self.old.busy else self.old.stale) }
+        ensures busy { self.new.busy ≡ self.old.busy }
+        ensures worker { self.new.worker ≡ self.old.worker }
         ensures stays { self.new.failed ≡ self.old.failed }
     {
         match order {

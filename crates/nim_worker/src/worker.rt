@@ -64,4 +64,11 @@ impl WorkerCore {
     {
         self.busy
     }
+
+    /// Whether the batch that is out was begun before the last Reset, so that it completes nothing.
+    pub fn stale(&self) -> bool
+        ensures { result ≡ self.now.stale }
+    {
+        self.stale
+    }
 }

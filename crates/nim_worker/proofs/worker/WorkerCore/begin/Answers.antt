@@ -5,6 +5,7 @@ use Rattle.nim_worker.specs.declared.worker.WorkerCore.{WorkerCore}
 use Rattle.nim_worker.specs.Stands.{IsBeginning, Stands, tickets_of}
 use Rattle.nim_worker.proofs.Begun.{begins_none, none_begun, reads_begun, stands_begun}
 use Rattle.nim_worker.proofs.Released.{none_may}
+use Rattle.nim_worker.proofs.Runs.{works_run}
 use Rattle.nim_worker.proofs.worker.WorkerCore.begin.Goals as goal
 
 -- no work is out of a core whose room was taken
@@ -43,6 +44,11 @@ returns-in-Some-clause-reads c = λ job history whole handed stands.
     let begins = room_taken c.args.self.now c.take.new.self history stands in
     reads_begun job c.fill.new.self c.fill.result.works.items history c.args.most whole handed stands.history (c.fill.ensures.begins (state_of history) begins)
     (c.fill.ensures.taken (state_of history) begins)
+
+pub returns-in-Some-clause-runs : goal.returns-in-Some-clause-runs
+returns-in-Some-clause-runs c = λ history stands.
+    works_run c.fill.new.self c.fill.result.works.items (state_of history)
+    (c.fill.ensures.begins (state_of history) (room_taken c.args.self.now c.take.new.self history stands))
 
 pub returns-in-None-clause-taken : goal.returns-in-None-clause-taken
 returns-in-None-clause-taken c = λ history stands.

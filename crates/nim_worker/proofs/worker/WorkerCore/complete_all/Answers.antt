@@ -26,4 +26,5 @@ loop-work-preserved c =
       busy = one.busy ∙ inv.busy;
       stale = one.stale ∙ inv.stale;
       begun = one.begun ∙ inv.begun;
+      worker = one.worker ∙ inv.worker;
     }

@@ -17,6 +17,7 @@ invariant-loop-work l = record {
   busy : l.self.busy ≡ l.fn.self.busy;
   stale : l.self.stale ≡ l.fn.self.stale;
   begun : l.self.begun ≡ l.fn.self.begun;
+  worker : l.self.worker ≡ l.fn.self.worker;
 }
 
 abbrev pub decreases-loop-work : goal.decreases-loop-work
