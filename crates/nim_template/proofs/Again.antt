@@ -1,5 +1,6 @@
 -- What a block needs at entry holds again behind its effect.
-use Rattle.std.proofs.Common.{◌≡◌, ℕ, zero, suc, ◌+◌, ◌<◌, ◌≤◌, Bool, true, false, List, [], ◌∷◌, length, refl, ap, ap₂, sym, ◌∙◌, arith, Option, None, Some}
+use Rattle.std.proofs.Common.{◌≡◌, ℕ, zero, suc, ◌+◌, ◌<◌, ◌≤◌, Bool, true, false, List, [], ◌∷◌, length, refl, ap, ap₂, sym, ◌∙◌, arith, Option}
+use Rattle.std.proofs.Common.{None, Some}
 use Rattle.std.proofs.Common.{inl}
 use Rattle.std.specs.Prelude.{◌*◌, ◌==◌, ◌&&◌, if◌then◌else◌, nat_lt, replicate, slice_get, slice_index_or}
 use Rattle.std.specs.List.{fold, list_any}
@@ -29,10 +30,10 @@ use Rattle.nim_template.proofs.Walks.{IsWalked, IsWalkedTo, walk_kept}
 
 -- ---- one main slot
 
-some_same : (x y : ℕ) → Some x ≡ Some y → x ≡ y
+pub some_same : (x y : ℕ) → Some x ≡ Some y → x ≡ y
 some_same x y is = ap (λ (o : Option ℕ). option_map_or (λ (z : ℕ). z) o x) is
 
-counted_more : (base lower higher : ℕ) → lower ≤ higher → counted base lower ≤ counted base higher
+pub counted_more : (base lower higher : ℕ) → lower ≤ higher → counted base lower ≤ counted base higher
 counted_more base lower higher below = omega arith
 
 current_again : (most workers objects base : ℕ) (offsets versions : Versions) (need : Worker × Object) → IsKept most offsets → offsets.workers ≡ workers
@@ -110,7 +111,7 @@ length_replicate : {X : Type 0} (n : ℕ) (x : X) → length (replicate n x) ≡
 length_replicate zero x = refl
 length_replicate (suc n) x = omega (arith, length_replicate n x)
 
-unheld : (b : Bool) (o : Option ℕ) → o ≡ None → (if b then o else None) ≡ None
+pub unheld : (b : Bool) (o : Option ℕ) → o ≡ None → (if b then o else None) ≡ None
 unheld true o is = is
 unheld false o is = refl
 

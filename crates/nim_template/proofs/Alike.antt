@@ -1,5 +1,6 @@
 -- A map of versions that is like a map of offsets: at a base, from a map at entry on.
-use Rattle.std.proofs.Common.{◌≡◌, ℕ, zero, suc, ◌+◌, ◌<◌, ◌≤◌, Bool, true, false, List, [], ◌∷◌, refl, ap, ap₂, sym, subst, ◌∙◌, arith, Option, None, Some}
+use Rattle.std.proofs.Common.{◌≡◌, ℕ, zero, suc, ◌+◌, ◌<◌, ◌≤◌, Bool, true, false, List, [], ◌∷◌, refl, ap, ap₂, sym, subst, ◌∙◌, arith, Option}
+use Rattle.std.proofs.Common.{None, Some}
 use Rattle.std.specs.Prelude.{◌^◌, ◌==◌, ◌&&◌, if◌then◌else◌, max}
 use Rattle.std.specs.List.{fold}
 use Rattle.std.specs.Option.{is_some, option_map_or}
@@ -40,7 +41,7 @@ pub record IsEntry (base objects : ℕ) (entry : Versions) : Type 0 where
 pub at_more : (base old offset : ℕ) → (offset == 0) ≡ false → base + offset < 2 ^ 64 → version_at base old offset ≡ base + offset
 at_more base old offset more room = ap (λ (b : Bool). if b then old else counted_from base offset) more ∙ (omega (arith, room))
 
-at_most : (base old offset : ℕ) → old ≤ base → version_at base old offset ≤ base + offset
+pub at_most : (base old offset : ℕ) → old ≤ base → version_at base old offset ≤ base + offset
 at_most base old offset before = either (offset == 0) where
   either : (b : Bool) → (if b then old else counted_from base offset) ≤ base + offset
   either true = omega (arith, before)

@@ -1,5 +1,6 @@
 -- Single scheduling chooses the same in a map of versions as in a map of offsets that it is like.
-use Rattle.std.proofs.Common.{◌≡◌, ℕ, ◌+◌, ◌<◌, ◌≤◌, Bool, true, false, List, [], ◌∷◌, ◌++◌, length, map, refl, ap, ap₂, sym, subst, ◌∙◌, arith, Option}
+use Rattle.std.proofs.Common.{◌≡◌, ℕ, ◌+◌, ◌<◌, ◌≤◌, Bool, true, false, List, [], ◌∷◌, ◌++◌, length, map, refl, ap, ap₂, sym, subst, ◌∙◌, arith}
+use Rattle.std.proofs.Common.{Option}
 use Rattle.std.proofs.Common.{None, Some}
 use Rattle.std.specs.Prelude.{◌^◌, ◌==◌, ◌||◌, if◌then◌else◌, ℤ}
 use Rattle.std.specs.List.{flat_map}

@@ -1,5 +1,6 @@
 -- Behind the closing copies each main slot that is needed has the latest offset.
-use Rattle.std.proofs.Common.{◌≡◌, ℕ, zero, suc, ◌+◌, ◌<◌, ◌≤◌, Bool, true, false, List, [], ◌∷◌, refl, ap, ap₂, sym, ◌∙◌, arith, Option, None, Some, inl, inr}
+use Rattle.std.proofs.Common.{◌≡◌, ℕ, zero, suc, ◌+◌, ◌<◌, ◌≤◌, Bool, true, false, List, [], ◌∷◌, refl, ap, ap₂, sym, ◌∙◌, arith, Option, None}
+use Rattle.std.proofs.Common.{Some, inl, inr}
 use Rattle.std.specs.Prelude.{◌==◌, ◌&&◌, ◌||◌, if◌then◌else◌}
 use Rattle.std.specs.Option.{is_some, option_map_or}
 use Rattle.std.proofs.lemmas.Bool.{eq-eqb, false≢true}
@@ -72,7 +73,7 @@ closed_then most a b c first second = record {
       (first.stays worker object below there is);
 }
 
-kept_latest : (b c : Bool) (old new : Option ℕ) (offset latest : ℕ) → new ≡ (if b && c then Some offset else old) → old ≡ Some latest
+pub kept_latest : (b c : Bool) (old new : Option ℕ) (offset latest : ℕ) → new ≡ (if b && c then Some offset else old) → old ≡ Some latest
     → (b ≡ true → offset ≡ latest) → new ≡ Some latest
 kept_latest true true old new offset latest is before equal = is ∙ ap Some (equal refl)
 kept_latest true false old new offset latest is before equal = is ∙ before

@@ -1,5 +1,6 @@
 -- What an effect leaves, slot by slot: what is current in the offsets is current in the versions.
-use Rattle.std.proofs.Common.{◌≡◌, ℕ, zero, suc, ◌+◌, ◌<◌, ◌≤◌, Bool, true, false, List, [], ◌∷◌, map, refl, ap, ap₂, sym, subst, ◌∙◌, arith, Option, None}
+use Rattle.std.proofs.Common.{◌≡◌, ℕ, zero, suc, ◌+◌, ◌<◌, ◌≤◌, Bool, true, false, List, [], ◌∷◌, map, refl, ap, ap₂, sym, subst, ◌∙◌, arith}
+use Rattle.std.proofs.Common.{Option, None}
 use Rattle.std.proofs.Common.{Some}
 use Rattle.std.specs.Prelude.{◌==◌, ◌&&◌, ◌||◌, if◌then◌else◌, max, slice_index_or}
 use Rattle.std.specs.List.{flat_map, fold, list_any, range_with_len}
@@ -73,14 +74,14 @@ some_kept offsets worker slot offset is = either (is_kept offsets worker slot) r
   either true kept found = kept
   either false kept found = absurd (false≢true (ap (λ (o : Option ℕ). is_some o) found))
 
-still_more : (offset : ℕ) → (offset == 0) ≡ false → (offset_for offset == 0) ≡ false
+pub still_more : (offset : ℕ) → (offset == 0) ≡ false → (offset_for offset == 0) ≡ false
 still_more offset more = either (offset_for offset == 0) refl where
   either : (b : Bool) → (offset_for offset == 0) ≡ b → b ≡ false
   either true is = let none = eqb-true (offset_for offset) 0 is in absurd (eqb-false offset 0 more (omega (arith, none)))
   either false is = refl
 
 -- what a slot gets that has nothing or offset 0, or another one
-written_at : (P : Versions → Type 0) (base : ℕ) (versions : Versions) (slot : Worker × Object) (o : Option ℕ) → P versions
+pub written_at : (P : Versions → Type 0) (base : ℕ) (versions : Versions) (slot : Worker × Object) (o : Option ℕ) → P versions
     → ((offset : ℕ) → o ≡ Some offset → (offset == 0) ≡ false → P (with_version slot.0 (counted base offset) versions (main_slot slot.1)))
     → P (fold (with_written base) versions (effect_at slot o))
 written_at P base versions slot None none put = none
@@ -143,11 +144,11 @@ latest_under true version top old new is before under = let most = under refl in
 latest_under false version top old new is before under = omega arith
 
 -- one put of the effect
-record IsWritten (offsets : Versions) (base : ℕ) (slot : Worker × Object) (offset : ℕ) (before after : Versions) : Type 0 where
+pub record IsWritten (offsets : Versions) (base : ℕ) (slot : Worker × Object) (offset : ℕ) (before after : Versions) : Type 0 where
   pub put : IsPut before slot.0 (counted base offset) (main_slot slot.1 ∷ []) after
   pub of : IsOf offsets after
 
-written : (offsets : Versions) (base : ℕ) (slot : Worker × Object) (offset : ℕ) (before : Versions) → IsOf offsets before
+pub written : (offsets : Versions) (base : ℕ) (slot : Worker × Object) (offset : ℕ) (before : Versions) → IsOf offsets before
     → held_at offsets slot.0 (main_slot slot.1) ≡ Some offset
     → IsWritten offsets base slot offset before (with_version slot.0 (counted base offset) before (main_slot slot.1))
 written offsets base slot offset before are is =
@@ -165,12 +166,12 @@ written offsets base slot offset before are is =
     }
 
 -- the same slot of another name
-same_slot : (offsets : Versions) (slot need : Worker × Object) (offset : ℕ) → slot.0.0 ≡ need.0.0 → slot.1.0 ≡ need.1.0
+pub same_slot : (offsets : Versions) (slot need : Worker × Object) (offset : ℕ) → slot.0.0 ≡ need.0.0 → slot.1.0 ≡ need.1.0
     → held_at offsets slot.0 (main_slot slot.1) ≡ Some offset → held_at offsets need.0 (main_slot need.1) ≡ Some offset
 same_slot offsets slot need offset worker object is =
     sym (ap₂ (λ (w o : ℕ). held_at offsets (record { 0 = w }) (record { 0 = o })) worker object) ∙ is
 
-object_slot : (offsets : Versions) (worker : Worker) (first second : Object) (offset : ℕ) → first.0 ≡ second.0
+pub object_slot : (offsets : Versions) (worker : Worker) (first second : Object) (offset : ℕ) → first.0 ≡ second.0
     → held_at offsets worker (main_slot first) ≡ Some offset → held_at offsets worker (main_slot second) ≡ Some offset
 object_slot offsets worker first second offset same is = sym (ap (λ (o : ℕ). held_at offsets worker (record { 0 = o })) same) ∙ is
 
@@ -231,7 +232,7 @@ first_put offsets base need slot top offset before after target are wrote is mor
           ∙ (omega (arith, top_is, under));
     }
 
-put_at : (P : Versions → Type 0) (base : ℕ) (versions : Versions) (slot : Worker × Object) (o : Option ℕ) (offset : ℕ) → o ≡ Some offset
+pub put_at : (P : Versions → Type 0) (base : ℕ) (versions : Versions) (slot : Worker × Object) (o : Option ℕ) (offset : ℕ) → o ≡ Some offset
     → (offset == 0) ≡ false → P (with_version slot.0 (counted base offset) versions (main_slot slot.1))
     → P (fold (with_written base) versions (effect_at slot o))
 put_at P base versions slot o offset is more put =

@@ -1,5 +1,6 @@
 -- The first object that a form writes.
-use Rattle.std.proofs.Common.{◌≡◌, ℕ, zero, suc, ◌<◌, ◌≤◌, Bool, true, false, List, [], ◌∷◌, length, get_or, slice_get, ap, arith, refl, subst, sym, ◌∙◌}
+use Rattle.std.proofs.Common.{◌≡◌, ℕ, zero, suc, ◌<◌, ◌≤◌, Bool, true, false, List, [], ◌∷◌, length, get_or, slice_get, ap, arith, refl, subst, sym}
+use Rattle.std.proofs.Common.{◌∙◌}
 use Rattle.std.specs.Prelude.{IsSomeAnd, nat_le, nat_lt, ◌==◌, ◌&&◌, ◌||◌}
 use Rattle.std.specs.List.{list_all}
 use Rattle.std.proofs.lemmas.Bool.{eqb-true, false≢true, leb-true, ltb-true}
@@ -17,7 +18,7 @@ first_below : (objects : ℕ) (all : List Object) → nat_le 1 (length all) ≡ 
 first_below objects [] some below = absurd (false≢true some)
 first_below objects (first ∷ rest) some below = ltb-true first.0 objects (both_true (nat_lt first.0 objects) (are_below objects rest) below).0
 
-first_written : (objects : ℕ) (form : TaskForm) → is_fit objects form ≡ true → IsFirstBelow objects form.writes
+pub first_written : (objects : ℕ) (form : TaskForm) → is_fit objects form ≡ true → IsFirstBelow objects form.writes
 first_written objects form fit =
     let some : Bool = nat_le 1 (length form.writes) in
     let few : Bool = nat_le (length form.writes) 2 in

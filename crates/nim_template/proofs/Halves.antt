@@ -1,5 +1,6 @@
 -- What an instance of a template asks each worker for.
-use Rattle.std.proofs.Common.{◌≡◌, ℕ, ◌+◌, ◌<◌, ◌≤◌, Bool, true, false, List, [], ◌∷◌, ◌++◌, length, map, refl, ap, ap₂, sym, ◌∙◌, arith, Option, None, Some}
+use Rattle.std.proofs.Common.{◌≡◌, ℕ, ◌+◌, ◌<◌, ◌≤◌, Bool, true, false, List, [], ◌∷◌, ◌++◌, length, map, refl, ap, ap₂, sym, ◌∙◌, arith, Option}
+use Rattle.std.proofs.Common.{None, Some}
 use Rattle.std.specs.Prelude.{◌*◌, ◌^◌, ◌==◌, ◌||◌, if◌then◌else◌, nat_lt, slice_index_or, ℤ}
 use Rattle.std.specs.List.{filter, fold, list_all, list_any}
 use Rattle.std.specs.Option.{is_some}
@@ -19,32 +20,33 @@ use Rattle.nim_command.specs.Numbers.{main_slot}
 use Rattle.nim_command.specs.Ruled.{entries_by_rule, entry_footprint}
 use Rattle.nim_place.specs.declared.placement.Placement.{Placement}
 use Rattle.nim_place.specs.Stands.{commands_for}
-use Rattle.nim_place.specs.Versions.{Versions, held_at, is_current, latest_of, no_versions}
+use Rattle.nim_place.specs.Versions.{Versions, after_commands, held_at, is_current, latest_of, no_versions}
 use Rattle.nim_place.proofs.Places.{both_true}
 use Rattle.nim_template.specs.declared.closing.Closing.{Closing}
 use Rattle.nim_template.specs.declared.template.ControllerTemplate.{ControllerTemplate}
 use Rattle.nim_template.specs.declared.walk.Walk.{Walk}
-use Rattle.nim_template.specs.Again.{IsBefore}
+use Rattle.nim_template.specs.Again.{IsBefore, are_current}
 use Rattle.nim_template.specs.Built.{all_slots, built, end_of, entries_for, half_for, needs_of}
 use Rattle.nim_template.specs.Closing.{closing_entries, closings}
 use Rattle.nim_template.specs.Fits.{is_fit}
 use Rattle.nim_template.specs.Tasks.{DoTasks, of_tasks, scheduled_from, without_before}
-use Rattle.nim_template.specs.Walk.{walked_past, home_of, empty_walk, walked, with_need, with_offset}
+use Rattle.nim_template.specs.Walk.{walked_past, home_of, empty_walk, walked, with_need}
 use Rattle.nim_template.proofs.Again.{home_within, nothing_held, replicate_or, start_walked}
 use Rattle.nim_template.proofs.Alike.{IsAlike}
 use Rattle.nim_template.proofs.Chosen.{command_at, plain}
 use Rattle.nim_template.proofs.Closes.{current_of}
 use Rattle.nim_template.proofs.Effects.{is_slot, slot_there}
-use Rattle.nim_template.proofs.Instances.{tasks_same}
+use Rattle.nim_template.proofs.Instances.{AreTasks, tasks_same}
 use Rattle.nim_template.proofs.Numbers.{Between, closing_between, closings_apart, closings_few, filter_few, for_append, slots_long, walk_between}
 use Rattle.nim_template.proofs.Offsets.{IsKept, kept_put}
-use Rattle.nim_template.proofs.Sizes.{AreLike, form_like, like_need}
+use Rattle.nim_template.proofs.Sizes.{AreLike, form_like, like_need, need_if}
 use Rattle.nim_template.proofs.Walks.{IsWalked, IsWalkedTo, form_walked, has_any, need_walked, walk_kept}
+use Rattle.nim_template.proofs.Zeros.{IsZero}
 
 -- ---- lists of commands
 
 -- the command of an entry at a base, its before set aside
-abbrev bare : ℕ → List ℤ → Entry → Command
+abbrev pub bare : ℕ → List ℤ → Entry → Command
 bare base args entry = without_before (command_for base args 0 entry)
 
 expanded_bare : (base : ℕ) (args : List ℤ) (taken : ℕ) (past : List Footprint) (entries : List Entry)
@@ -53,7 +55,7 @@ expanded_bare base args taken past [] = refl
 expanded_bare base args taken past (entry ∷ entries) =
     ap (λ (cs : List Command). bare base args entry ∷ cs) (expanded_bare base args (taken_after taken entry.kind) (past ++ entry_footprint entry ∷ []) entries)
 
-for_commands : (base : ℕ) (args : List ℤ) (worker : Worker) (entries : List (Worker × Entry))
+pub for_commands : (base : ℕ) (args : List ℤ) (worker : Worker) (entries : List (Worker × Entry))
     → map (bare base args) (entries_for worker entries) ≡ commands_for worker (map (command_at base args) entries)
 for_commands base args worker [] = refl
 for_commands base args worker (e ∷ entries) = either (e.0.0 == worker.0) (for_commands base args worker entries) where
@@ -67,7 +69,7 @@ for_commands base args worker (e ∷ entries) = either (e.0.0 == worker.0) (for_
   either true rest = ap (λ (cs : List Command). bare base args e.1 ∷ cs) rest
   either false rest = rest
 
-for_plain : (worker : Worker) (commands : List (Worker × Command)) → commands_for worker (map plain commands) ≡ map without_before
+pub for_plain : (worker : Worker) (commands : List (Worker × Command)) → commands_for worker (map plain commands) ≡ map without_before
     (commands_for worker commands)
 for_plain worker [] = refl
 for_plain worker (c ∷ commands) = either (c.0.0 == worker.0) (for_plain worker commands) where
@@ -113,14 +115,7 @@ need_zero : (most : ℕ) (owner : Worker) (walk : Walk) (object : Object) → Is
 need_zero most owner walk object is below kept = either (latest_of walk.offsets object == 0) where
   either : (b : Bool)
       → IsKept 0
-      (if b
-      then (let next : Walk = record {
-        offsets = with_offset owner object 0 walk.offsets;
-        needed = with_offset owner object 0 walk.needed;
-        entries =
-            walk.entries;
-      } in next)
-      else walk).needed
+      (need_if b owner walk object).needed
   either true =
       kept_put 0 0 walk.needed owner 0 (main_slot object ∷ []) kept (omega (arith, is.workers, below)) (omega arith) (omega arith)
       (λ other inside among. kept.latest other inside)
@@ -177,7 +172,7 @@ from_all p q need (slot ∷ slots) all some passes =
 
 -- ---- the template
 
-start_alike : (base workers objects : ℕ) (versions : Versions) → IsBefore workers objects base versions
+pub start_alike : (base workers objects : ℕ) (versions : Versions) → IsBefore workers objects base versions
     → IsAlike base versions (no_versions workers objects) versions
 start_alike base workers objects versions before = record {
   whole = record { slots = before.slots; all = before.all };
@@ -188,6 +183,62 @@ start_alike base workers objects versions before = record {
       absurd (false≢true (ap (λ (o : Option ℕ). is_some o) (sym (nothing_held workers objects worker object) ∙ is)));
   old = λ worker object below there is. refl;
 }
+
+start_zero : (workers objects : ℕ) (versions : Versions) → IsZero versions (no_versions workers objects)
+start_zero workers objects versions = record {
+  current = λ worker object below there is.
+      absurd (false≢true (ap (λ (o : Option ℕ). is_some o) (sym (nothing_held workers objects worker object) ∙ is)));
+}
+
+-- where the preconditions hold, what the walk needs at entry is current
+pub needed_current : (place : Placement) (objects : ℕ) (live : List Bool) (forms : List TaskForm) (versions : Versions)
+    → list_any (λ (flag : Bool). flag) live ≡ true → length forms ≤ 1024
+    → are_current versions (needs_of (end_of place objects live forms).needed (all_slots (length live) objects)) ≡ true
+    → (worker : Worker) (object : Object) → worker.0 < length live → object.0 < objects
+    → has_any (end_of place objects live forms).needed worker object ≡ true → is_current versions object worker ≡ true
+needed_current place objects live forms versions some few now worker object below inside has =
+    let workers : ℕ = length live in
+    let walk : Walk = end_of place objects live forms in
+    let slots : List (Worker × Object) = all_slots workers objects in
+    let begins : IsWalked 0 (empty_walk workers objects) = start_walked workers objects in
+    let homes : (n : ℕ) (f : TaskForm) → (home_of place n live f).0 < workers = home_within place live some in
+    let to : IsWalkedTo (0 + length forms) (empty_walk workers objects) walk = walk_kept place live 0 (empty_walk workers objects) forms begins homes (omega
+    (arith, few)) in
+    let zeros : IsKept 0 walk.needed = walk_zero place live 0 (empty_walk workers objects) forms begins homes (omega (arith, few)) begins.kept in
+    from_all (λ (slot : Worker × Object). is_current walk.needed slot.1 slot.0) (λ (slot : Worker × Object). is_current versions slot.1 slot.0)
+    (worker, object) slots now
+    (slot_there workers objects (worker, object) below inside)
+    (zero_current walk.needed worker object zeros (omega (arith, to.walked.workers, to.like.workers, below)) (omega
+    (arith, to.walked.objects, to.like.objects, inside))
+    (held_at walk.needed worker (main_slot object)) refl has)
+
+-- what the walk over a block's tasks comes to, for a map in which what it needs is current
+pub record IsDoneFrom (place : Placement) (objects : ℕ) (live : List Bool) (forms : List TaskForm) (base : ℕ) (args : List ℤ)
+    (versions : Versions) : Type 0 where
+  pub to : IsWalkedTo (0 + length forms) (empty_walk (length live) objects) (end_of place objects live forms)
+  pub tasks : AreTasks base args versions (empty_walk (length live) objects) (end_of place objects live forms)
+      (scheduled_from place live base args 0 versions forms) (after_commands versions (scheduled_from place live base args 0 versions forms))
+
+pub done_from : (place : Placement) (objects : ℕ) (live : List Bool) (forms : List TaskForm) (base : ℕ) (args : List ℤ) (versions : Versions)
+    → list_any (λ (flag : Bool). flag) live ≡ true → length forms ≤ 1024 → list_all (is_fit objects) forms ≡ true
+    → IsBefore (length live) objects base versions → base + 1024 < 2 ^ 64
+    → are_current versions (needs_of (end_of place objects live forms).needed (all_slots (length live) objects)) ≡ true
+    → IsDoneFrom place objects live forms base args versions
+done_from place objects live forms base args versions some few fit before room now =
+    let workers : ℕ = length live in
+    let walk : Walk = end_of place objects live forms in
+    let begins : IsWalked 0 (empty_walk workers objects) = start_walked workers objects in
+    let homes : (n : ℕ) (f : TaskForm) → (home_of place n live f).0 < workers = home_within place live some in
+    let to : IsWalkedTo (0 + length forms) (empty_walk workers objects) walk = walk_kept place live 0 (empty_walk workers objects) forms begins homes (omega
+    (arith, few)) in
+    record {
+      to = to;
+      tasks =
+          tasks_same place live base args versions 0 (empty_walk workers objects) versions forms (start_alike base workers objects versions before)
+          (start_zero workers objects versions) begins homes (record { latest = before.latest; held = before.held }) fit
+          (needed_current place objects live forms versions some few now)
+          (omega (arith, few)) room;
+    }
 
 -- an instance asks for the tasks
 pub built_tasks : (place : Placement) (objects : ℕ) (live : List Bool) (template : ControllerTemplate) → list_any (λ (flag : Bool). flag) live ≡ true
@@ -205,24 +256,9 @@ built_tasks place objects live template some workers_few objects_few few fit bas
     let most : workers * objects ≤ workers * 512 = mul-le-mul_left workers objects_few in
     let filtered : length needs ≤ length slots = filter_few (λ (slot : Worker × Object). is_current walk.needed slot.1 slot.0) slots in
     let closed_few : length copies ≤ length needs = closings_few walk.offsets needs in
-    let begins : IsWalked 0 (empty_walk workers objects) = start_walked workers objects in
-    let homes : (n : ℕ) (f : TaskForm) → (home_of place n live f).0 < workers = home_within place live some in
-    let to : IsWalkedTo (0 + length forms) (empty_walk workers objects) walk = walk_kept place live 0 (empty_walk workers objects) forms begins homes (omega
-    (arith, few)) in
-    let zeros : IsKept 0 walk.needed = walk_zero place live 0 (empty_walk workers objects) forms begins homes (omega (arith, few)) begins.kept in
-    let current : (w : Worker) (object : Object) → w.0 < workers → object.0 < objects → has_any walk.needed w object ≡ true
-    → is_current versions object w ≡ true =
-    λ w object w_below inside has.
-    from_all (λ (slot : Worker × Object). is_current walk.needed slot.1 slot.0) (λ (slot : Worker × Object). is_current versions slot.1 slot.0)
-    (w, object) slots now
-    (slot_there workers objects (w, object) w_below inside)
-    (zero_current walk.needed w object zeros (omega (arith, to.walked.workers, to.like.workers, w_below)) (omega
-    (arith, to.walked.objects, to.like.objects, inside))
-    (held_at walk.needed w (main_slot object)) refl has) in
     let real : List (Worker × Command) = scheduled_from place live base args 0 versions forms in
     let same : map (command_at base args) walk.entries ≡ map plain real =
-    tasks_same place live base args versions 0 (empty_walk workers objects) versions forms (start_alike base workers objects versions before) begins homes
-    (record { latest = before.latest; held = before.held }) fit current (omega (arith, few)) room in
+    (done_from place objects live forms base args versions some few fit before room now).tasks.same in
     let tasks : Between 0 (64 * (0 + length forms)) (entries_for worker walk.entries) =
     walk_between place live objects worker 0 (empty_walk workers objects) forms (omega (arith, few)) fit (omega arith) in
     let closes : Between (65536 + 0) (65536 + 0 + length copies) (entries_for worker (closing_entries 0 copies)) =

@@ -1,7 +1,8 @@
 -- The tasks of a block, one after another: their entries at a base are what single scheduling gives them.
-use Rattle.std.proofs.Common.{◌≡◌, ℕ, ◌+◌, ◌<◌, ◌≤◌, Bool, true, false, List, [], ◌∷◌, ◌++◌, length, map, refl, ap, ap₂, sym, subst, ◌∙◌, arith, Option}
+use Rattle.std.proofs.Common.{◌≡◌, ℕ, ◌+◌, ◌<◌, ◌≤◌, Bool, true, false, List, [], ◌∷◌, ◌++◌, length, map, refl, ap, ap₂, sym, subst, ◌∙◌, arith}
+use Rattle.std.proofs.Common.{Option}
 use Rattle.std.proofs.Common.{None, Some}
-use Rattle.std.specs.Prelude.{◌^◌, ◌==◌, ◌&&◌, ◌||◌, if◌then◌else◌, max, ℤ}
+use Rattle.std.specs.Prelude.{◌^◌, ◌==◌, ◌&&◌, ◌||◌, if◌then◌else◌, ℤ}
 use Rattle.std.specs.List.{flat_map, fold, list_all}
 use Rattle.std.specs.Option.{is_some}
 use Rattle.std.proofs.lemmas.Bool.{eq-eqb, eqb-true, false≢true, ne_eqb}
@@ -15,7 +16,6 @@ use Rattle.nim_command.specs.declared.command.Command.{Command}
 use Rattle.nim_command.specs.declared.entry.Entry.{Entry}
 use Rattle.nim_command.specs.Holds.{version_after}
 use Rattle.nim_command.specs.Numbers.{counted_from, main_slot}
-use Rattle.nim_command.specs.Slots.{is_among}
 use Rattle.nim_place.specs.declared.placement.Placement.{Placement}
 use Rattle.nim_place.specs.Schedule.{copies_of, is_one_of, moves, run_of, scheduled}
 use Rattle.nim_place.specs.Versions.{Versions, after_commands, after_kind, held_at, is_current, latest_of, with_version}
@@ -31,7 +31,8 @@ use Rattle.nim_template.proofs.Chosen.{AreReady, command_at, copies_alike, moves
 use Rattle.nim_template.proofs.Fits.{read_below}
 use Rattle.nim_template.proofs.Numbers.{need_entries}
 use Rattle.nim_template.proofs.Offsets.{IsKept}
-use Rattle.nim_template.proofs.Sizes.{AreLike, form_like, like_need, like_needs}
+use Rattle.nim_template.proofs.Sizes.{AreLike, form_like, like_need, like_needs, need_if}
+use Rattle.nim_template.proofs.Zeros.{IsZero, need_latest, zero_needs, zero_task}
 use Rattle.nim_template.proofs.Walks.{AreCopies, IsWalked, any_after, copies_kept, form_walked, has_any, latest_within, need_walked, needs_walked}
 
 -- ---- what single scheduling gives, by what it chooses in the offsets
@@ -55,7 +56,7 @@ scheduled_shown base most entry offsets versions place live args task position f
     ∙ ap (λ (x : List _). copies_of versions task owner x ++ (owner, run_of (task_with args form) task position x) ∷ []) chosen
 
 -- what a task leaves
-task_alike : (base : ℕ) (entry offsets versions : Versions) (place : Placement) (live : List Bool) (args : List ℤ) (task : ℕ) (form : TaskForm)
+pub task_alike : (base : ℕ) (entry offsets versions : Versions) (place : Placement) (live : List Bool) (args : List ℤ) (task : ℕ) (form : TaskForm)
     → IsAlike base entry offsets versions → IsKept task offsets → IsEntry base offsets.objects entry
     → AreReady offsets (home_of place offsets.objects live form) form.reads → task < 1024 → base + 1024 < 2 ^ 64
     → IsAlike base entry (after_commands offsets (scheduled offsets (task_for form) task task place live))
@@ -98,14 +99,7 @@ need_grows : (most : ℕ) (owner : Worker) (walk : Walk) (object : Object) → I
 need_grows most owner walk object is below worker other lower inside has = either (latest_of walk.offsets object == 0) where
   either : (b : Bool)
       → has_any
-      (if b
-      then (let next : Walk = record {
-        offsets = with_offset owner object 0 walk.offsets;
-        needed = with_offset owner object 0 walk.needed;
-        entries =
-            walk.entries;
-      } in next)
-      else walk).needed worker other ≡ true
+      (need_if b owner walk object).needed worker other ≡ true
   either true =
       any_after walk.needed (with_offset owner object 0 walk.needed) owner 0 (main_slot object ∷ [])
       (put_all walk.needed owner 0 (main_slot object ∷ []) is.whole (omega (arith, is.workers, below))) worker other
@@ -131,14 +125,7 @@ need_there most owner walk object is below inside none =
 
       either : (b : Bool) → b ≡ true
           → has_any
-          (if b
-          then (let next : Walk = record {
-            offsets = with_offset owner object 0 walk.offsets;
-            needed = with_offset owner object 0 walk.needed;
-            entries =
-                walk.entries;
-          } in next)
-          else walk).needed owner object ≡ true
+          (need_if b owner walk object).needed owner object ≡ true
       either true yes_is =
           ap (λ (o : Option ℕ). is_some o)
           (put.held owner (main_slot object)
@@ -146,31 +133,6 @@ need_there most owner walk object is below inside none =
           ∙ ap₂ (λ (b c : Bool). if (b || false) && c then Some 0 else held_at walk.needed owner (main_slot object)) (eq-eqb object.0 object.0 refl)
           (eq-eqb owner.0 owner.0 refl))
       either false not_is = absurd (false≢true not_is)
-
-max_zero : (b : Bool) (was now : ℕ) → now ≡ (if b then max was 0 else was) → now ≡ was
-max_zero true was now is = omega (arith, is)
-max_zero false was now is = is
-
-need_latest : (most : ℕ) (owner : Worker) (walk : Walk) (object : Object) → IsWalked most walk → owner.0 < walk.offsets.workers
-    → (other : Object) → other.0 < walk.offsets.objects → latest_of (with_need owner walk object).offsets other ≡ latest_of walk.offsets other
-need_latest most owner walk object is below other inside = either (latest_of walk.offsets object == 0) where
-  put : IsPut walk.offsets owner 0 (main_slot object ∷ []) (with_offset owner object 0 walk.offsets)
-  put = put_all walk.offsets owner 0 (main_slot object ∷ []) is.kept.whole below
-
-  either : (b : Bool)
-      → latest_of
-      (if b
-      then (let next : Walk = record {
-        offsets = with_offset owner object 0 walk.offsets;
-        needed = with_offset owner object 0 walk.needed;
-        entries =
-            walk.entries;
-      } in next)
-      else walk).offsets other ≡ latest_of walk.offsets other
-  either true =
-      max_zero (is_among (main_slot object ∷ []) (main_slot other)) (latest_of walk.offsets other) (latest_of (with_offset owner object 0 walk.offsets) other)
-      (put.latest other inside)
-  either false = refl
 
 needs_latest : (most : ℕ) (owner : Worker) (reads : List Object) (walk : Walk) → IsWalked most walk → owner.0 < walk.offsets.workers
     → (other : Object) → other.0 < walk.offsets.objects → latest_of (fold (with_need owner) walk reads).offsets other ≡ latest_of walk.offsets other
@@ -182,7 +144,7 @@ needs_latest most owner (object ∷ reads) walk is below other inside =
     ∙ need_latest most owner walk object is below other inside
 
 -- each read that nothing so far writes is needed
-reads_there : (most : ℕ) (owner : Worker) (reads : List Object) (walk : Walk) → IsWalked most walk → owner.0 < walk.offsets.workers
+pub reads_there : (most : ℕ) (owner : Worker) (reads : List Object) (walk : Walk) → IsWalked most walk → owner.0 < walk.offsets.workers
     → (object : Object) → is_one_of reads object ≡ true → object.0 < walk.offsets.objects → latest_of walk.offsets object ≡ 0
     → has_any (fold (with_need owner) walk reads).needed owner object ≡ true
 reads_there most owner [] walk is below object one inside none = absurd (false≢true one)
@@ -212,20 +174,13 @@ need_alike : (base most : ℕ) (entry versions : Versions) (owner : Worker) (wal
 need_alike base most entry versions owner walk object alike is below inside current = either (latest_of walk.offsets object == 0) refl where
   either : (b : Bool) → (latest_of walk.offsets object == 0) ≡ b
       → IsAlike base entry
-      (if b
-      then (let next : Walk = record {
-        offsets = with_offset owner object 0 walk.offsets;
-        needed = with_offset owner object 0 walk.needed;
-        entries =
-            walk.entries;
-      } in next)
-      else walk).offsets versions
+      (need_if b owner walk object).offsets versions
   either true none =
       let zero_is : latest_of walk.offsets object ≡ 0 = eqb-true (latest_of walk.offsets object) 0 none in
       alike_need base most entry walk.offsets versions owner object alike is.kept below inside zero_is (current zero_is)
   either false more = alike
 
-needs_alike : (base most : ℕ) (entry versions : Versions) (owner : Worker) (reads : List Object) (walk : Walk) → IsAlike base entry walk.offsets versions
+pub needs_alike : (base most : ℕ) (entry versions : Versions) (owner : Worker) (reads : List Object) (walk : Walk) → IsAlike base entry walk.offsets versions
     → IsWalked most walk → owner.0 < walk.offsets.workers → ((object : Object) → is_one_of reads object ≡ true → object.0 < walk.offsets.objects)
     → ((object : Object) → is_one_of reads object ≡ true → latest_of walk.offsets object ≡ 0 → is_current entry object owner ≡ true)
     → IsAlike base entry (fold (with_need owner) walk reads).offsets versions
@@ -247,7 +202,7 @@ zero_held (Some offset) some zero_is = ap Some (zero_is offset refl)
 
 -- ---- the walk
 
-walk_grows : (place : Placement) (live : List Bool) (number : ℕ) (walk : Walk) (forms : List TaskForm) → IsWalked number walk
+pub walk_grows : (place : Placement) (live : List Bool) (number : ℕ) (walk : Walk) (forms : List TaskForm) → IsWalked number walk
     → ((objects : ℕ) (f : TaskForm) → (home_of place objects live f).0 < walk.offsets.workers) → number + length forms < 2 ^ 64
     → (worker : Worker) (object : Object) → worker.0 < walk.offsets.workers → object.0 < walk.offsets.objects → has_any walk.needed worker object ≡ true
     → has_any (walked place live number walk forms).needed worker object ≡ true
@@ -287,19 +242,26 @@ form_ready place live number walk form is homes fit =
           (λ offset found. (let under = now.kept.held owner object offset lower inside found in omega (arith, under, none)));
     })
 
+-- what the tasks of a block come to from a map on: their commands, and the map that these leave
+pub record AreTasks (base : ℕ) (args : List ℤ) (entry : Versions) (before after : Walk) (commands : List (Worker × Command))
+    (versions : Versions) : Type 0 where
+  pub same : map (command_at base args) after.entries ≡ map (command_at base args) before.entries ++ map plain commands
+  pub alike : IsAlike base entry after.offsets versions
+  pub zero : IsZero entry after.offsets
+
 -- from a map in which what is needed is current
 pub tasks_same : (place : Placement) (live : List Bool) (base : ℕ) (args : List ℤ) (entry : Versions) (number : ℕ) (walk : Walk) (versions : Versions)
-    (forms : List TaskForm) → IsAlike base entry walk.offsets versions → IsWalked number walk
+    (forms : List TaskForm) → IsAlike base entry walk.offsets versions → IsZero entry walk.offsets → IsWalked number walk
     → ((objects : ℕ) (f : TaskForm) → (home_of place objects live f).0 < walk.offsets.workers) → IsEntry base walk.offsets.objects entry
     → list_all (is_fit walk.offsets.objects) forms ≡ true
     → ((worker : Worker) (object : Object) → worker.0 < walk.offsets.workers → object.0 < walk.offsets.objects
     → has_any (walked place live number walk forms).needed worker object ≡ true → is_current entry object worker ≡ true)
     → number + length forms ≤ 1024 → base + 1024 < 2 ^ 64
-    → map (command_at base args) (walked place live number walk forms).entries
-    ≡ map (command_at base args) walk.entries ++ map plain (scheduled_from place live base args number versions forms)
-tasks_same place live base args entry number walk versions [] alike is homes at fit current few room =
-    sym (append-nil (map (command_at base args) walk.entries))
-tasks_same place live base args entry number walk versions (form ∷ forms) alike is homes at fit current few room =
+    → AreTasks base args entry walk (walked place live number walk forms) (scheduled_from place live base args number versions forms)
+    (after_commands versions (scheduled_from place live base args number versions forms))
+tasks_same place live base args entry number walk versions [] alike zero is homes at fit current few room =
+    record { same = sym (append-nil (map (command_at base args) walk.entries)); alike = alike; zero = zero }
+tasks_same place live base args entry number walk versions (form ∷ forms) alike zero is homes at fit current few room =
     let owner : Worker = home_of place walk.offsets.objects live form in
     let below : owner.0 < walk.offsets.workers = homes walk.offsets.objects form in
     let each = both_true (is_fit walk.offsets.objects form) (list_all (is_fit walk.offsets.objects) forms) fit in
@@ -322,6 +284,7 @@ tasks_same place live base args entry number walk versions (form ∷ forms) alik
     (let inside = within object one in omega (arith, like.objects, inside)) (needed object one none)) in
     let alike_now : IsAlike base entry ready.offsets versions =
     needs_alike base number entry versions owner form.reads walk alike is below within holds in
+    let zero_now : IsZero entry ready.offsets = zero_needs number entry owner form.reads walk zero is below within holds in
     let at_ready : IsEntry base ready.offsets.objects entry = subst (λ (n : ℕ). IsEntry base n entry) (sym like_ready.objects) at in
     let are_ready = form_ready place live number walk form is homes each.0 in
     let commands : List (Worker × Command) = scheduled versions (task_with args form) number (counted_from base number) place live in
@@ -331,16 +294,23 @@ tasks_same place live base args entry number walk versions (form ∷ forms) alik
     (task_same base number entry ready.offsets versions place live args number form alike_now now.kept at_ready are_ready (omega (arith, few)) (omega
     (arith, few)) room) in
     let reached : Versions = after_commands versions commands in
-    let rest : map (command_at base args) (walked place live (number + 1) next forms).entries
-    ≡ map (command_at base args) next.entries ++ map plain (scheduled_from place live base args (number + 1) reached forms) =
+    let more : List (Worker × Command) = scheduled_from place live base args (number + 1) reached forms in
+    let rest : AreTasks base args entry next (walked place live (number + 1) next forms) more (after_commands reached more) =
     tasks_same place live base args entry (number + 1) next reached forms
-    (task_alike base entry ready.offsets versions place live args number form alike_now now.kept at_ready are_ready (omega (arith, few)) room) after later
+    (task_alike base entry ready.offsets versions place live args number form alike_now now.kept at_ready are_ready (omega (arith, few)) room)
+    (zero_task entry place live number ready.offsets form zero_now now.kept are_ready (omega (arith, few))) after later
     (subst (λ (n : ℕ). IsEntry base n entry) (sym like.objects) at)
     (subst (λ (n : ℕ). list_all (is_fit n) forms ≡ true) (sym like.objects) each.1)
     (λ worker object lower inside has. current worker object (omega (arith, like.workers, lower)) (omega (arith, like.objects, inside)) has)
     (omega (arith, few)) room in
-    rest
-    ∙ ap (λ (cs : List (Worker × Command)). cs ++ map plain (scheduled_from place live base args (number + 1) reached forms)) mine
-    ∙ append_assoc (map (command_at base args) walk.entries) (map plain commands) (map plain (scheduled_from place live base args (number + 1) reached forms))
-    ∙ ap (λ (cs : List (Worker × Command)). map (command_at base args) walk.entries ++ cs)
-    (sym (map-append plain commands (scheduled_from place live base args (number + 1) reached forms)))
+    record {
+      same =
+          rest.same
+          ∙ ap (λ (cs : List (Worker × Command)). cs ++ map plain more) mine
+          ∙ append_assoc (map (command_at base args) walk.entries) (map plain commands) (map plain more)
+          ∙ ap (λ (cs : List (Worker × Command)). map (command_at base args) walk.entries ++ cs) (sym (map-append plain commands more));
+      alike =
+          subst (IsAlike base entry (walked place live (number + 1) next forms).offsets)
+          (sym (fold-append (λ (before : Versions) (c : Worker × Command). after_kind c.0 before c.1.kind) versions commands more)) rest.alike;
+      zero = rest.zero;
+    }

@@ -32,8 +32,9 @@ use Rattle.nim_template.specs.Ascends.{does_ascend}
 use Rattle.nim_template.specs.Built.{all_slots, built, end_of, entries_for, half_for, needs_of, slots_of}
 use Rattle.nim_template.specs.Closing.{closed_for, closing_entries, closing_from, closing_receive, closing_send, closings, copy_from}
 use Rattle.nim_template.specs.Fits.{is_fit}
-use Rattle.nim_template.specs.Walk.{walked_past, entry_for, home_of, empty_walk, task_for, walked, with_need, with_offset}
+use Rattle.nim_template.specs.Walk.{walked_past, entry_for, home_of, empty_walk, task_for, walked, with_need}
 use Rattle.nim_template.proofs.Fits.{few_reads}
+use Rattle.nim_template.proofs.Sizes.{need_if}
 
 -- ---- lists of entries
 
@@ -174,14 +175,7 @@ need_entries worker [] walk = refl
 need_entries worker (object ∷ reads) walk =
     need_entries worker reads (with_need worker walk object) ∙ either (latest_of walk.offsets object == 0) where
       either : (b : Bool)
-          → (if b
-          then (let next : Walk = record {
-            offsets = with_offset worker object 0 walk.offsets;
-            needed =
-                with_offset worker object 0 walk.needed;
-            entries = walk.entries;
-          } in next)
-          else walk).entries ≡ walk.entries
+          → (need_if b worker walk object).entries ≡ walk.entries
       either true = refl
       either false = refl
 
@@ -215,7 +209,7 @@ abbrev pub AreApart : List Closing → Type 0
 AreApart [] = Unit {0}
 AreApart (c ∷ cs) = (c.from.0 ≡ c.to.0 → ⊥) × AreApart cs
 
-from_apart : (offsets : Versions) (need : Worker × Object) (from : Worker) → closing_from offsets need ≡ Some from → from.0 ≡ need.0.0 → ⊥
+pub from_apart : (offsets : Versions) (need : Worker × Object) (from : Worker) → closing_from offsets need ≡ Some from → from.0 ≡ need.0.0 → ⊥
 from_apart offsets need from found same = either (is_current offsets need.1 need.0) refl found where
   either : (b : Bool) → is_current offsets need.1 need.0 ≡ b → (if b then None else holder offsets need.1) ≡ Some from → ⊥
   either true is found = false≢true (ap (λ (o : Option Worker). is_some o) found)

@@ -43,23 +43,27 @@ like_put_all worker version (slot ∷ slots) versions =
     let next : Versions = with_version worker version versions slot in
     like_then versions next (fold (with_version worker version) next slots) (like_put worker version versions slot) (like_put_all worker version slots next)
 
-like_commands : (commands : List (Worker × Command)) (versions : Versions) → AreLike versions (after_commands versions commands)
+pub like_commands : (commands : List (Worker × Command)) (versions : Versions) → AreLike versions (after_commands versions commands)
 like_commands [] versions = like_same versions
 like_commands (c ∷ commands) versions =
     let next : Versions = after_kind c.0 versions c.1.kind in
     like_then versions next (after_commands next commands) (like_put_all c.0 (version_of c.1.kind) (puts_of c.1.kind) versions) (like_commands commands next)
 
+-- the walk behind a need, by whether nothing so far writes the object
+abbrev pub need_if : Bool → Worker → Walk → Object → Walk
+need_if b worker walk object =
+    if b
+    then record {
+      offsets = with_offset worker object 0 walk.offsets;
+      needed = with_offset worker object 0 walk.needed;
+      entries = walk.entries;
+    }
+    else walk
+
 pub like_need : (worker : Worker) (walk : Walk) (object : Object) → AreLike walk.offsets (with_need worker walk object).offsets
 like_need worker walk object = either (latest_of walk.offsets object == 0) where
   either : (b : Bool) → AreLike walk.offsets
-      (if b
-      then (let next : Walk = record {
-        offsets = with_offset worker object 0 walk.offsets;
-        needed = with_offset worker object 0 walk.needed;
-        entries =
-            walk.entries;
-      } in next)
-      else walk).offsets
+      (need_if b worker walk object).offsets
   either true = like_put worker 0 walk.offsets (record { 0 = object.0 })
   either false = like_same walk.offsets
 

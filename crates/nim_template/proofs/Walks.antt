@@ -1,5 +1,6 @@
 -- What a walk keeps: its maps stay as they have to be, and what is needed at entry has some offset.
-use Rattle.std.proofs.Common.{◌≡◌, ℕ, ◌+◌, ◌<◌, ◌≤◌, Bool, true, false, List, [], ◌∷◌, ◌++◌, length, map, refl, ap, sym, subst, ◌∙◌, arith, Option, Some}
+use Rattle.std.proofs.Common.{◌≡◌, ℕ, ◌+◌, ◌<◌, ◌≤◌, Bool, true, false, List, [], ◌∷◌, ◌++◌, length, map, refl, ap, sym, subst, ◌∙◌, arith, Option}
+use Rattle.std.proofs.Common.{Some}
 use Rattle.std.specs.Prelude.{◌^◌, ◌==◌, ◌&&◌, ◌||◌, if◌then◌else◌, max, nat_lt}
 use Rattle.std.specs.List.{fold}
 use Rattle.std.specs.Option.{is_some}
@@ -21,7 +22,7 @@ use Rattle.nim_place.proofs.Puts.{IsPut, IsWhole, kept_for, put_all, whole_after
 use Rattle.nim_template.specs.declared.walk.Walk.{Walk}
 use Rattle.nim_template.specs.Walk.{walked_past, home_of, task_for, walked, with_need, with_offset}
 use Rattle.nim_template.proofs.Offsets.{IsKept, kept_put}
-use Rattle.nim_template.proofs.Sizes.{AreLike, form_like, like_need, like_needs, like_same, like_then}
+use Rattle.nim_template.proofs.Sizes.{AreLike, form_like, like_need, like_needs, like_same, like_then, need_if}
 
 -- what a worker's main slot of an object has, if anything
 abbrev pub has_any : Versions → Worker → Object → Bool
@@ -174,9 +175,7 @@ need_walked most worker walk object is below = either (latest_of walk.offsets ob
 
   either : (b : Bool) → (latest_of walk.offsets object == 0) ≡ b
       → IsWalked most
-      (if b
-      then record { offsets = with_offset worker object 0 walk.offsets; needed = with_offset worker object 0 walk.needed; entries = walk.entries }
-      else walk)
+      (need_if b worker walk object)
   either true none =
       let first : IsAfter most walk.offsets (with_offset worker object 0 walk.offsets) =
       put_after most most walk.offsets worker 0 (main_slot object ∷ []) is.kept below (omega arith) (omega arith)

@@ -1,5 +1,6 @@
 -- The effect of a template lists what its halves write.
-use Rattle.std.proofs.Common.{◌≡◌, ℕ, zero, suc, ◌+◌, ◌<◌, ◌≤◌, Bool, true, false, List, [], ◌∷◌, ◌++◌, length, map, refl, ap, ap₂, sym, subst, ◌∙◌, arith}
+use Rattle.std.proofs.Common.{◌≡◌, ℕ, zero, suc, ◌+◌, ◌<◌, ◌≤◌, Bool, true, false, List, [], ◌∷◌, ◌++◌, length, map, refl, ap, ap₂, sym, subst, ◌∙◌}
+use Rattle.std.proofs.Common.{arith}
 use Rattle.std.proofs.Common.{Option, None, Some}
 use Rattle.std.specs.Prelude.{◌==◌, ◌&&◌, ◌||◌, if◌then◌else◌, slice_index_or}
 use Rattle.std.specs.List.{filter, flat_map, fold, list_all, list_any, range_with_len}
@@ -39,7 +40,7 @@ use Rattle.nim_template.proofs.Closes.{AreNeeds, ClosesFor, closes_for, current_
 use Rattle.nim_template.proofs.Instances.{form_ready}
 use Rattle.nim_template.proofs.Numbers.{need_entries}
 use Rattle.nim_template.proofs.Offsets.{IsKept}
-use Rattle.nim_template.proofs.Sizes.{AreLike, form_like, like_need, like_needs}
+use Rattle.nim_template.proofs.Sizes.{AreLike, form_like, like_need, like_needs, need_if}
 use Rattle.nim_template.proofs.Walks.{AreCopies, IsWalked, IsWalkedTo, copies_kept, form_walked, has_any, latest_within, need_walked, needs_walked}
 use Rattle.nim_template.proofs.Walks.{only_object, walk_kept}
 
@@ -203,14 +204,7 @@ need_seen most owner walk needed worker object is own below there = either (late
 
   either : (b : Bool) → (latest_of walk.offsets needed == 0) ≡ b
       → seen (held_at
-      (if b
-      then (let next : Walk = record {
-        offsets = with_offset owner needed 0 walk.offsets;
-        needed = with_offset owner needed 0 walk.needed;
-        entries =
-            walk.entries;
-      } in next)
-      else walk).offsets worker (main_slot object)) ≡ seen (held_at walk.offsets worker (main_slot object))
+      (need_if b owner walk needed).offsets worker (main_slot object)) ≡ seen (held_at walk.offsets worker (main_slot object))
   either true none =
       zero_seen (is_among (main_slot needed ∷ []) (main_slot object)) (owner.0 == worker.0) (held_at walk.offsets worker (main_slot object))
       (held_at (with_offset owner needed 0 walk.offsets) worker (main_slot object))
@@ -264,7 +258,7 @@ walk_seen place live number walk (form ∷ forms) worker object is homes fit few
 -- ---- closing copies
 
 -- what a closing copy brings was written by a task of the block
-closing_more : (most : ℕ) (offsets : Versions) (need : Worker × Object) (from : Worker) → IsKept most offsets → need.0.0 < offsets.workers
+pub closing_more : (most : ℕ) (offsets : Versions) (need : Worker × Object) (from : Worker) → IsKept most offsets → need.0.0 < offsets.workers
     → need.1.0 < offsets.objects → has_any offsets need.0 need.1 ≡ true → closing_from offsets need ≡ Some from → (latest_of offsets need.1 == 0) ≡ false
 closing_more most offsets need from kept below there some found = either (latest_of offsets need.1 == 0) refl where
   current : latest_of offsets need.1 ≡ 0 → (o : Option ℕ) → held_at offsets need.0 (main_slot need.1) ≡ o → is_some o ≡ true

@@ -3,6 +3,10 @@ pub mod Ascends
 pub mod Built
 pub mod Closing
 pub mod Fits
+pub mod Given
+pub mod Instance
+pub mod MayBuild
+pub mod StaysBefore
 pub mod Tasks
 pub mod Walk
 pub mod Written

@@ -1,9 +1,13 @@
 ghost use Rattle.std.specs.Prelude.{◌≡◌, ◌≤◌, true, length, map, IfOk};
 ghost use Rattle.std.specs.List.{list_all, list_any};
+ghost use Rattle.nim_place.specs.Sound.{IsSound};
 ghost use Rattle.nim_template.specs.Again.{HoldAgain};
 ghost use Rattle.nim_template.specs.Ascends.{does_ascend};
 ghost use Rattle.nim_template.specs.Built as spec;
 ghost use Rattle.nim_template.specs.Fits.{is_fit};
+ghost use Rattle.nim_template.specs.Given.{InstallsExtend, InstancesExtend};
+ghost use Rattle.nim_template.specs.Instance.{LeavesEffect};
+ghost use Rattle.nim_template.specs.MayBuild.{MayBuild};
 ghost use Rattle.nim_template.specs.Tasks.{DoTasks};
 ghost use Rattle.nim_template.specs.Walk as walks;
 ghost use Rattle.nim_template.specs.Written.{HasEffect};
@@ -37,6 +41,10 @@ pub fn build_halves(
     ensures tasks { IfOk result (λ built. DoTasks place.now live.now objects built) }
     ensures effect { IfOk result (λ built. HasEffect (length live.now) objects built) }
     ensures again { IfOk result (λ built. HoldAgain (length live.now) objects built) }
+    ensures left { IfOk result (λ built. LeavesEffect (length live.now) objects built) }
+    ensures installs { IfOk result (λ built. InstallsExtend live.now built) }
+    ensures instances { IfOk result (λ built. InstancesExtend live.now objects built) }
+    ensures sound { IfOk result (λ built. IsSound built) }
 {
     let template = built(alloc, template, place, objects, live)?;
     Ok(template)
@@ -50,11 +58,7 @@ fn built(
     objects: u16,
     live: &[bool],
 ) -> Result<WorkerTemplate, NoMemory>
-    requires objects { objects ≤ 512 }
-    requires workers { length live.now ≤ 16 }
-    requires live { list_any (λ flag. flag) live.now ≡ true }
-    requires many { length template.now.forms ≤ 1024 }
-    requires fit { list_all (is_fit objects) template.now.forms ≡ true }
+    requires { MayBuild objects live.now template.now.forms }
     ensures { IfOk result (λ made. made ≡ spec.built place.now objects live.now template.now) }
 {
     let forms = template.forms.as_slice();
@@ -74,9 +78,7 @@ fn homes_of(
     objects: u16,
     live: &[bool],
 ) -> Result<Vec<Worker>, NoMemory>
-    requires workers { length live.now ≤ 16 }
-    requires live { list_any (λ flag. flag) live.now ≡ true }
-    requires fit { list_all (is_fit objects) forms.now ≡ true }
+    requires { MayBuild objects live.now forms.now }
     ensures { IfOk result (λ homes. homes.items ≡ map (walks.home_of place.now objects live.now) forms.now) }
 {
     let mut homes = Vec::new(alloc);

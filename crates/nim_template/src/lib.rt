@@ -5,11 +5,13 @@
 mod build;
 mod closing;
 mod entry;
+mod laws;
 mod recorder;
 mod slots;
 mod template;
 mod walk;
 
 pub use build::build_halves;
+pub use laws::maps_stay_before;
 pub use recorder::Recorder;
 pub use template::ControllerTemplate;

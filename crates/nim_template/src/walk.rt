@@ -2,7 +2,7 @@ ghost use Rattle.std.specs.Prelude.{◌≡◌, ◌<◌, ◌≤◌, [], true, len
 ghost use Rattle.std.specs.List.{fold, list_all, list_any};
 ghost use Rattle.nim_command.specs.declared.command.Kind.{Kind as kind_type};
 ghost use Rattle.nim_command.specs.Numbers.{main_slot};
-ghost use Rattle.nim_template.specs.Fits.{is_fit};
+ghost use Rattle.nim_template.specs.MayBuild.{MayBuild};
 ghost use Rattle.nim_template.specs.Walk as spec;
 
 use crate::entry::push_all;
@@ -33,11 +33,7 @@ pub(crate) fn walked(
     objects: u16,
     live: &[bool],
 ) -> Result<Walk, NoMemory>
-    requires objects { objects ≤ 512 }
-    requires few { length live.now ≤ 16 }
-    requires live { list_any (λ flag. flag) live.now ≡ true }
-    requires many { length forms.now ≤ 1024 }
-    requires fit { list_all (is_fit objects) forms.now ≡ true }
+    requires { MayBuild objects live.now forms.now }
     ensures { IfOk result (λ walk.
         walk ≡ spec.walked place.now live.now 0 (spec.empty_walk (length live.now) objects) forms.now) }
 {

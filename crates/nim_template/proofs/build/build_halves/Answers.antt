@@ -1,12 +1,18 @@
 use Rattle.std.proofs.Common.{ap, length, subst, sym, ◌∙◌}
 use Rattle.std.specs.List.{list_all}
 use Rattle.nim_command.specs.declared.template.WorkerTemplate.{WorkerTemplate}
+use Rattle.nim_place.specs.Sound.{IsSound}
 use Rattle.nim_template.specs.Again.{HoldAgain}
 use Rattle.nim_template.specs.Ascends.{does_ascend}
 use Rattle.nim_template.specs.Written.{HasEffect}
+use Rattle.nim_template.specs.Given.{InstallsExtend, InstancesExtend}
+use Rattle.nim_template.specs.Instance.{LeavesEffect}
 use Rattle.nim_template.proofs.Again.{built_again}
+use Rattle.nim_template.proofs.Given.{built_installs, built_instances}
 use Rattle.nim_template.specs.Tasks.{DoTasks}
 use Rattle.nim_template.proofs.Halves.{built_tasks}
+use Rattle.nim_template.proofs.IsSound.{built_sound}
+use Rattle.nim_template.proofs.Left.{built_left}
 use Rattle.nim_template.proofs.Numbers.{built_ascend}
 use Rattle.nim_template.proofs.Written.{built_effect}
 use Rattle.nim_template.proofs.build.build_halves.Goals as goal
@@ -31,3 +37,25 @@ pub returns-clause-effect : goal.returns-clause-effect
 returns-clause-effect c =
     subst (HasEffect (length c.args.live.now) c.args.objects) (sym c.in_ok-template.ensures)
     (built_effect c.args.place.now c.args.objects c.args.live.now c.args.template.now c.requires.live c.requires.many c.requires.fit)
+
+pub returns-clause-left : goal.returns-clause-left
+returns-clause-left c =
+    subst (LeavesEffect (length c.args.live.now) c.args.objects) (sym c.in_ok-template.ensures)
+    (built_left c.args.place.now c.args.objects c.args.live.now c.args.template.now c.requires.live c.requires.many c.requires.fit)
+
+pub returns-clause-installs : goal.returns-clause-installs
+returns-clause-installs c =
+    subst (InstallsExtend c.args.live.now) (sym c.in_ok-template.ensures)
+    (built_installs c.args.place.now c.args.objects c.args.live.now c.args.template.now)
+
+pub returns-clause-instances : goal.returns-clause-instances
+returns-clause-instances c =
+    subst (InstancesExtend c.args.live.now c.args.objects) (sym c.in_ok-template.ensures)
+    (built_instances c.args.place.now c.args.objects c.args.live.now c.args.template.now c.requires.live c.requires.workers c.requires.objects
+    c.requires.many c.requires.fit)
+
+pub returns-clause-sound : goal.returns-clause-sound
+returns-clause-sound c =
+    subst IsSound (sym c.in_ok-template.ensures)
+    (built_sound c.args.place.now c.args.objects c.args.live.now c.args.template.now c.requires.live c.requires.workers c.requires.objects
+    c.requires.many c.requires.fit)
