@@ -1,0 +1,4 @@
+pub mod Cuts
+pub mod Digits
+mod Examples
+pub mod Steps
