@@ -1,0 +1,13 @@
+pub mod Alone
+pub mod Asking
+pub mod Directed
+pub mod Fetches
+pub mod Flights
+pub mod Forms
+pub mod Given
+pub mod Instances
+pub mod Kept
+pub mod Moving
+pub mod Ranges
+pub mod Taken
+pub mod Tasks

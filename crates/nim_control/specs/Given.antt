@@ -1,0 +1,40 @@
+-- What is given at sites: the orders behind those before them, and where the versions lie then.
+use Rattle.std.specs.Prelude.{◌≡◌, ℕ, ◌+◌, List, ◌++◌, map}
+use Rattle.std.specs.List.{range_with_len}
+use Rattle.nim_base.specs.declared.number.Object.{Object}
+use Rattle.nim_base.specs.declared.number.Worker.{Worker}
+use Rattle.nim_base.specs.declared.task.Task.{Task}
+use Rattle.nim_command.specs.declared.command.Command.{Command}
+use Rattle.nim_place.specs.Versions.{after_commands}
+use Rattle.nim_course.specs.Controller.{Controller, Flight}
+use Rattle.nim_course.specs.Directed.{Directed}
+use Rattle.nim_course.specs.OrdersGiven.{after_instance, awaited_of, instance_orders, single_for}
+use Rattle.nim_control.specs.declared.instance.InstanceAt.{InstanceAt}
+use Rattle.nim_control.specs.Sites.{HasSites, Sites}
+
+-- Commands were given, each alone in a Single, and the map took them in.
+pub record AreAlone (epoch : ℕ) (commands : List (Worker × Command)) (before : List Directed) (old : Sites)
+    (after : List Directed) (new : Sites) : Type 0 where
+  pub orders : after ≡ before ++ map (single_for epoch) commands
+  pub sites : new ≡ record old { versions = after_commands old.versions commands }
+
+-- a controller is to give this instance at these sites
+pub record IsToRun (c : Controller) (at : InstanceAt) (sites : Sites) : Type 0 where
+  pub has : HasSites c sites
+  pub epoch : c.epoch ≡ at.epoch
+  pub instance : c.instance ≡ at.instance
+  pub position : c.position ≡ at.base
+
+-- The tasks of an instance from this number on were given, and the map took their commands in.
+pub record AreTasks (c : Controller) (number : ℕ) (tasks : List Task) (before : List Directed) (old : Sites)
+    (after : List Directed) (new : Sites) : Type 0 where
+  pub orders : after ≡ before ++ instance_orders c number old.versions tasks
+  pub sites : new ≡ record old { versions = after_instance c number old.versions tasks }
+
+-- a report of each of an instance's tasks is awaited
+abbrev pub awaiting : Controller → List Task → Flight
+awaiting c tasks = record { instance = c.instance; base = c.position; runs = map (awaited_of c) tasks }
+
+-- so many objects, from the one with this number on
+abbrev pub objects_from : ℕ → ℕ → List Object
+objects_from first count = map (λ (part : ℕ). record { 0 = first + part }) (range_with_len 0 count)

@@ -1,0 +1,5 @@
+pub mod Form
+pub mod Given
+pub mod Keeps
+pub mod Seen
+pub mod Sites

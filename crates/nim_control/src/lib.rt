@@ -1,0 +1,14 @@
+//! The controller of a job on several workers: reports in, orders out. It has no transport and no worker inside.
+#![tactic(auto)]
+
+mod begin;
+mod blocks;
+mod controller;
+mod fetch;
+mod flight;
+mod instance;
+mod orders;
+mod sites;
+mod told;
+
+pub use controller::ControllerCore;

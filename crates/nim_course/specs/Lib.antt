@@ -1,0 +1,9 @@
+pub mod Controller
+pub mod Directed
+pub mod Law
+pub mod Leads
+pub mod Moves
+pub mod OrdersGiven
+pub mod Printed
+pub mod Reports
+pub mod Waits

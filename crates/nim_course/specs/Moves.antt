@@ -1,0 +1,159 @@
+-- What a controller does in a turn, one move after another, until nothing is left that it may do.
+use Rattle.std.specs.Prelude.{◌≡◌, ℕ, zero, suc, ◌+◌, nat_le, ℤ, pos, Bool, true, false, List, [], ◌∷◌, ◌++◌, length, map, slice_get, slice_index_or, Some}
+use Rattle.std.specs.List.{list_any, range_with_len}
+use Rattle.std.specs.Option.{is_none, option_map_or}
+use Rattle.nim_base.specs.declared.number.Object.{Object}
+use Rattle.nim_base.specs.declared.task.Task.{Task}
+use Rattle.nim_base.specs.Value.{Grid, cell_of, empty_grid}
+use Rattle.nim_command.specs.Numbers.{counted_from}
+use Rattle.nim_job.specs.declared.ask.Ask.{Ask}
+use Rattle.nim_job.specs.Machine.{after_ask, answered, appended, ask_of}
+use Rattle.nim_job.specs.Objects.{first_object, parts_of}
+use Rattle.nim_job.specs.Step.{texts_of}
+use Rattle.nim_job.specs.Tasks.{block_tasks_of}
+use Rattle.nim_place.specs.Versions.{after_commands}
+use Rattle.nim_course.specs.declared.fetched.Fetched.{Fetched}
+use Rattle.nim_course.specs.declared.outcome.Outcome.{Outcome}
+use Rattle.nim_course.specs.declared.pending.Pending.{Pending}
+use Rattle.nim_course.specs.declared.pending.Pending.TheVariants.{Begin, Idle, Block, Cell, Parts, Ended}
+use Rattle.nim_course.specs.Controller.{Controller}
+use Rattle.nim_course.specs.Directed.{Directed}
+use Rattle.nim_course.specs.OrdersGiven.{after_instance, counted_on, epoch_orders, fetch_orders, fetched_of, first_commands, flight_of, instance_orders}
+
+-- ---- what holds a controller up
+
+-- whether the value of something that was fetched wasn't reported yet
+abbrev pub is_open : Fetched → Bool
+is_open f = is_none f.value
+
+-- so many instances may be in flight
+abbrev pub most_in_flight : ℕ
+most_in_flight = 4
+
+-- whether what is pending waits for a report
+abbrev pub does_wait : Controller → Pending → Bool
+does_wait c (Block block args) = nat_le most_in_flight (length c.flight)
+does_wait c (Cell row cell) = list_any is_open c.fetched
+does_wait c (Parts var) = list_any is_open c.fetched
+does_wait c Ended = nat_le 1 (length c.flight)
+does_wait c _ = false
+
+-- a controller may do nothing more where it has an outcome, or waits for a report
+abbrev pub is_held_up : Controller → Bool
+is_held_up c = option_map_or (λ (outcome : Outcome). true) c.outcome (does_wait c c.pending)
+
+-- ---- one move
+
+-- the epoch is begun
+abbrev pub begun : Controller → Controller
+begun c = record c { versions = after_commands c.versions (first_commands c 0 c.job.vars); pending = Idle }
+
+-- an instance of these tasks was given
+abbrev pub with_instance : Controller → List Task → Controller
+with_instance c tasks = record c {
+  machine = answered c.machine (pos 0);
+  versions = after_instance c 0 c.versions tasks;
+  position = counted_from c.position (length tasks);
+  instance = counted_on c.instance 1;
+  pending = Idle;
+  flight = c.flight ++ flight_of c tasks;
+}
+
+-- the parts of a variable, as objects
+abbrev pub objects_in : Controller → ℕ → List Object
+objects_in c var =
+    map (λ (part : ℕ). record { 0 = first_object c.job.vars var + part }) (range_with_len 0 (parts_of c.job.vars var))
+
+-- objects were fetched, and this is pending then
+abbrev pub fetching : Controller → List Object → Pending → Controller
+fetching c objects pending = record c {
+  ticket = counted_on c.ticket (length objects);
+  pending = pending;
+  first = c.ticket;
+  fetched = map (fetched_of c.versions) objects;
+}
+
+-- what the driver asked next
+abbrev pub asked : Controller → Ask → Controller
+asked c (Ask.Run block args) = record c { machine = after_ask c.machine; pending = Block block args }
+asked c (Ask.Get object row cell) =
+    fetching (record c { machine = after_ask c.machine }) (object ∷ []) (Cell row cell)
+asked c Ask.Checkpoint = record c { machine = answered (after_ask c.machine) (pos 0) }
+asked c (Ask.Output var) = fetching (record c { machine = after_ask c.machine }) (objects_in c var) (Parts var)
+asked c Ask.Finished = record c { machine = after_ask c.machine; pending = Ended }
+asked c Ask.Limit = record c { machine = after_ask c.machine; outcome = Some Outcome.Limit }
+
+-- what was reported of something that was fetched
+abbrev pub value_in : Fetched → Grid
+value_in f = option_map_or (λ (value : Grid). value) f.value empty_grid
+
+-- the cell of a `get`, of the object that was fetched
+abbrev pub cell_told : List Fetched → ℕ → ℕ → ℤ
+cell_told fetched row cell = cell_of (slice_index_or (map value_in fetched) 0 empty_grid) row cell
+
+-- what is printed of a variable whose parts were fetched
+abbrev pub text_told : Controller → ℕ → List ℕ
+text_told c var = texts_of (option_map_or (λ v. v.name) (slice_get c.job.vars var) []) 0 (map value_in c.fetched)
+
+-- what a controller does with what is pending
+abbrev pub done_with : Controller → Pending → Controller
+done_with c Begin = begun c
+done_with c Idle = asked c (ask_of c.machine)
+done_with c (Block block args) = with_instance c (block_tasks_of c.job block args)
+done_with c (Cell row cell) =
+    record c { machine = answered c.machine (cell_told c.fetched row cell); pending = Idle; fetched = [] }
+done_with c (Parts var) =
+    record c { machine = appended c.machine (text_told c var); pending = Idle; fetched = [] }
+done_with c Ended = record c { outcome = Some Outcome.Done }
+
+-- one move
+abbrev pub moved : Controller → Controller
+moved c = done_with c c.pending
+
+-- the orders that an ask leads to
+abbrev pub orders_asked : Controller → Ask → List Directed
+orders_asked c (Ask.Get object row cell) = fetch_orders c (object ∷ [])
+orders_asked c (Ask.Output var) = fetch_orders c (objects_in c var)
+orders_asked c _ = []
+
+-- the orders that are given with a move
+abbrev pub orders_with : Controller → Pending → List Directed
+orders_with c Begin = epoch_orders c
+orders_with c Idle = orders_asked c (ask_of c.machine)
+orders_with c (Block block args) = instance_orders c 0 c.versions (block_tasks_of c.job block args)
+orders_with c _ = []
+
+-- the orders that are given with the next one
+abbrev pub orders_of : Controller → List Directed
+orders_of c = orders_with c c.pending
+
+-- ---- a turn
+
+-- so many moves, one after another
+abbrev pub after_moves : ℕ → Controller → Controller
+after_moves zero c = c
+after_moves (suc count) c = moved (after_moves count c)
+
+-- the orders that they give
+abbrev pub orders_in : ℕ → Controller → List Directed
+orders_in zero c = []
+orders_in (suc count) c = orders_in count c ++ orders_of (after_moves count c)
+
+-- before none of them the controller is held up
+abbrev pub AreFree : ℕ → Controller → Type 0
+AreFree zero c = Unit {0}
+AreFree (suc count) c = AreFree count c × (is_held_up (after_moves count c) ≡ false)
+
+-- From one controller to another, moves gave these orders.
+pub record IsMoved (before : Controller) (orders : List Directed) (after : Controller) : Type 0 where
+  pub count : ℕ
+  pub free : AreFree count before
+  pub gave : orders ≡ orders_in count before
+  pub state : after ≡ after_moves count before
+
+-- A turn goes as far as it can: it moves until the controller is held up, and none is due then.
+pub record IsTurned (before : Controller) (orders : List Directed) (after : Controller) : Type 0 where
+  pub end : Controller
+  pub moved : IsMoved before orders end
+  pub held_up : is_held_up end ≡ true
+  pub rests : after ≡ record end { due = false }

@@ -1,0 +1,15 @@
+//! The course of a controller: what it has come to, what a turn and a report do to it, and the law that the orders
+//! that it gives lead its job.
+#![tactic(auto)]
+
+mod fetched;
+mod laws;
+mod outcome;
+mod pending;
+mod setup;
+
+pub use fetched::Fetched;
+pub use laws::{controllers_lead, prints_what_is_told};
+pub use outcome::{Outcome, Waiting};
+pub use pending::Pending;
+pub use setup::Setup;
