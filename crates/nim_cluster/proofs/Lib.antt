@@ -1,0 +1,6 @@
+pub mod Answered
+pub mod Events
+pub mod Jobs
+pub mod Links
+pub mod Nodes
+pub mod Schedules

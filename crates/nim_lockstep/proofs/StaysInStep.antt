@@ -1,0 +1,53 @@
+-- A cluster that is under way is in step, and each that events lead to is under way.
+use Rattle.std.proofs.Common.{◌≡◌, ℕ, zero, suc, ◌<◌, true, List, length, get_or, sym, subst, Some, arith}
+use Rattle.std.specs.Prelude.{◌||◌, All}
+use Rattle.std.specs.List.{list_any}
+use Rattle.std.proofs.lemmas.Option.{slice_get-get_or}
+use Rattle.nim_job.specs.Serial.{tasks_of}
+use Rattle.nim_course.specs.declared.outcome.Outcome.TheVariants.{Done}
+use Rattle.nim_course.specs.Controller.{Flight}
+use Rattle.nim_lockstep.specs.Cluster.{ClusterState, unbegun}
+use Rattle.nim_lockstep.specs.InStep.{AreSteps, HasTruth, IsInStep, IsReached, has_run}
+use Rattle.nim_lockstep.specs.Law.{ClustersStayInStep}
+use Rattle.nim_lockstep.proofs.AtHomes.{are_at_homes}
+use Rattle.nim_lockstep.proofs.UnderWay.{IsUnderWay, NodesGoOn, is_awaited_in}
+use Rattle.nim_lockstep.proofs.UnderWayGoes.{step_goes, turn_goes, unbegun_goes}
+
+-- what waits on links is true
+all_true : (s : ClusterState) → IsUnderWay s → All (HasTruth s.job) s.nodes
+all_true s under = λ number d below.
+    (under.nodes.each number (get_or s.nodes number d) (slice_get-get_or s.nodes number d below)).waiting
+
+-- once the job is done each task was run
+all_ran : (s : ClusterState) → IsUnderWay s → s.control.outcome ≡ Some Done → (position : ℕ) → position < length (tasks_of s.job)
+    → has_run s.trace position ≡ true
+all_ran s under done position below =
+    let all : s.control.position ≡ length (tasks_of s.job) = under.leads.all_run (under.leads.done done) in
+    subst (λ (flights : List Flight). (list_any (is_awaited_in position) flights || has_run s.trace position) ≡ true) (under.settled done)
+    (under.accounted position (omega (arith, below, all)))
+
+pub under_way_in_step : (s : ClusterState) → IsUnderWay s → IsInStep s
+under_way_in_step s under = record {
+  right = under.leads.right;
+  homes = are_at_homes s under.leads under.course;
+  waiting = all_true s under;
+  reads = under.reads;
+  once = under.once;
+  every = all_ran s under;
+  ends = under.leads.end;
+  some = under.some;
+}
+
+steps_go : NodesGoOn → (count : ℕ) (before after : ClusterState) → IsUnderWay before → AreSteps count before after → IsUnderWay after
+steps_go go zero before after under is = subst IsUnderWay (sym is) under
+steps_go go (suc count) before after under (between, (steps, (event, (done, step)))) =
+    step_goes go between event done after (steps_go go count before between under steps) step
+
+reached_under_way : NodesGoOn → (s : ClusterState) → IsReached s → IsUnderWay s
+reached_under_way go s reached =
+    steps_go go reached.count reached.first s
+    (turn_goes go (unbegun s.job s.setup) reached.first (unbegun_goes go s.job s.setup reached.whole reached.least reached.most) reached.new)
+    reached.steps
+
+pub stay_in_step : NodesGoOn → ClustersStayInStep
+stay_in_step go s reached = under_way_in_step s (reached_under_way go s reached)

@@ -1,0 +1,159 @@
+-- A cluster that is under way: what is true of it from event to event, from which it follows that it is in step.
+use Rattle.std.specs.Prelude.{◌≡◌, ◌≢◌, ℕ, ◌-◌, ◌≤◌, ◌<◌, nat_le, Bool, true, false, ◌&&◌, ◌||◌, List, [], ◌∷◌, ◌++◌, length, map, replicate, All, Option, Some, IfSome, IsSomeAnd, slice_get}
+use Rattle.std.specs.List.{flat_map, list_any}
+use Rattle.std.specs.Option.{is_some, option_map_or}
+use Rattle.nim_base.specs.declared.number.Worker.{Worker}
+use Rattle.nim_message.specs.declared.order.ToWorker.{ToWorker}
+use Rattle.nim_message.specs.declared.report.FromWorker.{FromWorker}
+use Rattle.nim_message.specs.declared.report.FromWorker.TheVariants.{Ran}
+use Rattle.nim_message.specs.Orders.{session_of}
+use Rattle.nim_order.specs.Progress.{is_one_of}
+use Rattle.nim_schedule.specs.declared.event.Event.{Event}
+use Rattle.nim_job.specs.declared.job.Job.{Job}
+use Rattle.nim_job.specs.Whole.{is_whole}
+use Rattle.nim_course.specs.declared.outcome.Outcome.TheVariants.{Done, NoWorker}
+use Rattle.nim_course.specs.declared.pending.Pending.{Pending}
+use Rattle.nim_course.specs.declared.pending.Pending.TheVariants.{Begin}
+use Rattle.nim_course.specs.declared.setup.Setup.{Setup}
+use Rattle.nim_course.specs.Controller.{Controller, Flight}
+use Rattle.nim_course.specs.Directed.{orders_to}
+use Rattle.nim_course.specs.Leads.{Leads, position_run}
+use Rattle.nim_history.specs.History.{Asked, IsHistory, WorkerState, asked_at, orders_in, state_of}
+use Rattle.nim_history.specs.InTurn.{MayAllComplete, is_reset}
+use Rattle.nim_history.specs.Truth.{IsHandedTruth}
+use Rattle.nim_lockstep.specs.declared.ran.Ran.{Ran as ran_type}
+use Rattle.nim_lockstep.specs.Cluster.{Batched, ClusterState, Node, unbegun}
+use Rattle.nim_lockstep.specs.Events.{HasTurned, is_enabled, passed}
+use Rattle.nim_lockstep.specs.InStep.{AreOnce, HasTruth, ReadsByOrder, has_run}
+
+-- ---- runs and their places
+
+-- the position of the task that the command at a place of a worker's session runs, if it runs one
+abbrev pub position_at : WorkerState → ℕ → List ℕ
+position_at state place =
+    option_map_or (λ (asked : Asked). position_run asked.command.kind) (asked_at state.session.groups place) []
+
+-- the same of orders
+abbrev pub run_placed : List ToWorker → ℕ → List ℕ
+run_placed orders place =
+    option_map_or (λ (asked : Asked). position_run asked.command.kind) (asked_at (session_of orders).groups place) []
+
+-- the positions of runs, in order
+abbrev pub positions_of : List ran_type → List ℕ
+positions_of runs = map (λ (ran : ran_type). ran.position) runs
+
+-- ---- one worker
+
+-- A batch that is out: no Reset came since, it has some commands, and they may be completed in turn; its runs are theirs,
+-- in order, and each of them read what program order names.
+pub record IsBatchRight (job : Job) (number : ℕ) (state : WorkerState) (b : Batched) : Type 0 where
+  pub fresh : b.stale ≡ false
+  pub some : b.places ≢ []
+  pub may : MayAllComplete state b.places
+  pub runs : positions_of b.runs ≡ flat_map (position_at state) b.places
+  pub workers : All (λ (ran : ran_type). ran.worker.0 ≡ number) b.runs
+  pub epochs : All (λ (ran : ran_type). ran.epoch ≡ 0) b.runs
+  pub reads : All (ReadsByOrder job) b.runs
+
+-- a Run that is reported was performed
+abbrev pub IsTold : List ran_type → FromWorker → Type 0
+IsTold trace (Ran epoch position reads) = has_run trace position ≡ true
+IsTold trace report = Unit {0}
+
+-- A worker is under way behind these orders: it took the front of them and the rest waits, it was handed what is true of
+-- the job, and so is what it gave; each Run that it reports was performed.
+pub record IsNodeUnderWay (job : Job) (workers number : ℕ) (trace : List ran_type) (sent : List ToWorker) (node : Node) : Type 0 where
+  pub link : orders_in node.happened ++ node.orders ≡ sent
+  pub history : IsHistory node.happened
+  pub handed : IsHandedTruth job node.happened
+  pub senders : length node.frames ≡ workers
+  pub waiting : HasTruth job node
+  pub told : All (IsTold trace) node.reports
+  pub batch : IfSome node.batch (IsBatchRight job number (state_of node.happened))
+
+-- all workers are under way
+pub record AreUnderWay (s : ClusterState) : Type 0 where
+  pub nodes : length s.nodes ≡ s.setup.workers
+  pub each : (number : ℕ) (node : Node) → slice_get s.nodes number ≡ Some node
+      → IsNodeUnderWay s.job s.setup.workers number s.trace (orders_to number s.put) node
+
+-- a Run of the trace is one of a command that its worker completed, in epoch 0
+pub record IsDoneBy (ran : ran_type) (node : Node) : Type 0 where
+  pub place : ℕ
+  pub complete : is_one_of (state_of node.happened).ran place ≡ true
+  pub runs : position_at (state_of node.happened) place ≡ ran.position ∷ []
+
+pub record IsDone (nodes : List Node) (ran : ran_type) : Type 0 where
+  pub epoch : ran.epoch ≡ 0
+  pub by : IsSomeAnd (slice_get nodes ran.worker.0) (IsDoneBy ran)
+
+-- ---- the controller
+
+-- orders begin one epoch: the first is its Reset, and there is no other; before it is begun there are none
+abbrev pub BeginOnce : Pending → List ToWorker → Type 0
+BeginOnce Begin orders = orders ≡ []
+BeginOnce pending [] = ⊥
+BeginOnce pending (order ∷ orders) = (is_reset order ≡ true) × All (λ order. is_reset order ≡ false) orders
+
+-- whether the run of the task at a position is awaited by an instance in flight
+abbrev pub is_awaited_in : ℕ → Flight → Bool
+is_awaited_in position flight =
+    nat_le flight.base position
+    && option_map_or (λ (run : Option Worker). is_some run) (slice_get flight.runs (position - flight.base)) false
+
+-- each task that was given is awaited or was run
+abbrev pub AreAccounted : Controller → List ran_type → Type 0
+AreAccounted c trace =
+    (position : ℕ) → position < c.position
+    → (list_any (is_awaited_in position) c.flight || has_run trace position) ≡ true
+
+-- A controller is in its first epoch, and all its workers are live.
+pub record IsOnCourse (s : ClusterState) : Type 0 where
+  pub live : s.control.live ≡ replicate s.setup.workers true
+  pub place : s.control.place ≡ s.setup.place
+  pub epoch : s.control.epoch ≡ 0
+  pub once : (number : ℕ) → number < s.setup.workers → BeginOnce s.control.pending (orders_to number s.put)
+
+-- A cluster is under way.
+pub record IsUnderWay (s : ClusterState) : Type 0 where
+  pub least : 1 ≤ s.setup.workers
+  pub most : s.setup.workers ≤ 16
+  pub leads : Leads s.job s.control s.put
+  pub course : IsOnCourse s
+  pub nodes : AreUnderWay s
+  pub accounted : AreAccounted s.control s.trace
+  pub settled : s.control.outcome ≡ Some Done → s.control.flight ≡ []
+  pub some : s.control.outcome ≢ Some NoWorker
+  pub done : All (IsDone s.nodes) s.trace
+  pub reads : All (ReadsByOrder s.job) s.trace
+  pub once : AreOnce s.trace
+
+-- ---- what the two halves of the proof give each other
+
+-- No position stands at two places: of commands that two workers are asked for, or one at two places.
+abbrev pub AreApart : ClusterState → Type 0
+AreApart s =
+    (one other : ℕ) → one < s.setup.workers → other < s.setup.workers → (place there position : ℕ)
+    → run_placed (orders_to one s.put) place ≡ position ∷ []
+    → run_placed (orders_to other s.put) there ≡ position ∷ []
+    → (one ≡ other) × (place ≡ there)
+
+-- Workers and their links from event to event.
+pub record NodesGoOn : Type 0 where
+  -- they are under way at first
+  pub starts : (job : Job) (setup : Setup) → is_whole job ≡ true → AreUnderWay (unbegun job setup)
+  -- and behind a turn of the controller
+  pub turned : (before after : ClusterState) → AreUnderWay before → HasTurned before after → AreUnderWay after
+  pub done_turned : (before after : ClusterState) → HasTurned before after → All (IsDone before.nodes) before.trace
+      → All (IsDone after.nodes) after.trace
+  -- and behind what an enabled event does before the turn
+  pub moved : (s : ClusterState) (event : Event) → IsUnderWay s → is_enabled s event ≡ true
+      → AreUnderWay (passed s event)
+  pub done : (s : ClusterState) (event : Event) → IsUnderWay s → is_enabled s event ≡ true
+      → All (IsDone (passed s event).nodes) (passed s event).trace
+  pub reads : (s : ClusterState) (event : Event) → IsUnderWay s → is_enabled s event ≡ true
+      → All (ReadsByOrder s.job) (passed s event).trace
+  -- a run that a worker was asked for so far stands at the same place in all orders
+  pub placed : (s : ClusterState) (number : ℕ) (node : Node) → IsUnderWay s → slice_get s.nodes number ≡ Some node
+      → (place position : ℕ) → position_at (state_of node.happened) place ≡ position ∷ []
+      → run_placed (orders_to number s.put) place ≡ position ∷ []
