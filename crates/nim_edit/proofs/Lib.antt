@@ -1,0 +1,11 @@
+pub mod Built
+pub mod ByRule
+pub mod Cells
+pub mod Effects
+pub mod Examples
+pub mod Forms
+pub mod Masks
+pub mod Migrations
+pub mod Owners
+pub mod Puts
+pub mod Runs

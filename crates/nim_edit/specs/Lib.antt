@@ -1,0 +1,6 @@
+pub mod Cells
+pub mod Form
+pub mod Halves
+pub mod Masks
+pub mod Moves
+pub mod Refusals
