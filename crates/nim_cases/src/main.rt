@@ -4,7 +4,9 @@
 
 mod case;
 mod faults;
+mod made;
 mod run;
+mod trace;
 mod wanted;
 
 use case::Cases;

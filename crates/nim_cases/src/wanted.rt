@@ -19,9 +19,15 @@ impl Wanted {
         })
     }
 
-    /// What a heading says: `FILE: accepted`, `FILE: driver line 4 rule 47` (or of `data`), or `words: refused`.
-    pub fn of_heading(alloc: Global, said: &str) -> Result<Wanted, FileFault> {
+    /// What a heading says: `FILE: accepted`, `FILE: driver line 4 rule 47` (or of `data` or `schedule`),
+    /// `words: refused`, or `the same`, which is what the sections say.
+    pub fn of_heading(
+        alloc: Global,
+        said: &str,
+        sections: &[Section],
+    ) -> Result<Wanted, FileFault> {
         let (status, out, err) = match said {
+            "the same" => return Wanted::of_sections(alloc, sections),
             "accepted" => (0, "accepted\n", String::new(alloc)),
             "refused" => (1, "", String::from_str(alloc, "nimbus: words refused\n")?),
             _ => (2, "", format!(in alloc; "nimbus: {said}\n")?),

@@ -1,11 +1,12 @@
 -- What holds of the files that words name, from what holds of each.
 use Rattle.std.proofs.Common.{ℕ, Option, None, Some, List}
 use Rattle.std.specs.Prelude.{IsSomeAnd}
-use Rattle.nim_top.specs.Answer.{OfFile, OfFiles, bytes_in}
 use Rattle.clap.specs.Words.{Text}
-use Rattle.nim_top.specs.Words.{data_given, driver_name}
+use Rattle.nim_top.specs.Texts.{OfFile, OfTexts, Texts, bytes_in, texts}
+use Rattle.nim_top.specs.Words.{data_given, driver_name, schedule_given}
+use Rattle.nim_top.specs.declared.verb.Verb.{Verb}
 
-abbrev Told : Type 0
+abbrev pub Told : Type 0
 Told = Option (List (List ℕ × List ℕ))
 
 -- what follows of the bytes of a file holds of the file
@@ -16,8 +17,11 @@ file_more (Some files) name P Q more tells = found (bytes_in name files) P Q mor
   found None P Q more tells = tells
   found (Some bytes) P Q more tells = more bytes tells
 
--- what follows of the bytes of both files holds of the files
-pub files_more : (told : Told) (words : List Text) (P Q : List ℕ → List ℕ → Type 0) → ((driver file : List ℕ) → P driver file → Q driver file)
-    → OfFiles told words P → OfFiles told words Q
-files_more told words P Q more =
-    file_more told (Some (driver_name words)) _ _ (λ driver. file_more told (data_given words) (P driver) (Q driver) (more driver))
+-- what follows of the bytes of all three files holds of the files
+pub texts_more : (told : Told) (verb : Verb) (words : List Text) (P Q : Texts → Type 0) → ((t : Texts) → P t → Q t) → OfTexts told verb words P → OfTexts told verb words Q
+texts_more told verb words P Q more =
+    file_more told (Some (driver_name verb words)) _ _
+    (λ driver. file_more told (data_given verb words) _ _
+    (λ data_file. file_more told (schedule_given verb words)
+    (λ schedule. P (texts driver data_file schedule)) (λ schedule. Q (texts driver data_file schedule))
+    (λ schedule. more (texts driver data_file schedule))))

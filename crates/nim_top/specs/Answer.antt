@@ -1,71 +1,42 @@
--- What a command answers: which files it reads, how it may end, and what is told of that.
-use Rattle.std.specs.Prelude.{◌≡◌, ℕ, ◌⊎◌, ◌<◌, true, false, Option, None, Some, List, [], ◌∷◌, ◌==◌, codes, decimal, if◌then◌else◌, length, ◌++◌, string_bytes, IfSome, IsSomeAnd, Result, Ok, Err}
+-- What a command answers: how it may end, what is told of that, and the cluster that it leaves behind.
+use Rattle.std.specs.Prelude.{◌≡◌, ℕ, ◌⊎◌, Bool, true, false, ◌||◌, Option, None, Some, List, [], ◌∷◌, ◌==◌, codes, if◌then◌else◌, ◌++◌, string_bytes, IsSomeAnd}
 use Rattle.std.specs.Io.KnownBytes.{Appends}
 use Rattle.nim_io.specs.Counts.{Rose}
-use Rattle.nim_io.specs.Files.{content}
 use Rattle.nim_io.specs.Sink.{AppendsFront}
-use Rattle.nim_check.specs.Faults.{FileRefusal, TellsFile}
-use Rattle.nim_check.specs.Refusals.{job_from, refused}
-use Rattle.nim_check.specs.declared.fault.Input.{Input}
-use Rattle.nim_check.specs.declared.fault.Input.TheVariants.{Driver, Data}
-use Rattle.nim_check.specs.declared.fault.ReadFault.{ReadFault}
-use Rattle.nim_check.specs.declared.fault.ReadFault.TheVariants.{At, NoMemory}
-use Rattle.nim_job.specs.declared.job.Job.{Job}
+use Rattle.nim_schedule.specs.Schedule.{schedule_of}
+use Rattle.nim_check.specs.Refusals.{job_from}
 use Rattle.nim_job.specs.Serial.{Ending, serial_of}
+use Rattle.nim_course.specs.declared.outcome.Outcome as course
+use Rattle.nim_course.specs.declared.outcome.Outcome.TheVariants as came
+use Rattle.nim_course.specs.declared.setup.Setup.{Setup}
+use Rattle.nim_lockstep.specs.Cluster.{ClusterState}
+use Rattle.nim_lockstep.specs.InStep.{IsInStep}
+use Rattle.nim_lockstep.specs.Schedules.{IsRunBy}
+use Rattle.nim_cluster.specs.declared.cluster.Cluster.{Cluster}
+use Rattle.nim_cluster.specs.Stands.{Stands}
 use Rattle.clap.specs.Words.{Text}
-use Rattle.nim_top.specs.Words.{data_given, driver_name, is_accepted}
-use Rattle.nim_top.specs.declared.load.FileText.{FileText}
-use Rattle.nim_top.specs.declared.load.FileText.TheVariants.{Whole, TooLong}
-use Rattle.nim_top.specs.declared.load.Inputs.{Inputs}
+use Rattle.nim_top.specs.Texts.{FileRefusal, OfTexts, Texts, refusal_line, refusal_of}
+use Rattle.nim_top.specs.Words.{is_accepted, setup_of}
 use Rattle.nim_top.specs.declared.status.Outcome.{Outcome}
 use Rattle.nim_top.specs.declared.status.Outcome.TheVariants as outcome
+use Rattle.nim_top.specs.declared.verb.Verb.{Verb}
+use Rattle.nim_top.specs.declared.verb.Verb.TheVariants.{Check, Replay}
 
--- ---- the files that words name
-
--- the bytes of a file in a list of files; one that isn't named is empty
-abbrev pub bytes_in : Option Text → List (List ℕ × List ℕ) → Option (List ℕ)
-bytes_in None files = Some []
-bytes_in (Some name) files = content name files
-
--- where files are told, one has this name, if there is a name, and its bytes meet P
-abbrev pub OfFile : Option (List (List ℕ × List ℕ)) → Option Text → (List ℕ → Type 0) → Type 0
-OfFile told name P = IfSome told (λ files. IsSomeAnd (bytes_in name files) P)
-
--- where files are told, they have the driver and the data that the words name, and the bytes of both meet P
-abbrev pub OfFiles : Option (List (List ℕ × List ℕ)) → List Text → (List ℕ → List ℕ → Type 0) → Type 0
-OfFiles told words P = OfFile told (Some (driver_name words)) (λ driver. OfFile told (data_given words) (P driver))
-
--- what was read of a file of this text, of which at most so many bytes are wanted
-abbrev pub IsOf : ℕ → FileText → List ℕ → Type 0
-IsOf most (Whole bytes) text = text ≡ bytes.items
-IsOf most TooLong text = most < length text
-
--- what was read of a driver and its data
-abbrev pub AreOf : Inputs → List ℕ → List ℕ → Type 0
-AreOf inputs driver file = IsOf 1048576 inputs.driver driver × IsOf 33554432 inputs.data_file file
-
--- ---- what a driver and its data stand for
-
--- what a command makes of a driver and its data: why it refuses them, if it does; and if not, its status and its bytes
-pub record Meaning : Type 0 where
-  pub refusal : List ℕ → List ℕ → Option FileRefusal
-  pub ending : List ℕ → List ℕ → Ending
+-- ---- what a command makes of files
 
 -- a line of text
 abbrev pub line_of : List ℕ → List ℕ
 line_of text = text ++ 10 ∷ []
 
--- `check` says that it accepts them
-abbrev pub checked : Meaning
-checked = record { refusal = refused; ending = λ driver file. record { status = 0; bytes = line_of (codes "accepted") } }
-
--- `replay` does the job of the driver and its data: its tasks run one by one
-abbrev pub replayed : Meaning
-replayed = record { refusal = refused; ending = λ driver file. serial_of (job_from driver file) }
+-- The status and the bytes that a command gives for files that aren't refused: `check` says that it accepts them, and
+-- `replay` does the job of the driver and its data, as if its tasks ran one by one.
+abbrev pub ending_of : Verb → Texts → Ending
+ending_of Check t = record { status = 0; bytes = line_of (codes "accepted") }
+ending_of Replay t = serial_of (job_from t.driver t.data_file)
 
 -- nothing is refused, and this is the status
-abbrev pub Comes : Meaning → ℕ → List ℕ → List ℕ → Type 0
-Comes meaning status driver file = (meaning.refusal driver file ≡ None) × ((meaning.ending driver file).status ≡ status)
+abbrev pub Comes : Verb → ℕ → Texts → Type 0
+Comes verb status t = (refusal_of t ≡ None) × ((ending_of verb t).status ≡ status)
 
 -- ---- how a command ends
 
@@ -88,44 +59,48 @@ IsFaultless old new = (new.read_faults ≡ old.read_faults) × (new.write_faults
 abbrev pub IsSilent : Outside → Outside → Type 0
 IsSilent old new = Appends old.written new.written []
 
--- the line that tells a refusal
-abbrev pub input_name : Input → List ℕ
-input_name Driver = codes "driver"
-input_name Data = codes "data"
-
-abbrev pub refusal_line : FileRefusal → List ℕ
-refusal_line refusal =
-    codes "nimbus: " ++ (input_name refusal.input ++ (codes " line " ++ (decimal refusal.refusal.line ++ (codes " rule " ++ (decimal refusal.refusal.rule ++ 10 ∷ [])))))
-
 -- the line tells the refusal of the files
-abbrev pub TellsRefusal : Meaning → Outside → List Text → List ℕ → Type 0
-TellsRefusal meaning old words line =
-    (refusal : FileRefusal) × (line ≡ refusal_line refusal) × OfFiles old.told words (λ driver file. meaning.refusal driver file ≡ Some refusal)
+abbrev pub TellsRefusal : Outside → Verb → List Text → List ℕ → Type 0
+TellsRefusal old verb words line =
+    (refusal : FileRefusal) × (line ≡ refusal_line refusal)
+    × OfTexts old.told verb words (λ t. refusal_of t ≡ Some refusal)
+
+-- a run may come to a point where nothing may happen next; nothing else may
+abbrev pub does_run : Verb → Bool
+does_run Check = false
+does_run Replay = true
 
 -- all that holds where a command ends in this way
-abbrev pub Ends : Meaning → Text → List Text → Outside → Outside → Outcome → Type 0
+abbrev pub Ends : Verb → List Text → Outside → Outside → Outcome → Type 0
 -- the words are none of the command
-Ends meaning command words old new outcome.Words = (is_accepted command words ≡ false) × IsFaultless old new × IsSilent old new
+Ends verb words old new outcome.Words = (is_accepted verb words ≡ false) × IsFaultless old new × IsSilent old new
 -- want of memory hides no fault
-Ends meaning command words old new outcome.Memory = IsFaultless old new × IsSilent old new
+Ends verb words old new outcome.Memory = IsFaultless old new × IsSilent old new
 -- a file couldn't be read
-Ends meaning command words old new outcome.Read =
-    (is_accepted command words ≡ true) × Rose old.read_faults new.read_faults × (new.write_faults ≡ old.write_faults) × IsSilent old new
+Ends verb words old new outcome.Read =
+    (is_accepted verb words ≡ true) × Rose old.read_faults new.read_faults × (new.write_faults ≡ old.write_faults)
+    × IsSilent old new
 -- a file is refused
-Ends meaning command words old new (outcome.Refused line) =
-    (is_accepted command words ≡ true) × TellsRefusal meaning old words (string_bytes line) × IsFaultless old new × IsSilent old new
+Ends verb words old new (outcome.Refused line) =
+    (is_accepted verb words ≡ true) × TellsRefusal old verb words (string_bytes line) × IsFaultless old new
+    × IsSilent old new
 -- the job passes its limits
-Ends meaning command words old new outcome.Limit =
-    (is_accepted command words ≡ true) × OfFiles old.told words (Comes meaning 4) × IsFaultless old new × IsSilent old new
+Ends verb words old new outcome.Limit =
+    (is_accepted verb words ≡ true) × OfTexts old.told verb words (Comes verb 4) × IsFaultless old new
+    × IsSilent old new
+-- no event is enabled, and the job hasn't ended
+Ends verb words old new outcome.Stalled =
+    (is_accepted verb words ≡ true) × (does_run verb ≡ true) × OfTexts old.told verb words (λ t. refusal_of t ≡ None)
+    × IsFaultless old new × IsSilent old new
 -- all is done, and all its bytes are written
-Ends meaning command words old new outcome.Done =
-    (is_accepted command words ≡ true)
-    × OfFiles old.told words (λ driver file. Comes meaning 0 driver file × Appends old.written new.written (meaning.ending driver file).bytes)
+Ends verb words old new outcome.Done =
+    (is_accepted verb words ≡ true)
+    × OfTexts old.told verb words (λ t. Comes verb 0 t × Appends old.written new.written (ending_of verb t).bytes)
     × IsFaultless old new
 -- the output couldn't be written, and the front of its bytes is
-Ends meaning command words old new outcome.Write =
-    (is_accepted command words ≡ true)
-    × OfFiles old.told words (λ driver file. Comes meaning 0 driver file × AppendsFront old.written new.written (meaning.ending driver file).bytes)
+Ends verb words old new outcome.Write =
+    (is_accepted verb words ≡ true)
+    × OfTexts old.told verb words (λ t. Comes verb 0 t × AppendsFront old.written new.written (ending_of verb t).bytes)
     × (new.read_faults ≡ old.read_faults) × Rose old.write_faults new.write_faults
 
 -- ---- what is told of that
@@ -139,6 +114,7 @@ status_of outcome.Memory = 3
 status_of outcome.Limit = 4
 status_of outcome.Read = 6
 status_of outcome.Write = 7
+status_of outcome.Stalled = 9
 
 -- the line of a status on standard error; 0 has none, and that of 2 tells the refusal
 abbrev pub status_text : ℕ → List ℕ
@@ -148,7 +124,8 @@ status_text status =
     else (if status == 4 then line_of (codes "nimbus: limit")
     else (if status == 6 then line_of (codes "nimbus: read fault")
     else (if status == 7 then line_of (codes "nimbus: write fault")
-    else []))))
+    else (if status == 9 then line_of (codes "nimbus: stalled")
+    else [])))))
 
 -- what is told on standard error
 abbrev pub text_of : Outcome → List ℕ
@@ -159,46 +136,44 @@ text_of outcome.Memory = status_text 3
 text_of outcome.Limit = status_text 4
 text_of outcome.Read = status_text 6
 text_of outcome.Write = status_text 7
+text_of outcome.Stalled = status_text 9
 
 -- this text was told, or the front of it where a fault came
 abbrev pub Tells : Option (List ℕ) → Option (List ℕ) → ℕ → ℕ → List ℕ → Type 0
-Tells old new old_faults new_faults text = Appends old new text ⊎ (Rose old_faults new_faults × AppendsFront old new text)
+Tells old new old_faults new_faults text =
+    Appends old new text ⊎ (Rose old_faults new_faults × AppendsFront old new text)
 
 -- A top call: it ended in one of the ways, with that status, and told it.
-abbrev pub Answers : Meaning → Text → List Text → Outside → Outside → (List ℕ → Type 0) → ℕ → Type 0
-Answers meaning command words old new IsTold status =
-    (outcome : Outcome) × (status ≡ status_of outcome) × Ends meaning command words old new outcome × IsTold (text_of outcome)
+abbrev pub Answers : Verb → List Text → Outside → Outside → (List ℕ → Type 0) → ℕ → Type 0
+Answers verb words old new IsTold status =
+    (way : Outcome) × (status ≡ status_of way) × Ends verb words old new way × IsTold (text_of way)
 
--- ---- on the way
+-- ---- what a run leaves behind
 
--- why no files were loaded
-abbrev pub IsUnloaded : Text → List Text → ℕ → ℕ → Outcome → Type 0
-IsUnloaded command words old new outcome.Words = (is_accepted command words ≡ false) × (new ≡ old)
-IsUnloaded command words old new outcome.Memory = new ≡ old
-IsUnloaded command words old new outcome.Read = (is_accepted command words ≡ true) × Rose old new
-IsUnloaded command words old new _ = ⊥
+-- whether a command that ended with this status has run a job
+abbrev pub has_run : ℕ → Bool
+has_run status = (status == 0) || ((status == 4) || ((status == 7) || (status == 9)))
 
--- why a file wasn't read
-abbrev pub IsUnread : ℕ → ℕ → Outcome → Type 0
-IsUnread old new outcome.Memory = new ≡ old
-IsUnread old new outcome.Read = Rose old new
-IsUnread old new _ = ⊥
+-- how the job ended then: it is done, it passes its limits, or it hasn't ended
+abbrev pub came_to : ℕ → Option course.Outcome
+came_to status =
+    if (status == 0) || (status == 7) then Some came.Done else (if status == 4 then Some came.Limit else None)
 
--- what reading gave is the job of a driver and its data, or why they are refused
-abbrev pub Reads : List ℕ → List ℕ → Result Job ReadFault → Type 0
-Reads driver file (Ok job) = (refused driver file ≡ None) × (job ≡ job_from driver file)
-Reads driver file (Err fault) = TellsFile (refused driver file) fault
+-- A cluster of the job of these files, in which events were given that follow the schedule: it stayed in step with
+-- program order, and came to the end of this status.
+pub record IsRun (t : Texts) (setup : Setup) (status : ℕ) (cluster : Cluster) : Type 0 where
+  pub state : ClusterState
+  pub run : IsRunBy (job_from t.driver t.data_file) setup (schedule_of t.schedule) state
+  pub stands : Stands cluster state
+  pub in_step : IsInStep state
+  pub ended : state.control.outcome ≡ came_to status
 
--- the outcome tells why files are refused, unless memory was refused
-abbrev pub IsLine : ReadFault → Outcome → Type 0
-IsLine (At input refusal) (outcome.Refused text) = string_bytes text ≡ refusal_line (record { input = input; refusal = refusal })
-IsLine _ outcome.Memory = Unit {0}
-IsLine _ _ = ⊥
+-- what is kept where a job was run, and where none was
+abbrev pub KeepsIf : Bool → Option (List (List ℕ × List ℕ)) → List Text → ℕ → Option Cluster → Option Cluster → Type 0
+KeepsIf true told words status old new =
+    OfTexts told Replay words (λ t. IsSomeAnd new (IsRun t (setup_of Replay words) status))
+KeepsIf false told words status old new = new ≡ old
 
--- the job ended so, and its bytes were written, or the front of them where a fault came
-abbrev pub Finishes : Ending → Option (List ℕ) → Option (List ℕ) → ℕ → ℕ → Outcome → Type 0
-Finishes ending old new old_faults new_faults outcome.Done = (ending.status ≡ 0) × Appends old new ending.bytes × (new_faults ≡ old_faults)
-Finishes ending old new old_faults new_faults outcome.Write = (ending.status ≡ 0) × AppendsFront old new ending.bytes × Rose old_faults new_faults
-Finishes ending old new old_faults new_faults outcome.Limit = (ending.status ≡ 4) × Appends old new [] × (new_faults ≡ old_faults)
-Finishes ending old new old_faults new_faults outcome.Memory = Appends old new [] × (new_faults ≡ old_faults)
-Finishes ending old new old_faults new_faults _ = ⊥
+-- `replay` keeps its cluster, and where no job was run what was kept before.
+abbrev pub Keeps : Option (List (List ℕ × List ℕ)) → List Text → ℕ → Option Cluster → Option Cluster → Type 0
+Keeps told words status old new = KeepsIf (has_run status) told words status old new

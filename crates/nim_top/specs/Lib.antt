@@ -1,6 +1,4 @@
 pub mod Answer
-pub mod Carries
-pub mod Controls
-pub mod Leads
-pub mod Orders
+pub mod Parts
+pub mod Texts
 pub mod Words

@@ -1,12 +1,21 @@
--- The words of the command line that are accepted. The first word is the command; what stands behind it is taken apart by
--- clap, and then each file's name is tested.
-use Rattle.std.specs.Prelude.{ℕ, ◌==◌, Bool, true, false, not, ◌&&◌, List, [], ◌∷◌, Option, None, Some, String, map, drop, length, unwrap_or, codes, string_bytes}
+-- The words of the command line that are accepted. The first word is the command; what stands behind it is taken apart
+-- by clap, and then each value is tested.
+use Rattle.std.specs.Prelude.{ℕ, ◌==◌, nat_le, nat_lt, Bool, true, false, not, ◌&&◌, if◌then◌else◌, List, [], ◌∷◌, Option, None, Some, String, map, drop, take, length, unwrap_or, codes, string_bytes}
 use Rattle.std.specs.Borrow.{Bor}
-use Rattle.std.specs.Option.{option_map}
+use Rattle.std.specs.Char.{is_ascii_digit}
+use Rattle.std.specs.List.{list_all}
+use Rattle.std.specs.Option.{is_some, option_and_then, option_map}
 use Rattle.std.specs.Str.{bytes_eq}
 use Rattle.std.specs.declared.alloc.Global.{Global}
 use Rattle.clap.specs.Words.{App, Kinds, Row, Rule, Text, fault_of, first_of, matches_of, new_app, new_rule, with_rule}
 use Rattle.clap.specs.Simple.{on_top}
+use Rattle.nim_lex.specs.Numbers.{number_of}
+use Rattle.nim_schedule.specs.Words.{is_short}
+use Rattle.nim_place.specs.declared.placement.Placement.{Placement}
+use Rattle.nim_place.specs.declared.placement.Placement.TheVariants.{Cyclic, Block, Mixed}
+use Rattle.nim_course.specs.declared.setup.Setup.{Setup}
+use Rattle.nim_top.specs.declared.verb.Verb.{Verb}
+use Rattle.nim_top.specs.declared.verb.Verb.TheVariants.{Check, Replay}
 
 -- the words as their bytes
 abbrev pub texts_of : List (String Global) → List (List ℕ)
@@ -28,19 +37,41 @@ positional_rule name = record (new_rule name) { required = true }
 
 -- a command without a name of its own, and without help and version
 abbrev pub bare_app : App
-bare_app = on_top (λ top. record top { no_binary_name = true; disable_help_flag = true; disable_version_flag = true }) (new_app (codes "nimbus"))
+bare_app =
+    on_top (λ top. record top { no_binary_name = true; disable_help_flag = true; disable_version_flag = true })
+    (new_app (codes "nimbus"))
 
--- a driver, and a data file if it is named
-abbrev pub files_app : App
-files_app = with_rule (with_rule bare_app (option_rule (codes "data"))) (positional_rule (codes "driver"))
+-- `check` takes a driver, and a data file if it is named
+abbrev pub check_app : App
+check_app = with_rule (with_rule bare_app (option_rule (codes "data"))) (positional_rule (codes "driver"))
 
--- the faults that clap finds in the words behind the command
-unfoldable pub faults : List Text → Kinds
-faults rest = fault_of files_app rest
+-- `replay` takes these, and how the job is run
+abbrev pub replay_app : App
+replay_app =
+    with_rule
+    (with_rule
+    (with_rule
+    (with_rule (with_rule bare_app (option_rule (codes "data"))) (option_rule (codes "workers")))
+    (option_rule (codes "place")))
+    (option_rule (codes "schedule")))
+    (positional_rule (codes "driver"))
+
+abbrev pub app_for : Verb → App
+app_for Check = check_app
+app_for Replay = replay_app
+
+-- the first word of a command
+abbrev pub verb_name : Verb → Text
+verb_name Check = codes "check"
+verb_name Replay = codes "replay"
+
+-- the faults that clap finds in the words behind it
+unfoldable pub faults : Verb → List Text → Kinds
+faults verb rest = fault_of (app_for verb) rest
 
 -- what clap finds there
-unfoldable pub found : List Text → List Row
-found rest = matches_of files_app rest
+unfoldable pub found : Verb → List Text → List Row
+found verb rest = matches_of (app_for verb) rest
 
 -- ---- the names of files
 
@@ -63,23 +94,84 @@ is_optional (Some name) = is_file_name name
 abbrev pub behind : List Text → List Text
 behind words = drop 1 words
 
--- the name of the driver's file, where the words have one
-abbrev pub driver_given : List Text → Option Text
-driver_given words = first_of (codes "driver") (found (behind words))
+-- the value that the words give under a name, where they do
+abbrev pub given_as : Text → Verb → List Text → Option Text
+given_as name verb words = first_of name (found verb (behind words))
 
--- the name of the data file, where the words have one
-abbrev pub data_given : List Text → Option Text
-data_given words = first_of (codes "data") (found (behind words))
+-- the name of the driver's file, of the data file and of the schedule, where the words have one
+abbrev pub driver_given : Verb → List Text → Option Text
+driver_given verb words = given_as (codes "driver") verb words
+
+abbrev pub data_given : Verb → List Text → Option Text
+data_given verb words = given_as (codes "data") verb words
+
+abbrev pub schedule_given : Verb → List Text → Option Text
+schedule_given verb words = given_as (codes "schedule") verb words
+
+-- ---- how a job is run
+
+-- 1 to 20 digits, and the number that they write
+unfoldable pub number_word : Text → Option ℕ
+number_word word = if is_short 20 word && list_all is_ascii_digit word then Some (number_of word) else None
+
+-- 1 to 16 workers
+abbrev pub workers_in : ℕ → Option ℕ
+workers_in number = if nat_le 1 number && nat_le number 16 then Some number else None
+
+-- so many workers are said, or 4
+abbrev pub workers_said : Option Text → Option ℕ
+workers_said None = Some 4
+workers_said (Some word) = option_and_then workers_in (number_word word)
+
+-- the number of a scattered placement is below 2^64
+abbrev pub mixed_by : ℕ → Option Placement
+mixed_by number = if nat_lt number 18446744073709551616 then Some (Mixed number) else None
+
+-- `cyclic`, `block`, or `mixed-` and a number
+unfoldable pub place_word : Text → Option Placement
+place_word word =
+    if bytes_eq word (codes "cyclic") then Some Cyclic
+    else (if bytes_eq word (codes "block") then Some Block
+    else (if bytes_eq (take 6 word) (codes "mixed-") then option_and_then mixed_by (number_word (drop 6 word))
+    else None))
+
+-- the placement that is said, or `cyclic`
+abbrev pub place_said : Option Text → Option Placement
+place_said None = Some Cyclic
+place_said (Some word) = place_word word
+
+-- a job is run on these workers, with this placement
+abbrev pub setup_with : ℕ → Placement → Setup
+setup_with workers place = record { workers = workers; place = place }
+
+-- how the words say that a job is run, where they do so in form
+abbrev pub setup_said : Verb → List Text → Option Setup
+setup_said verb words =
+    option_and_then
+    (λ (workers : ℕ). option_map (setup_with workers) (place_said (given_as (codes "place") verb words)))
+    (workers_said (given_as (codes "workers") verb words))
+
+abbrev pub setup_of : Verb → List Text → Setup
+setup_of verb words = unwrap_or (setup_said verb words) (setup_with 4 Cyclic)
+
+-- ---- which words are accepted
+
+-- the names of files are some
+abbrev pub are_named : Verb → List Text → Bool
+are_named verb words =
+    is_named (driver_given verb words)
+    && (is_optional (data_given verb words) && is_optional (schedule_given verb words))
 
 -- what clap found is what a command takes
-abbrev pub are_accepted : List Text → Bool
-are_accepted words = (length (faults (behind words)) == 0) && (is_named (driver_given words) && is_optional (data_given words))
+abbrev pub are_accepted : Verb → List Text → Bool
+are_accepted verb words =
+    (length (faults verb (behind words)) == 0) && (are_named verb words && is_some (setup_said verb words))
 
 -- the first word is this command, and the others are what it takes
-abbrev pub is_accepted : Text → List Text → Bool
-is_accepted command [] = false
-is_accepted command (first ∷ rest) = bytes_eq first command && are_accepted (first ∷ rest)
+abbrev pub is_accepted : Verb → List Text → Bool
+is_accepted verb [] = false
+is_accepted verb (first ∷ rest) = bytes_eq first (verb_name verb) && are_accepted verb (first ∷ rest)
 
 -- the name of the driver's file
-abbrev pub driver_name : List Text → Text
-driver_name words = unwrap_or (driver_given words) []
+abbrev pub driver_name : Verb → List Text → Text
+driver_name verb words = unwrap_or (driver_given verb words) []

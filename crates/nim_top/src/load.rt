@@ -1,10 +1,12 @@
 ghost use Rattle.std.specs.Prelude.{◌≡◌, IfErr, IfOk, true};
-ghost use Rattle.nim_io.specs.Counts.{Rose};
-ghost use Rattle.nim_top.specs.Answer.{AreOf, IsOf, IsUnloaded, IsUnread, OfFile, OfFiles};
-ghost use Rattle.nim_top.specs.Words.{is_accepted, texts_of, word_of};
+ghost use Rattle.nim_top.specs.Parts.{IsUnloaded, IsUnread};
+ghost use Rattle.nim_top.specs.Texts.{AreOf, IsOf, OfFile, OfTexts};
+ghost use Rattle.nim_top.specs.Words.{is_accepted, setup_of, texts_of, word_of};
 
 use crate::status::Outcome;
+use crate::verb::Verb;
 use crate::words::{WordsFault, given};
+use nim_course::Setup;
 use nim_io::{Files, LoadFault, read_all};
 use std::alloc::Global;
 
@@ -14,6 +16,9 @@ const DRIVER_LIMIT: usize = 1_048_576;
 /// The most bytes that a data file may have.
 const DATA_LIMIT: usize = 33_554_432;
 
+/// The most bytes that a schedule may have.
+const SCHEDULE_LIMIT: usize = 16_777_216;
+
 /// What was read of a file. One that is too long isn't refused before it is its turn.
 #[derive(Debug, Drop)]
 pub enum FileText {
@@ -21,33 +26,43 @@ pub enum FileText {
     TooLong,
 }
 
-/// What was read of a driver and of its data.
+/// How a job is run, and what was read of a driver, its data and a schedule.
 #[derive(Debug, Drop)]
 pub struct Inputs {
+    pub setup: Setup,
     pub driver: FileText,
     pub data_file: FileText,
+    pub schedule: FileText,
 }
 
-/// Reads the files that the words of this command name, first the driver. A file that isn't named is empty.
+/// Reads the files that the words of this command name: first the driver, then its data, then the schedule. A file that
+/// isn't named is empty.
 pub fn load<L: Files>(
     alloc: Global,
-    command: &str,
+    verb: Verb,
     words: &[String],
     files: &mut L,
 ) -> Result<Inputs, Outcome>
-    ensures accepted { IfOk result (λ inputs. is_accepted command.now (texts_of words.now) ≡ true) }
-    ensures inputs { IfOk result (λ inputs. OfFiles (L.told files.old) (texts_of words.now) (AreOf inputs)) }
+    ensures accepted { IfOk result (λ inputs. is_accepted verb (texts_of words.now) ≡ true) }
+    ensures setup { IfOk result (λ inputs. inputs.setup ≡ setup_of verb (texts_of words.now)) }
+    ensures inputs { IfOk result (λ inputs. OfTexts (L.told files.old) verb (texts_of words.now) (AreOf inputs)) }
     ensures quiet { IfOk result (λ inputs. L.faults files.new ≡ L.faults files.old) }
-    ensures unloaded { IfErr result (IsUnloaded command.now (texts_of words.now) (L.faults files.old) (L.faults files.new)) }
+    ensures unloaded { IfErr result (IsUnloaded verb (texts_of words.now) (L.faults files.old) (L.faults files.new)) }
 {
-    let names = match given(alloc, command, words) {
-        Ok(names) => names,
+    let request = match given(alloc, verb, words) {
+        Ok(request) => request,
         Err(WordsFault::Refused) => return Err(Outcome::Words),
         Err(WordsFault::NoMemory) => return Err(Outcome::Memory),
     };
-    let driver = load_one(alloc, files, Some(names.driver), DRIVER_LIMIT)?;
-    let data_file = load_one(alloc, files, names.data_file, DATA_LIMIT)?;
-    Ok(Inputs { driver, data_file })
+    let driver = load_one(alloc, files, Some(request.driver), DRIVER_LIMIT)?;
+    let data_file = load_one(alloc, files, request.data_file, DATA_LIMIT)?;
+    let schedule = load_one(alloc, files, request.schedule, SCHEDULE_LIMIT)?;
+    Ok(Inputs {
+        setup: request.setup,
+        driver,
+        data_file,
+        schedule,
+    })
 }
 
 // Reads one file, of which at most so many bytes are wanted.

@@ -20,6 +20,8 @@ impl Status {
     pub const READ: Status = Status(6);
     /// The output couldn't be written.
     pub const WRITE: Status = Status(7);
+    /// No event may come next, and the job hasn't ended.
+    pub const STALLED: Status = Status(9);
 
     /// What is told on standard error, a line; nothing where all is done, nor of a refusal, whose line names the place.
     pub fn text(self) -> &'static str
@@ -31,9 +33,18 @@ impl Status {
             4 => "nimbus: limit\n",
             6 => "nimbus: read fault\n",
             7 => "nimbus: write fault\n",
+            9 => "nimbus: stalled\n",
             _ => "",
         }
     }
+}
+
+/// One of the files that a command reads.
+#[derive(Clone, Copy, Debug, PartialEq, Eq)]
+pub enum InputFile {
+    Driver,
+    Data,
+    Schedule,
 }
 
 /// How a command ended, with all that is told of it. When each comes is `Ends` of `specs/Answer.antt`.
@@ -53,6 +64,8 @@ pub enum Outcome {
     Read,
     /// The output couldn't be written.
     Write,
+    /// No event may come next, and the job hasn't ended.
+    Stalled,
 }
 
 impl Outcome {
@@ -68,6 +81,7 @@ impl Outcome {
             Outcome::Limit => Status::LIMIT,
             Outcome::Read => Status::READ,
             Outcome::Write => Status::WRITE,
+            Outcome::Stalled => Status::STALLED,
         }
     }
 

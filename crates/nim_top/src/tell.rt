@@ -1,12 +1,12 @@
-ghost use Rattle.nim_top.specs.Answer.{Finishes, Tells, text_of};
+ghost use Rattle.nim_top.specs.Answer.{Tells, text_of};
+ghost use Rattle.nim_top.specs.Parts.{Prints};
 
 use crate::status::Outcome;
 use nim_io::{Sink, write_all};
 
 /// Writes what a command prints.
 pub fn print<K: Sink>(output: &[u8], out: &mut K) -> Outcome
-    ensures { Finishes (record { status = 0; bytes = output.now })
-        (K.written out.old) (K.written out.new) (K.faults out.old) (K.faults out.new) result }
+    ensures { Prints output.now (K.written out.old) (K.written out.new) (K.faults out.old) (K.faults out.new) result }
 {
     match write_all(out, output) {
         Ok(()) => Outcome::Done,
@@ -16,7 +16,8 @@ pub fn print<K: Sink>(output: &[u8], out: &mut K) -> Outcome
 
 /// Tells how a command ended.
 pub fn tell<K: Sink>(outcome: &Outcome, err: &mut K)
-    ensures { Tells (K.written err.old) (K.written err.new) (K.faults err.old) (K.faults err.new) (text_of outcome.now) }
+    ensures { Tells (K.written err.old) (K.written err.new) (K.faults err.old) (K.faults err.new)
+        (text_of outcome.now) }
 {
     let _ = write_all(err, outcome.text().as_bytes());
 }

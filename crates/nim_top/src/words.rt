@@ -1,20 +1,24 @@
 ghost use Rattle.std.specs.Prelude.{◌≡◌, ◌≢◌, [], true, false, codes, IfOk, IsErrOf, OnOk};
 ghost use Rattle.clap.specs.Words.{app_of, first_of, rule_of};
-ghost use Rattle.nim_top.specs.Words.{data_given, driver_name, faults, files_app, found, is_accepted, is_file_name, is_optional, option_rule, positional_rule, texts_of, word_of};
+ghost use Rattle.nim_top.specs.Words.{app_for, bare_app, check_app, data_given, driver_name, faults, found, is_accepted, is_file_name, is_optional, option_rule, positional_rule, replay_app, schedule_given, setup_of, texts_of, word_of};
 
+use crate::setup::setup;
+use crate::verb::Verb;
 use clap::error::ErrorKind;
 use clap::{Arg, Command};
-use nim_base::NoMemory;
+use nim_course::Setup;
 use std::alloc::{AllocError, Global};
 
-/// Which files the words of a command name.
+/// What the words of a command say: the names of the files that it reads, and how a job is run.
 #[derive(Clone, Copy)]
-pub struct FileNames<'a> {
+pub struct Request<'a> {
     pub driver: &'a str,
     pub data_file: Option<&'a str>,
+    pub schedule: Option<&'a str>,
+    pub setup: Setup,
 }
 
-/// Why the words name none.
+/// Why the words say nothing.
 #[derive(Clone, Copy, Debug, PartialEq, Eq)]
 pub enum WordsFault {
     /// They aren't in the grammar of the command.
@@ -33,30 +37,34 @@ impl From<AllocError> for WordsFault {
     }
 }
 
-/// The files that the words of this command name. The grammar of words is `is_accepted` of `specs/Words.antt`.
-pub fn given<'a>(
-    alloc: Global,
-    command: &str,
-    words: &'a [String],
-) -> Result<FileNames<'a>, WordsFault>
-    ensures accepted { OnOk result (is_accepted command.now (texts_of words.now) ≡ true) }
-    ensures refused { IsErrOf result WordsFault.Refused → is_accepted command.now (texts_of words.now) ≡ false }
-    ensures driver { IfOk result (λ names. names.driver.now ≡ driver_name (texts_of words.now)) }
-    ensures data { IfOk result (λ names. word_of names.data_file ≡ data_given (texts_of words.now)) }
+/// What the words of this command say. Which are accepted is `is_accepted` of `specs/Words.antt`.
+pub fn given<'a>(alloc: Global, verb: Verb, words: &'a [String]) -> Result<Request<'a>, WordsFault>
+    ensures accepted { OnOk result (is_accepted verb (texts_of words.now) ≡ true) }
+    ensures refused { IsErrOf result WordsFault.Refused → is_accepted verb (texts_of words.now) ≡ false }
+    ensures driver { IfOk result (λ request. request.driver.now ≡ driver_name verb (texts_of words.now)) }
+    ensures data { IfOk result (λ request. word_of request.data_file ≡ data_given verb (texts_of words.now)) }
+    ensures schedule { IfOk result (λ request. word_of request.schedule ≡ schedule_given verb (texts_of words.now)) }
+    ensures setup { IfOk result (λ request. request.setup ≡ setup_of verb (texts_of words.now)) }
 {
     let Some((first, rest)) = words.split_first() else {
         return Err(WordsFault::Refused);
     };
-    if first.as_str() != command {
+    if first.as_str() != verb.name() {
         return Err(WordsFault::Refused);
     }
-    let Found { driver, data_file } = parse(alloc, rest)?;
-    match driver {
-        Some(driver) if is_file_name(driver) && is_optional(data_file) => Ok(FileNames {
+    let found = parse(alloc, verb, rest)?;
+    let (Some(driver), Some(setup)) = (found.driver, setup(found.workers, found.place)) else {
+        return Err(WordsFault::Refused);
+    };
+    if is_file_name(driver) && is_optional(found.data_file) && is_optional(found.schedule) {
+        Ok(Request {
             driver,
-            data_file,
-        }),
-        _ => Err(WordsFault::Refused),
+            data_file: found.data_file,
+            schedule: found.schedule,
+            setup,
+        })
+    } else {
+        Err(WordsFault::Refused)
     }
 }
 
@@ -80,41 +88,84 @@ fn is_optional(word: Option<&str>) -> bool
     }
 }
 
-// What clap finds behind the command, before the names are tested.
+// What clap finds behind the command, before it is tested.
 #[derive(Clone, Copy)]
 struct Found<'a> {
     driver: Option<&'a str>,
     data_file: Option<&'a str>,
+    schedule: Option<&'a str>,
+    workers: Option<&'a str>,
+    place: Option<&'a str>,
 }
 
 // Takes the words behind the command apart.
 #[tactic(auto, unfolding(crate::specs::Words::faults, crate::specs::Words::found))]
-fn parse<'a>(alloc: Global, rest: &'a [String]) -> Result<Found<'a>, WordsFault>
-    ensures taken { OnOk result (faults (texts_of rest.now) ≡ []) }
-    ensures refused { IsErrOf result WordsFault.Refused → faults (texts_of rest.now) ≢ [] }
-    ensures driver { IfOk result (λ words. word_of words.driver ≡ first_of (codes "driver") (found (texts_of rest.now))) }
-    ensures data { IfOk result (λ words. word_of words.data_file ≡ first_of (codes "data") (found (texts_of rest.now))) }
+fn parse<'a>(alloc: Global, verb: Verb, rest: &'a [String]) -> Result<Found<'a>, WordsFault>
+    ensures taken { OnOk result (faults verb (texts_of rest.now) ≡ []) }
+    ensures refused { IsErrOf result WordsFault.Refused → faults verb (texts_of rest.now) ≢ [] }
+    ensures driver { IfOk result (λ words. word_of words.driver
+        ≡ first_of (codes "driver") (found verb (texts_of rest.now))) }
+    ensures data { IfOk result (λ words. word_of words.data_file
+        ≡ first_of (codes "data") (found verb (texts_of rest.now))) }
+    ensures schedule { IfOk result (λ words. word_of words.schedule
+        ≡ first_of (codes "schedule") (found verb (texts_of rest.now))) }
+    ensures workers { IfOk result (λ words. word_of words.workers
+        ≡ first_of (codes "workers") (found verb (texts_of rest.now))) }
+    ensures place { IfOk result (λ words. word_of words.place
+        ≡ first_of (codes "place") (found verb (texts_of rest.now))) }
 {
-    match files_command(alloc)?.try_get_matches_from(rest) {
+    match command(alloc, verb)?.try_get_matches_from(rest) {
         Ok(found) => Ok(Found {
             driver: found.get_str("driver"),
             data_file: found.get_str("data"),
+            schedule: found.get_str("schedule"),
+            workers: found.get_str("workers"),
+            place: found.get_str("place"),
         }),
         Err(fault) if fault.kind() == ErrorKind::OutOfMemory => Err(WordsFault::NoMemory),
         Err(_) => Err(WordsFault::Refused),
     }
 }
 
-// What a command takes that reads a driver and its data.
-fn files_command<'a>(alloc: Global) -> Result<Command<'a>, AllocError>
-    ensures { IfOk result (λ command. app_of command ≡ files_app) }
+// What a command takes.
+fn command<'a>(alloc: Global, verb: Verb) -> Result<Command<'a>, AllocError>
+    ensures { IfOk result (λ command. app_of command ≡ app_for verb) }
 {
-    let bare = Command::new(alloc, "nimbus")
+    match verb {
+        Verb::Check => check_command(alloc),
+        Verb::Replay => replay_command(alloc),
+    }
+}
+
+// A driver, and a data file if it is named.
+fn check_command<'a>(alloc: Global) -> Result<Command<'a>, AllocError>
+    ensures { IfOk result (λ command. app_of command ≡ check_app) }
+{
+    bare_command(alloc)
+        .arg(option(alloc, "data"))?
+        .arg(positional(alloc, "driver"))
+}
+
+// These, and how the job is run.
+fn replay_command<'a>(alloc: Global) -> Result<Command<'a>, AllocError>
+    ensures { IfOk result (λ command. app_of command ≡ replay_app) }
+{
+    bare_command(alloc)
+        .arg(option(alloc, "data"))?
+        .arg(option(alloc, "workers"))?
+        .arg(option(alloc, "place"))?
+        .arg(option(alloc, "schedule"))?
+        .arg(positional(alloc, "driver"))
+}
+
+// A command without a name of its own, and without help and version.
+fn bare_command<'a>(alloc: Global) -> Command<'a>
+    ensures { app_of result ≡ bare_app }
+{
+    Command::new(alloc, "nimbus")
         .no_binary_name(true)
         .disable_help_flag(true)
-        .disable_version_flag(true);
-    bare.arg(option(alloc, "data"))?
-        .arg(positional(alloc, "driver"))
+        .disable_version_flag(true)
 }
 
 // An option with a value.

@@ -18,7 +18,7 @@ fn main(rt: HostRuntime) -> ExitCode {
             if is_check(words) {
                 top_check(rt.alloc(), words, &mut files, &mut out, &mut err)
             } else {
-                top_replay(rt.alloc(), words, &mut files, &mut out, &mut err)
+                top_replay(rt.alloc(), words, &mut files, &mut out, &mut err, &mut None)
             }
         }
         Err(status) => {

@@ -1,5 +1,6 @@
 use nim_base::{NoMemory, Seq, Value};
 use nim_check::{printed_is_loaded, read_driver};
+use nim_course::{controllers_lead, prints_what_is_told};
 use nim_funcs::{
     add_is_sum, group_gathers_all_rows, keep_counts_all_rows, merge_joins_groups, order_is_free,
     split_keeps_all_rows,
@@ -7,6 +8,7 @@ use nim_funcs::{
 use nim_history::{commands_in_turn, histories_are_true, history_goes_on};
 use nim_job::{Job, division_is_total, is_checked, is_whole, machine_follows, versions_are_read};
 use nim_lex::tokens;
+use nim_lockstep::{clusters_stay_in_step, events_go_on};
 use nim_order::{
     any_order, any_step, before_sets_cover, front_stays, held_at_ends, longer_list_stands,
     never_stuck, orders_cover, versions_are_local,
@@ -15,6 +17,7 @@ use nim_parse::parse;
 use nim_place::{map_starts, orders_extend};
 use nim_plan::legal_by_steps;
 use nim_printed::{job_is_read, job_stands, tree_is_read, words_are_read};
+use nim_template::maps_stay_before;
 use sqlite_items::Items;
 use std::alloc::Global;
 use std::test::Fail;
@@ -69,6 +72,14 @@ fn laws_of_orders(_rt: HostRuntime) -> Result<(), Fail> {
     versions_are_local();
     orders_extend();
     map_starts();
+    maps_stay_before();
+    Ok(())
+}
+
+#[test]
+fn laws_of_controllers(_rt: HostRuntime) -> Result<(), Fail> {
+    controllers_lead();
+    prints_what_is_told();
     Ok(())
 }
 
@@ -77,6 +88,13 @@ fn laws_of_histories(_rt: HostRuntime) -> Result<(), Fail> {
     histories_are_true();
     history_goes_on();
     commands_in_turn();
+    Ok(())
+}
+
+#[test]
+fn laws_of_clusters(_rt: HostRuntime) -> Result<(), Fail> {
+    clusters_stay_in_step();
+    events_go_on();
     Ok(())
 }
 

@@ -1,0 +1,137 @@
+-- What the parts of a command answer.
+use Rattle.std.specs.Prelude.{◌≡◌, ℕ, nat_lt, Bool, true, false, if◌then◌else◌, Option, None, Some, List, [], take, drop, codes, string_bytes, IsSomeAnd, Result, Ok, Err, Vec}
+use Rattle.std.specs.Io.KnownBytes.{Appends}
+use Rattle.std.specs.Option.{option_and_then}
+use Rattle.std.specs.Str.{bytes_eq}
+use Rattle.std.specs.declared.alloc.Global.{Global}
+use Rattle.nim_io.specs.Counts.{Rose}
+use Rattle.nim_io.specs.Sink.{AppendsFront}
+use Rattle.nim_schedule.specs.Schedule as schedule
+use Rattle.nim_schedule.specs.declared.event.Line.{Line}
+use Rattle.nim_schedule.specs.declared.fault.ScheduleFault.{ScheduleFault}
+use Rattle.nim_schedule.specs.declared.fault.ScheduleFault.TheVariants as schedule_fault
+use Rattle.nim_check.specs.Faults.{TellsFile}
+use Rattle.nim_check.specs.Refusals.{job_from, refused}
+use Rattle.nim_check.specs.declared.fault.ReadFault.{ReadFault}
+use Rattle.nim_check.specs.declared.fault.ReadFault.TheVariants as read_fault
+use Rattle.nim_job.specs.declared.job.Job.{Job}
+use Rattle.nim_job.specs.Serial.{Ending}
+use Rattle.nim_place.specs.declared.placement.Placement.{Placement}
+use Rattle.nim_course.specs.declared.setup.Setup.{Setup}
+use Rattle.nim_lockstep.specs.Cluster.{ClusterState}
+use Rattle.nim_lockstep.specs.InStep.{IsInStep}
+use Rattle.nim_lockstep.specs.Schedules.{IsRunBy}
+use Rattle.nim_cluster.specs.declared.cluster.Cluster.{Cluster}
+use Rattle.nim_cluster.specs.Stands.{Stands}
+use Rattle.clap.specs.Words.{Text}
+use Rattle.nim_top.specs.Answer.{came_to, has_run}
+use Rattle.nim_top.specs.Texts.{Texts, file_of, refusal_line, refusal_of}
+use Rattle.nim_top.specs.Words.{is_accepted, mixed_by, number_word}
+use Rattle.nim_top.specs.declared.fault.InputFault.{InputFault}
+use Rattle.nim_top.specs.declared.fault.InputFault.TheVariants as fault
+use Rattle.nim_top.specs.declared.read.Plan.{Plan}
+use Rattle.nim_top.specs.declared.status.InputFile.TheVariants.{Schedule}
+use Rattle.nim_top.specs.declared.status.Outcome.{Outcome}
+use Rattle.nim_top.specs.declared.status.Outcome.TheVariants as outcome
+use Rattle.nim_top.specs.declared.verb.Verb.{Verb}
+
+-- ---- words and files
+
+-- a number that is below 2^64
+abbrev pub below_2_64 : ℕ → Option ℕ
+below_2_64 number = if nat_lt number 18446744073709551616 then Some number else None
+
+-- `mixed-` and a number
+abbrev pub mixed_word : Text → Option Placement
+mixed_word word =
+    if bytes_eq (take 6 word) (codes "mixed-") then option_and_then mixed_by (number_word (drop 6 word)) else None
+
+-- why no files were loaded
+abbrev pub IsUnloaded : Verb → List Text → ℕ → ℕ → Outcome → Type 0
+IsUnloaded verb words old new outcome.Words = (is_accepted verb words ≡ false) × (new ≡ old)
+IsUnloaded verb words old new outcome.Memory = new ≡ old
+IsUnloaded verb words old new outcome.Read = (is_accepted verb words ≡ true) × Rose old new
+IsUnloaded verb words old new _ = ⊥
+
+-- why a file wasn't read
+abbrev pub IsUnread : ℕ → ℕ → Outcome → Type 0
+IsUnread old new outcome.Memory = new ≡ old
+IsUnread old new outcome.Read = Rose old new
+IsUnread old new _ = ⊥
+
+-- ---- what is read
+
+-- the fault of a driver or its data, and that of a schedule
+abbrev pub of_read : ReadFault → InputFault
+of_read (read_fault.At input refusal) = fault.At (file_of input) refusal
+of_read read_fault.NoMemory = fault.NoMemory
+
+abbrev pub of_schedule : ScheduleFault → InputFault
+of_schedule (schedule_fault.Refused refusal) = fault.At Schedule refusal
+of_schedule schedule_fault.NoMemory = fault.NoMemory
+
+-- what reading gave is the job of a driver and its data, or why they are refused
+abbrev pub ReadsJob : List ℕ → List ℕ → Result Job ReadFault → Type 0
+ReadsJob driver file (Ok job) = (refused driver file ≡ None) × (job ≡ job_from driver file)
+ReadsJob driver file (Err fault) = TellsFile (refused driver file) fault
+
+-- the same of the lines of a schedule
+abbrev pub ReadsSchedule : List ℕ → Result (Vec Line Global) ScheduleFault → Type 0
+ReadsSchedule bytes (Ok lines) = (schedule.refusal_of bytes ≡ None) × (lines.items ≡ schedule.schedule_of bytes)
+ReadsSchedule bytes (Err (schedule_fault.Refused refusal)) = schedule.refusal_of bytes ≡ Some refusal
+ReadsSchedule bytes (Err schedule_fault.NoMemory) = Unit {0}
+
+-- a plan is that of these files
+pub record IsPlanOf (t : Texts) (plan : Plan) : Type 0 where
+  pub job : plan.job ≡ job_from t.driver t.data_file
+  pub schedule : plan.schedule.items ≡ schedule.schedule_of t.schedule
+
+-- what reading gave is the plan of these files, or why they are refused
+abbrev pub Reads : Texts → Result Plan InputFault → Type 0
+Reads t (Ok plan) = (refusal_of t ≡ None) × IsPlanOf t plan
+Reads t (Err (fault.At file refusal)) = refusal_of t ≡ Some (record { file = file; refusal = refusal })
+Reads t (Err fault.NoMemory) = Unit {0}
+
+-- the outcome tells why files are refused, unless memory was refused
+abbrev pub IsLine : InputFault → Outcome → Type 0
+IsLine (fault.At file refusal) (outcome.Refused text) =
+    string_bytes text ≡ refusal_line (record { file = file; refusal = refusal })
+IsLine _ outcome.Memory = Unit {0}
+IsLine _ _ = ⊥
+
+-- ---- what is written and kept
+
+-- bytes were written, or the front of them where a fault came
+abbrev pub Prints : List ℕ → Option (List ℕ) → Option (List ℕ) → ℕ → ℕ → Outcome → Type 0
+Prints bytes old new old_faults new_faults outcome.Done = Appends old new bytes × (new_faults ≡ old_faults)
+Prints bytes old new old_faults new_faults outcome.Write = AppendsFront old new bytes × Rose old_faults new_faults
+Prints bytes old new old_faults new_faults _ = ⊥
+
+-- a job was run that ends so: its bytes were written, or the front of them where a fault came; or it passes its limits;
+-- or nothing is told of it
+abbrev pub Finishes : Ending → Option (List ℕ) → Option (List ℕ) → ℕ → ℕ → Outcome → Type 0
+Finishes ending old new old_faults new_faults outcome.Done =
+    (ending.status ≡ 0) × Appends old new ending.bytes × (new_faults ≡ old_faults)
+Finishes ending old new old_faults new_faults outcome.Write =
+    (ending.status ≡ 0) × AppendsFront old new ending.bytes × Rose old_faults new_faults
+Finishes ending old new old_faults new_faults outcome.Limit =
+    (ending.status ≡ 4) × Appends old new [] × (new_faults ≡ old_faults)
+Finishes ending old new old_faults new_faults outcome.Stalled = Appends old new [] × (new_faults ≡ old_faults)
+Finishes ending old new old_faults new_faults outcome.Memory = Appends old new [] × (new_faults ≡ old_faults)
+Finishes ending old new old_faults new_faults _ = ⊥
+
+-- a cluster of a job, in which events were given that follow these lines: it came to the end of this status
+pub record IsRunOf (job : Job) (lines : List Line) (setup : Setup) (status : ℕ) (cluster : Cluster) : Type 0 where
+  pub state : ClusterState
+  pub run : IsRunBy job setup lines state
+  pub stands : Stands cluster state
+  pub in_step : IsInStep state
+  pub ended : state.control.outcome ≡ came_to status
+
+-- what is kept where a plan was followed, and where it wasn't
+abbrev pub LeavesIf : Bool → Plan → Setup → ℕ → Option Cluster → Option Cluster → Type 0
+LeavesIf true plan setup status old new = IsSomeAnd new (IsRunOf plan.job plan.schedule.items setup status)
+LeavesIf false plan setup status old new = new ≡ old
+
+abbrev pub Leaves : Plan → Setup → ℕ → Option Cluster → Option Cluster → Type 0
+Leaves plan setup status old new = LeavesIf (has_run status) plan setup status old new
