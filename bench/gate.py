@@ -1,7 +1,10 @@
 """Runs the gate and prints what each crate costs in processor minutes: its proof, its tests' proof, its edits.
 
-    python3 bench/gate.py            the gate from nothing (rt ci --anew); its log goes to gate.log
-    python3 bench/gate.py --kept     over what was kept: only what changed costs
+    python3 bench/gate.py            the gate from nothing; its log goes to gate.log
+    python3 bench/gate.py --kept     over what was kept: only what changed costs, where the kit keeps what it proved
+    python3 bench/gate.py --kept NAME..   the same of these crates and those that they stand on
+
+A kit that keeps what `rt ci` proved has the flag --anew; one without it proves all from nothing each time.
 
 It looks at the running provers five times a second, so that the last fifth of a second of each isn't counted.
 """
@@ -63,8 +66,15 @@ def watch(run):
     return costs, spans, time.time() - start
 
 
+def keeps():
+    """Whether this kit's gate keeps what it proved."""
+    said = subprocess.run(["rt", "help"], stdin=subprocess.DEVNULL, capture_output=True, text=True)
+    return "--anew" in said.stdout + said.stderr
+
+
 def main():
-    flags = [] if "--kept" in sys.argv else ["--anew"]
+    names = [word for word in sys.argv[1:] if word != "--kept"]
+    flags = names if names or "--kept" in sys.argv or not keeps() else ["--anew"]
     with open("gate.log", "w") as log:
         run = subprocess.Popen(["rt", "ci", *flags], stdin=subprocess.DEVNULL, stdout=log, stderr=log)
         costs, spans, clock = watch(run)
