@@ -4,16 +4,14 @@
 
 mod commands;
 mod entries;
-mod fault;
 mod funcs;
 mod halves;
 mod orders;
 mod plans;
 mod session;
-mod shown;
+mod shapes;
 mod texts;
 mod values;
-mod words;
 
 use nim_txtar::all_pass;
 use session::Transcripts;

@@ -1,10 +1,9 @@
 use crate::commands::commands;
 use crate::entries::{copies, edits, entries};
-use crate::fault::LineFault;
-use crate::shown::{push_contents, push_value};
-use crate::values::value;
-use crate::words::{halves, number, numbers, parts, shapes, words};
+use crate::shapes::{push_contents, shapes};
+use crate::values::{push_value, value};
 use nim_base::{Object, Seq, Worker};
+use nim_lines::{LineFault, halves, number, numbers, parts, words};
 use nim_message::{Data, FromWorker, Message, ToWorker, in_range, order_length};
 use std::alloc::Global;
 

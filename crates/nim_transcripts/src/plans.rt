@@ -1,9 +1,8 @@
 use crate::commands::command;
-use crate::fault::LineFault;
-use crate::shown::push_contents;
-use crate::words::{halves, number};
+use crate::shapes::push_contents;
 use nim_base::Slot;
 use nim_command::{Command, Rank};
+use nim_lines::{LineFault, halves, number};
 use nim_plan::{holds, rank};
 use std::alloc::Global;
 
