@@ -1,3 +1,7 @@
+ghost use Rattle.std.specs.Prelude.{◌≡◌};
+ghost use Rattle.std.specs.List.{list_all};
+ghost use Rattle.nim_template.specs.Fits as spec;
+
 use nim_base::{Object, Param, Seq, Task, TaskForm};
 use nim_lines::{LineFault, func, halves, number, params, words};
 use std::alloc::Global;
@@ -52,4 +56,27 @@ fn constants(alloc: Global, params: &[Param]) -> Result<Seq<i64>, LineFault> {
         }
     }
     Ok(Seq::from_vec(all))
+}
+
+/// Whether forms fit into a block over so many objects.
+pub fn all_fit(objects: u16, forms: &[TaskForm]) -> bool
+    ensures { result ≡ list_all (spec.is_fit objects) forms.now }
+{
+    forms.iter().all(|form| fits(objects, form))
+}
+
+fn fits(objects: u16, form: &TaskForm) -> bool
+    ensures { result ≡ spec.is_fit objects form.now }
+{
+    1 <= form.writes.len()
+        && form.writes.len() <= 2
+        && form.reads.len() <= 8
+        && are_below(objects, form.writes.as_slice())
+        && are_below(objects, form.reads.as_slice())
+}
+
+fn are_below(objects: u16, all: &[Object]) -> bool
+    ensures { result ≡ spec.are_below objects all.now }
+{
+    all.iter().all(|object| object.0 < objects)
 }
