@@ -1,8 +1,10 @@
-use crate::shapes::slots;
+use crate::fault::LineFault;
+use crate::funcs::func;
+use crate::shown::push_slots;
 use crate::values::value;
+use crate::words::{halves, number, numbers, parts, slots, words};
 use nim_base::{Copied, Short, Slot, Worker};
 use nim_command::{Command, Kind, object_of, reads, writes};
-use nim_lines::{LineFault, func, halves, number, numbers, parts, push_slots, words};
 use std::alloc::Global;
 
 /// What a command does, as a transcript writes it: `create S fill N`, `create S iota N`, `load S version V of VALUE`,

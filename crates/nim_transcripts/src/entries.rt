@@ -1,8 +1,9 @@
 use crate::commands::slot;
-use crate::shapes::slots;
-use nim_base::{Object, Seq, Short, Worker};
+use crate::fault::LineFault;
+use crate::funcs::func;
+use crate::words::{halves, number, numbers, parts, slots, words};
+use nim_base::{Object, Param, Seq, Short, Worker};
 use nim_command::{Edit, Entry, EntryKind, PatchPart, Spec};
-use nim_lines::{LineFault, func, halves, number, numbers, params, parts, words};
 use std::alloc::Global;
 
 /// An entry: its number, what it does and `after N ..` with the numbers that it waits for. It does `send S to P entry E`,
@@ -64,6 +65,19 @@ fn entry_run(
         reads: Short::from_slice(alloc, &slots(alloc, from)?)?,
         writes: Short::from_slice(alloc, &slots(alloc, to)?)?,
     })
+}
+
+// Parameters: a number, or `#N` for an argument.
+fn params(alloc: Global, given: &[&str]) -> Result<Vec<Param>, LineFault> {
+    let mut all = Vec::new(alloc);
+    for one in given {
+        let param = match one.strip_prefix("#") {
+            Some(place) => Param::Arg(number::<u8>(place)?),
+            None => Param::Const(number::<i64>(one)?),
+        };
+        all.push(param)?;
+    }
+    Ok(all)
 }
 
 /// An edit: `away T to W mask M SPEC`, `here T from W mask M SPEC`, `gone T` or `home T SPEC`, where SPEC is the task,

@@ -1,9 +1,53 @@
-use crate::shapes::shapes;
-use crate::values::{push_value, value};
+use crate::fault::LineFault;
+use crate::shown::push_value;
+use crate::values::value;
+use crate::words::{halves, number, numbers, parts, shapes};
 use nim_base::{Func, Shape, Value};
 use nim_funcs::apply;
-use nim_lines::{LineFault, func, halves, number, numbers, parts};
 use std::alloc::Global;
+
+/// The function of a name.
+pub fn func(name: &str) -> Result<Func, LineFault> {
+    Ok(match name {
+        "set" => Func::Set,
+        "copy" => Func::Copy,
+        "addc" => Func::Addc,
+        "mulc" => Func::Mulc,
+        "add" => Func::Add,
+        "sub" => Func::Sub,
+        "max" => Func::Max,
+        "sum" => Func::Sum,
+        "total" => Func::Total,
+        "count" => Func::Count,
+        "stencil" => Func::Stencil,
+        "keep" => Func::Keep,
+        "group" => Func::Group,
+        "merge" => Func::Merge,
+        "split" => Func::Split,
+        _ => return Err(LineFault::Form("there is no function of this name")),
+    })
+}
+
+/// The name of a function.
+pub fn func_name(func: Func) -> &'static str {
+    match func {
+        Func::Set => "set",
+        Func::Copy => "copy",
+        Func::Addc => "addc",
+        Func::Mulc => "mulc",
+        Func::Add => "add",
+        Func::Sub => "sub",
+        Func::Max => "max",
+        Func::Sum => "sum",
+        Func::Total => "total",
+        Func::Count => "count",
+        Func::Stencil => "stencil",
+        Func::Keep => "keep",
+        Func::Group => "group",
+        Func::Merge => "merge",
+        Func::Split => "split",
+    }
+}
 
 /// `counts FUNC`: its parameters, fewest and most reads, and results.
 pub fn counts_line(alloc: Global, text: &str, out: &mut String) -> Result<(), LineFault> {

@@ -1,7 +1,9 @@
 use crate::entries::{copies, edit, entries};
+use crate::fault::LineFault;
+use crate::shown::{push_command, push_entry};
+use crate::words::{halves, number, numbers, parts};
 use nim_base::{Copied, Seq};
 use nim_command::{Half, patch_commands};
-use nim_lines::{LineFault, halves, number, numbers, parts, push_command, push_entry};
 use std::alloc::Global;
 
 /// `half ENTRY; ENTRY ..`: the half with these entries.

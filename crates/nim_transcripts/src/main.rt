@@ -4,14 +4,16 @@
 
 mod commands;
 mod entries;
+mod fault;
 mod funcs;
 mod halves;
 mod orders;
 mod plans;
 mod session;
-mod shapes;
+mod shown;
 mod texts;
 mod values;
+mod words;
 
 use nim_txtar::all_pass;
 use session::Transcripts;

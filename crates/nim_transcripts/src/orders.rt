@@ -1,9 +1,10 @@
 use crate::commands::commands;
 use crate::entries::{copies, edits, entries};
-use crate::shapes::{push_contents, shapes};
-use crate::values::{push_value, value};
+use crate::fault::LineFault;
+use crate::shown::{push_contents, push_value};
+use crate::values::value;
+use crate::words::{halves, number, numbers, parts, shapes, words};
 use nim_base::{Object, Seq, Worker};
-use nim_lines::{LineFault, halves, number, numbers, parts, words};
 use nim_message::{Data, FromWorker, Message, ToWorker, in_range, order_length};
 use std::alloc::Global;
 

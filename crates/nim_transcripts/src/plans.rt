@@ -1,8 +1,9 @@
 use crate::commands::command;
-use crate::shapes::push_contents;
+use crate::fault::LineFault;
+use crate::shown::push_contents;
+use crate::words::{halves, number};
 use nim_base::Slot;
 use nim_command::{Command, Rank};
-use nim_lines::{LineFault, halves, number};
 use nim_plan::{holds, rank};
 use std::alloc::Global;
 

@@ -1,27 +1,62 @@
 use crate::commands::{commands, object_line, slots_line};
+use crate::fault::LineFault;
 use crate::funcs::{apply_line, counts_line, has_counts};
 use crate::halves::{edit_line, expand_line, half, patch_line};
 use crate::orders::{frame, length_line, order, push_frame, push_report};
 use crate::plans::{holds_line, rank_line};
-use crate::shapes::push_contents;
+use crate::shown::{push_answer, push_contents, push_number};
 use crate::texts::tokens_line;
 use crate::values::{cell_line, fit_line, made_line, text_line};
+use crate::words::{number, parts};
 use nim_base::{Copied, Worker};
 use nim_command::{Command, Half, Rank};
-use nim_lines::{LineFault, Subject, differences_from, number, parts, push_answer, push_number};
 use nim_message::ToWorker;
 use nim_plan::covered;
-use nim_txtar::{FileFault, Test};
+use nim_txtar::{FileFault, Test, difference, sections};
 use nim_worker::{Batch, Out, WorkerCore};
 use std::alloc::Global;
 
-/// Transcripts of calls.
+/// Transcripts of calls. Each section is a session of its own: a line that begins with `> ` is answered, and any other
+/// must be what was answered.
 pub struct Transcripts;
 
 impl Test for Transcripts {
     fn differences(alloc: Global, file: &str) -> Result<Vec<String>, FileFault> {
-        differences_from::<Session>(alloc, file)
+        let mut found = Vec::new(alloc);
+        for section in &sections(alloc, file)? {
+            let Ok(text) = str::from_utf8(section.text.as_slice()) else {
+                return Err(FileFault::At {
+                    line: section.line,
+                    what: "a transcript is text",
+                });
+            };
+            let got = replayed(alloc, text)?;
+            let name = section.name.as_str();
+            if let Some(difference) = difference(alloc, name, text.as_bytes(), got.as_bytes())? {
+                found.push(difference)?;
+            }
+        }
+        Ok(found)
     }
+}
+
+// The lines of a section that are answered, each with its answer.
+fn replayed(alloc: Global, text: &str) -> Result<String, FileFault> {
+    let mut session = Session::new(alloc, Worker(0));
+    let mut got = String::new(alloc);
+    for line in text.lines() {
+        if let Some(asked) = line.strip_prefix("> ") {
+            got.push_str(format!(in alloc; "{line}\n")?.as_str())?;
+            match session.answer(alloc, asked, &mut got) {
+                Ok(()) => {}
+                Err(LineFault::Form(what)) => {
+                    got.push_str(format!(in alloc; "? {what}\n")?.as_str())?;
+                }
+                Err(LineFault::NoMemory) => return Err(FileFault::NoMemory),
+            }
+        }
+    }
+    Ok(got)
 }
 
 /// What the lines of a section are about: a worker with a batch that is out or none, a list of commands, a half, and the
@@ -35,12 +70,18 @@ struct Session {
     rank: Option<Rank>,
 }
 
-impl Subject for Session {
-    fn begin(alloc: Global) -> Result<Session, LineFault> {
-        Ok(Session::new(alloc, Worker(0)))
+impl Session {
+    fn new(alloc: Global, worker: Worker) -> Session {
+        Session {
+            core: WorkerCore::new(alloc, worker),
+            batch: None,
+            list: Vec::new(alloc),
+            half: Half::empty(alloc),
+            rank: None,
+        }
     }
 
-    // One about values, about orders, or about the worker.
+    // Answers a line: one about values, about orders, or about the worker.
     fn answer(&mut self, alloc: Global, line: &str, out: &mut String) -> Result<(), LineFault> {
         let (word, text) = parts(line, " ");
         match word {
@@ -56,18 +97,6 @@ impl Subject for Session {
             "slots" => slots_line(alloc, text, out),
             "object" => push_number(alloc, out, object_line(text)?),
             _ => self.answer_plan(alloc, line, word, text, out),
-        }
-    }
-}
-
-impl Session {
-    fn new(alloc: Global, worker: Worker) -> Session {
-        Session {
-            core: WorkerCore::new(alloc, worker),
-            batch: None,
-            list: Vec::new(alloc),
-            half: Half::empty(alloc),
-            rank: None,
         }
     }
 
