@@ -3,7 +3,6 @@ use Rattle.std.proofs.Common.{◌≡◌, ℕ, zero, suc, Bool, true, false, List
 use Rattle.std.specs.Prelude.{◌==◌, if◌then◌else◌}
 use Rattle.nim_base.specs.declared.number.Worker.{Worker}
 use Rattle.nim_job.specs.declared.ask.Ask.{Ask}
-use Rattle.nim_job.specs.declared.job.Job.{Job}
 use Rattle.nim_job.specs.Machine.{ask_of}
 use Rattle.nim_message.specs.declared.report.FromWorker.{FromWorker}
 use Rattle.nim_message.specs.declared.report.FromWorker.TheVariants.{Value, Ran, NoMemory}

@@ -4,9 +4,9 @@ use Rattle.std.specs.List.{flat_map, range_with_len}
 use Rattle.std.proofs.lemmas.List.{append-nil, append_assoc}
 use Rattle.std.proofs.lemmas.List.Concat.{flat_map-append}
 use Rattle.nim_message.specs.declared.order.ToWorker.{ToWorker}
+use Rattle.nim_job.proofs.Lists.{range_more}
 use Rattle.nim_place.specs.Extends.{worker_of}
 use Rattle.nim_course.specs.Directed.{Directed, directed}
-use Rattle.nim_control.proofs.Ranges.{range_more}
 
 -- one worker's orders
 abbrev pub for_worker : (ℕ → List ToWorker) → ℕ → List Directed

@@ -8,6 +8,5 @@ pub mod Given
 pub mod Instances
 pub mod Kept
 pub mod Moving
-pub mod Ranges
 pub mod Taken
 pub mod Tasks
