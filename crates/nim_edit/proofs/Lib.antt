@@ -1,11 +1,14 @@
+pub mod Between
 pub mod Built
 pub mod ByRule
 pub mod Cells
 pub mod Effects
 pub mod Examples
 pub mod Forms
+pub mod Leaves
 pub mod Masks
 pub mod Migrations
 pub mod Owners
 pub mod Puts
 pub mod Runs
+pub mod Stays

@@ -19,6 +19,19 @@ returns-clause-form c =
     c.in_ok-owners.owners c.push_edits.new.unsent c.requires.form c.requires.live (search rules) c.in_ok-edits.ensures.value c.as_slice.ensures.value
     c.in_ok-halves.ensures c.in_ok-owners.ensures c.in_ok-push_edits.ensures.ok
 
+pub returns-clause-built : goal.returns-clause-built
+returns-clause-built c =
+    λ place objects living recorded was.
+    record {
+      form = returns-clause-form c;
+      block = was.block;
+      forms = was.forms;
+      built = was.built;
+      preconditions = was.preconditions;
+      effect = was.effect;
+      homes = was.homes;
+    }
+
 pub returns-clause-ascend : goal.returns-clause-ascend
 returns-clause-ascend c =
     halves_ascend (record c.args.template.now { halves = c.in_ok-halves.halves; owners = c.in_ok-owners.owners; unsent = c.push_edits.new.unsent })
