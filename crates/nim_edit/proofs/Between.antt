@@ -47,7 +47,7 @@ under high entries = filter (λ (e : Entry). not (nat_le high e.id)) entries
 abbrev pub onward : ℕ → List Entry → List Entry
 onward low entries = filter (λ (e : Entry). not (nat_lt e.id low)) entries
 
-none_under_it : (high low : ℕ) (entries : List Entry) → Ascend low entries → high ≤ low → under high entries ≡ []
+pub none_under_it : (high low : ℕ) (entries : List Entry) → Ascend low entries → high ≤ low → under high entries ≡ []
 none_under_it high low [] are above = refl
 none_under_it high low (entry ∷ entries) are above =
     ap (λ (b : Bool). if not b then entry ∷ under high entries else under high entries) (le-leb high entry.id (omega (arith, above, are.0)))
@@ -98,7 +98,7 @@ pub record HasBetween (low high : ℕ) (half those : List Entry) : Type 0 where
   pub before : (number : ℕ) → number < low → kind_at those number ≡ None
   pub behind : (number : ℕ) → high ≤ number → kind_at those number ≡ None
 
-between_after : {S : Type 0} (step : S → ℕ → EntryKind → S) (state : S) (low high : ℕ) (half those : List Entry) → Ascend 0 half
+pub between_after : {S : Type 0} (step : S → ℕ → EntryKind → S) (state : S) (low high : ℕ) (half those : List Entry) → Ascend 0 half
     → HasBetween low high half those → after_entries step state (under high (onward low half)) ≡ after_entries step state those
 between_after step state low high half those are has =
     same_after step state (under high (onward low half)) those

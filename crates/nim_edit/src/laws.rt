@@ -1,6 +1,7 @@
 ghost use Rattle.std.specs.Prelude.{◌≡◌, ◌≤◌, true, length};
 ghost use Rattle.std.specs.List.{list_all, list_any};
 ghost use Rattle.nim_edit.specs.Form.{IsInForm, WasBuilt};
+ghost use Rattle.nim_place.specs.Sound.{IsSound};
 ghost use Rattle.nim_template.specs.Again.{HoldAgain};
 ghost use Rattle.nim_template.specs.Built.{built};
 ghost use Rattle.nim_template.specs.Fits.{is_fit};
@@ -30,7 +31,8 @@ pub fn built_is_in_form(
 {}
 
 /// A template that was built, and of which tasks moved since, stays as good as it was: its effect is that of its halves,
-/// the commands of an instance leave what the effect says, and behind it the preconditions hold again.
+/// the commands of an instance leave what the effect says, behind it the preconditions hold again, and the template is
+/// sound: each task of an instance reads what it reads in program order, wherever it runs.
 pub fn moved_stays_good(
     template: &WorkerTemplate,
     recorded: &ControllerTemplate,
@@ -39,6 +41,7 @@ pub fn moved_stays_good(
     live: &[bool],
 )
     requires objects { objects ≤ 512 }
+    requires workers { length live.now ≤ 16 }
     requires live { list_any (λ flag. flag) live.now ≡ true }
     requires many { length recorded.now.forms ≤ 1024 }
     requires fit { list_all (is_fit objects) recorded.now.forms ≡ true }
@@ -46,4 +49,5 @@ pub fn moved_stays_good(
     ensures effect { HasEffect (length live.now) objects template.now }
     ensures again { HoldAgain (length live.now) objects template.now }
     ensures left { LeavesEffect (length live.now) objects template.now }
+    ensures sound { IsSound template.now }
 {}

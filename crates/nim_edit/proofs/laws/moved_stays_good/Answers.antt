@@ -1,4 +1,5 @@
 use Rattle.nim_edit.proofs.Leaves.{was_again, was_effect, was_left}
+use Rattle.nim_edit.proofs.MovedSound.{was_sound}
 use Rattle.nim_edit.proofs.laws.moved_stays_good.Goals as goal
 
 pub returns-clause-effect : goal.returns-clause-effect
@@ -14,3 +15,8 @@ pub returns-clause-left : goal.returns-clause-left
 returns-clause-left c =
     was_left c.args.place.now c.args.objects c.args.live.now c.args.recorded.now c.args.template.now c.requires.built c.requires.live c.requires.objects
     c.requires.many c.requires.fit
+
+pub returns-clause-sound : goal.returns-clause-sound
+returns-clause-sound c =
+    was_sound c.args.place.now c.args.objects c.args.live.now c.args.recorded.now c.args.template.now c.requires.built c.requires.live c.requires.workers
+    c.requires.objects c.requires.many c.requires.fit
