@@ -18,7 +18,8 @@ use Rattle.nim_command.specs.Ranks.{is_later, stage_of}
 use Rattle.nim_template.proofs.ByRank.{RanksAscend, ascends_lower, ascends_then, order_of}
 use Rattle.nim_edit.specs.Form.{IsInForm}
 use Rattle.nim_edit.specs.Moves.{mask_for, spec_of, worker_at}
-use Rattle.nim_edit.proofs.InOrder.{at_worker, bare_command, commands_in_order, commands_onward, commands_under, early_commands, late_commands}
+use Rattle.nim_edit.proofs.InOrder.{bare_command, commands_in_order, commands_onward, commands_under, early_commands, late_commands}
+use Rattle.nim_edit.proofs.LateEntries.{at_worker}
 use Rattle.nim_edit.proofs.InOrder.{placed_command, task_commands}
 use Rattle.nim_edit.proofs.Leaves.{named}
 use Rattle.nim_edit.proofs.Migrations.{task_short}

@@ -23,7 +23,8 @@ use Rattle.nim_place.specs.Sound.{AreFound, Frame, Plane, sent_to, step_of, walk
 use Rattle.nim_place.proofs.History.{one_left}
 use Rattle.nim_place.proofs.Legal.{main_of}
 use Rattle.nim_template.proofs.Planes.{AreSent, Below, below_append, below_more, first_sent, skip_all}
-use Rattle.nim_edit.proofs.InOrder.{at_worker, placed_command}
+use Rattle.nim_edit.proofs.InOrder.{placed_command}
+use Rattle.nim_edit.proofs.LateEntries.{at_worker}
 use Rattle.nim_edit.proofs.Leaves.{same_version}
 use Rattle.nim_edit.proofs.Listed.{is_early}
 use Rattle.nim_edit.proofs.Puts.{FirstRead, Indexed}

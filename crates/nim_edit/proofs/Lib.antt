@@ -5,10 +5,12 @@ pub mod ByRule
 pub mod Cells
 pub mod Effects
 pub mod Elsewhere
-pub mod EndsRuns
+pub mod Ends
 pub mod Examples
 pub mod Forms
 pub mod InOrder
+pub mod Installs
+pub mod LateEntries
 pub mod Leaves
 pub mod Listed
 pub mod Masks
@@ -25,3 +27,5 @@ pub mod SamePlanes
 pub mod Segments
 pub mod SlotsSo
 pub mod Stays
+pub mod TasksEnds
+pub mod Turn

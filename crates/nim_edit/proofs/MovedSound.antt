@@ -1,7 +1,7 @@
 -- A template that was built, and of which tasks moved since, is sound.
-use Rattle.std.proofs.Common.{◌≡◌, ℕ, zero, suc, ◌+◌, ◌≤◌, ◌<◌, Bool, true, false, List, [], ◌∷◌, ◌++◌, drop, length, map, take, refl, ap, ap₂, sym, subst, ◌∙◌, arith}
+use Rattle.std.proofs.Common.{◌≡◌, ℕ, zero, suc, ◌+◌, ◌≤◌, ◌<◌, Bool, true, List, [], ◌∷◌, ◌++◌, drop, length, map, take, refl, ap, ap₂, sym, subst, ◌∙◌, arith}
 use Rattle.std.proofs.Common.{None, Some}
-use Rattle.std.specs.Prelude.{◌*◌, ◌^◌, ◌-◌, ◌==◌, All, slice_index_or, ℤ}
+use Rattle.std.specs.Prelude.{◌*◌, ◌^◌, ◌-◌, All, slice_index_or, ℤ}
 use Rattle.std.specs.List.{AllByRecursion, flat_map, list_all, list_any, range_with_len}
 use Rattle.std.proofs.lemmas.List.{append-nil, append_assoc}
 use Rattle.std.proofs.lemmas.List.Concat.{flat_map-append}
@@ -11,13 +11,11 @@ use Rattle.nim_base.specs.declared.number.Slot.{Slot}
 use Rattle.nim_base.specs.declared.number.Worker.{Worker}
 use Rattle.nim_base.specs.declared.task.TaskForm.{TaskForm}
 use Rattle.nim_command.specs.declared.command.Command.{Command}
-use Rattle.nim_command.specs.declared.edit.Spec.{Spec}
 use Rattle.nim_command.specs.declared.entry.Entry.{Entry}
 use Rattle.nim_command.specs.declared.template.WorkerTemplate.{WorkerTemplate}
-use Rattle.nim_command.specs.Edits.{first_reads}
 use Rattle.nim_command.specs.Expansion.{version_at}
 use Rattle.nim_command.specs.Holds.{Content, content_at}
-use Rattle.nim_command.specs.Numbers.{counted_from, entry_number, main_slot, task_of}
+use Rattle.nim_command.specs.Numbers.{main_slot}
 use Rattle.nim_command.specs.Slots.{object_of}
 use Rattle.nim_job.specs.declared.job.Job.{Job}
 use Rattle.nim_job.specs.Serial.{tasks_of}
@@ -30,7 +28,7 @@ use Rattle.nim_place.proofs.GoesOn.{position_few}
 use Rattle.nim_template.specs.declared.template.ControllerTemplate.{ControllerTemplate}
 use Rattle.nim_template.specs.Built.{all_slots, built as as_built, end_of, needs_of}
 use Rattle.nim_template.specs.Closing.{after_closings}
-use Rattle.nim_template.specs.Fits.{are_below, is_fit}
+use Rattle.nim_template.specs.Fits.{is_fit}
 use Rattle.nim_template.specs.Tasks.{task_with}
 use Rattle.nim_template.specs.Written.{offset_left}
 use Rattle.nim_template.proofs.ByRank.{RanksAscend, in_order}
@@ -44,21 +42,19 @@ use Rattle.nim_template.proofs.Ranked.{runs_of}
 use Rattle.nim_template.proofs.RankedEnds.{Ends, ends_once, ends_received, ends_sent}
 use Rattle.nim_edit.specs.Form.{IsInForm, WasBuilt}
 use Rattle.nim_edit.specs.Halves.{halves_for}
-use Rattle.nim_edit.specs.Masks.{is_left}
-use Rattle.nim_edit.specs.Moves.{mask_for, no_task, spec_of, worker_at}
-use Rattle.nim_edit.proofs.Ascending.{in_order_ascends, late_is}
+use Rattle.nim_edit.specs.Moves.{worker_at}
+use Rattle.nim_edit.proofs.Ascending.{in_order_ascends}
 use Rattle.nim_edit.proofs.Between.{after_entries, none_under_it, under}
 use Rattle.nim_edit.proofs.Built.{at_home}
-use Rattle.nim_edit.proofs.EndsRuns.{away_ends, both_ends, early_ends, onward_ends}
-use Rattle.nim_edit.proofs.InOrder.{AreOfHalf, commands_halves, commands_in_order, commands_onward, early_commands, in_order_same, late_commands, task_commands}
+use Rattle.nim_edit.proofs.Ends.{both_ends, onward_ends}
+use Rattle.nim_edit.proofs.InOrder.{AreOfHalf, commands_halves, commands_in_order, commands_onward, in_order_same, task_commands}
 use Rattle.nim_edit.proofs.Listed.{AreCopied, IsListed, listed_is}
-use Rattle.nim_edit.proofs.Migrations.{all_at}
-use Rattle.nim_edit.proofs.OneTask.{IsAtTask, IsInstance, IsTaskDone, as_homed, built_ascend, form_objects, found_behind, found_front, homed_form, one_task, reads_low}
-use Rattle.nim_edit.proofs.Parts.{AreMain, copies_run, early_copies, effect_main, late_run, onward_copies, owned_is}
-use Rattle.nim_edit.proofs.Puts.{task_is}
-use Rattle.nim_edit.proofs.ReadFacts.{firsts_by, writes_low}
+use Rattle.nim_edit.proofs.OneTask.{built_ascend, one_task}
+use Rattle.nim_edit.proofs.Turn.{IsAtTask, IsInstance, IsTaskDone, as_homed, found_behind, found_front, homed_form}
+use Rattle.nim_edit.proofs.Parts.{AreMain, copies_run, effect_main, onward_copies, owned_is}
 use Rattle.nim_edit.proofs.SamePlanes.{AreAlso, IsSamePlane, copies_also}
 use Rattle.nim_edit.proofs.SlotsSo.{held_by}
+use Rattle.nim_edit.proofs.TasksEnds.{tasks_ends, tasks_run}
 
 -- ---- all tasks
 
@@ -98,75 +94,6 @@ tasks_done template job base args slots listed from (suc n) p q is all at found 
           (subst (IsSamePlane (walked (walked p first) (rest ++ behind)))
           (sym (ap (walked q) (append_assoc now rest_now behind) ∙ walked_append q now (rest_now ++ behind))) later.same);
     }
-
--- ---- what is sent and received
-
-late_ends : (template : WorkerTemplate) → IsInForm template → (before : Object → ℕ) (base : ℕ) (args : List ℤ) (task : ℕ) → task < length template.forms
-    → ends_sent (late_commands template before base args task) ≡ ends_received (late_commands template before base args task)
-late_ends template form before base args task within = either (owner.0 == home.0) refl where
-  home : Worker
-  home = worker_at template.homes task
-
-  owner : Worker
-  owner = worker_at template.owners task
-
-  spec : Spec
-  spec = spec_of template.forms task
-
-  given : TaskForm
-  given = slice_index_or template.forms task no_task
-
-  low : (are_below 512 given.writes ≡ true) × (are_below 512 given.reads ≡ true)
-  low = form_objects given (all_at (is_fit 512) template.forms task no_task form.fit within)
-
-  either : (b : Bool) → (owner.0 == home.0) ≡ b
-      → ends_sent (late_commands template before base args task) ≡ ends_received (late_commands template before base args task)
-  either true same =
-      ap ends_sent (late_is template before base args task true same) ∙ sym (ap ends_received (late_is template before base args task true same))
-  either false apart =
-      ap ends_sent (late_is template before base args task false apart)
-      ∙ away_ends before base args home owner task spec (first_reads [] (mask_for template task owner) spec.reads)
-      (firsts_by (λ (o : Object) (offset : ℕ) (b : Bool). o.0 < 512) (is_left template task owner) [] spec.reads
-      (reads_low (take task template.forms) given.reads (writes_low given.reads low.1)))
-      (writes_low given.writes low.0)
-      ∙ sym (ap ends_received (late_is template before base args task false apart))
-
-tasks_ends : (template : WorkerTemplate) → IsInForm template → (before : Object → ℕ) (base : ℕ) (args : List ℤ) (listed : List (Worker × Command))
-    → AreCopied (length template.forms) listed → ends_sent listed ≡ ends_received listed → (from n : ℕ) → from + n ≤ length template.forms
-    → ends_sent (flat_map (task_commands template before base args listed) (range_with_len from n))
-    ≡ ends_received (flat_map (task_commands template before base args listed) (range_with_len from n))
-tasks_ends template form before base args listed copied same from zero few = refl
-tasks_ends template form before base args listed copied same from (suc n) few =
-    both_ends (task_commands template before base args listed from)
-    (flat_map (task_commands template before base args listed) (range_with_len (from + 1) n))
-    (both_ends (early_commands from listed) (late_commands template before base args from)
-    (early_ends from (length template.forms) listed (omega (arith, few, form.many)) copied same)
-    (late_ends template form before base args from (omega (arith, few))))
-    (tasks_ends template form before base args listed copied same (from + 1) n (omega (arith, few)))
-
--- ---- runs
-
-tasks_run : (template : WorkerTemplate) → IsInForm template → (before : Object → ℕ) (base : ℕ) (args : List ℤ) (listed : List (Worker × Command))
-    → AreCopied (length template.forms) listed → base + 1024 < 2 ^ 64 - 1 → (from n : ℕ) → from + n ≤ length template.forms
-    → runs_of (flat_map (task_commands template before base args listed) (range_with_len from n))
-    ≡ flat_map (λ (t : ℕ). (worker_at template.owners t, base + t) ∷ []) (range_with_len from n)
-tasks_run template form before base args listed copied room from zero few = refl
-tasks_run template form before base args listed copied room from (suc n) few =
-    runs_append (task_commands template before base args listed from) (flat_map (task_commands template before base args listed) (range_with_len (from + 1) n))
-    ∙ ap₂ (λ (xs ys : List (Worker × ℕ)). xs ++ ys)
-    (runs_append (early_commands from listed) (late_commands template before base args from)
-    ∙ ap₂ (λ (xs ys : List (Worker × ℕ)). xs ++ ys)
-    (copies_run (early_commands from listed) (early_copies from (length template.forms) listed copied).copies)
-    (late_run template before base args from ∙ ap (λ (k : ℕ). (worker_at template.owners from, k) ∷ []) position))
-    (tasks_run template form before base args listed copied room (from + 1) n (omega (arith, few))) where
-      runs_append : (xs ys : List (Worker × Command)) → runs_of (xs ++ ys) ≡ runs_of xs ++ runs_of ys
-      runs_append xs ys = flat_map-append (λ (c : Worker × Command). run_by c.0 c.1.kind) xs ys
-
-      small : from < 1024
-      small = omega (arith, few, form.many)
-
-      position : counted_from base (task_of (entry_number from 4 0)) ≡ base + from
-      position = (let at = task_is from 4 0 small (omega arith) (omega arith) in omega (arith, at, room, small))
 
 -- ---- a block with tasks
 

@@ -24,7 +24,8 @@ use Rattle.nim_template.specs.Walk.{offset_for}
 use Rattle.nim_template.proofs.Ranked.{runs_of}
 use Rattle.nim_edit.specs.Moves.{mask_for, spec_of, worker_at}
 use Rattle.nim_edit.proofs.Ascending.{away_commands, late_is}
-use Rattle.nim_edit.proofs.InOrder.{at_worker, commands_onward, commands_under, early_commands, late_commands, placed_command}
+use Rattle.nim_edit.proofs.InOrder.{commands_onward, commands_under, early_commands, late_commands, placed_command}
+use Rattle.nim_edit.proofs.LateEntries.{at_worker}
 use Rattle.nim_edit.proofs.Listed.{AreCopied, IsCopyOf, is_early}
 use Rattle.nim_edit.proofs.Puts.{FirstRead}
 use Rattle.nim_edit.proofs.SamePlanes.{AreAt, AreCopies}

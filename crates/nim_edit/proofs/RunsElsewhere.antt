@@ -26,7 +26,8 @@ use Rattle.nim_edit.proofs.Ascending.{away_commands}
 use Rattle.nim_edit.proofs.Effects.{scratch_written}
 use Rattle.nim_edit.proofs.Elsewhere.{HaveCome, HaveReturned, IsFilled, IsKnown, back_frames, come, come_back, late_entry, scratch_of, sends_back}
 use Rattle.nim_edit.proofs.Elsewhere.{sends_on, sent_frames, version_content}
-use Rattle.nim_edit.proofs.InOrder.{at_worker, placed_command}
+use Rattle.nim_edit.proofs.InOrder.{placed_command}
+use Rattle.nim_edit.proofs.LateEntries.{at_worker}
 use Rattle.nim_edit.proofs.Puts.{FirstRead, Indexed, IsShort}
 use Rattle.nim_edit.proofs.SamePlanes.{AreLate, IsSamePlane, at_slots, is_first, late_more}
 

@@ -5,6 +5,7 @@ ghost use Rattle.nim_place.specs.Sound.{IsSound};
 ghost use Rattle.nim_template.specs.Again.{HoldAgain};
 ghost use Rattle.nim_template.specs.Built.{built};
 ghost use Rattle.nim_template.specs.Fits.{is_fit};
+ghost use Rattle.nim_template.specs.Given.{InstallsExtend};
 ghost use Rattle.nim_template.specs.Instance.{LeavesEffect};
 ghost use Rattle.nim_template.specs.Written.{HasEffect};
 
@@ -31,8 +32,9 @@ pub fn built_is_in_form(
 {}
 
 /// A template that was built, and of which tasks moved since, stays as good as it was: its effect is that of its halves,
-/// the commands of an instance leave what the effect says, behind it the preconditions hold again, and the template is
-/// sound: each task of an instance reads what it reads in program order, wherever it runs.
+/// the commands of an instance leave what the effect says, behind it the preconditions hold again, the template is sound
+/// (each task of an instance reads what it reads in program order, wherever it runs), and the orders that install its
+/// halves extend all orders so far.
 pub fn moved_stays_good(
     template: &WorkerTemplate,
     recorded: &ControllerTemplate,
@@ -50,4 +52,5 @@ pub fn moved_stays_good(
     ensures again { HoldAgain (length live.now) objects template.now }
     ensures left { LeavesEffect (length live.now) objects template.now }
     ensures sound { IsSound template.now }
+    ensures installs { InstallsExtend live.now template.now }
 {}

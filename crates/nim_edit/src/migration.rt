@@ -1,6 +1,7 @@
 ghost use Rattle.std.specs.Prelude.{◌≡◌, ℕ, Bool, List, ◌++◌, ◌<◌, ◌≤◌, [], true, length, map, slice_set, None};
 ghost use Rattle.std.specs.Prelude.{IfOk, IfErr, OnOk, OnErr};
 ghost use Rattle.std.specs.List.{fold, list_all};
+ghost use Rattle.nim_command.specs.declared.entry.Entry.{Entry};
 ghost use Rattle.nim_command.specs.Ruled.{entries_by_rule};
 ghost use Rattle.nim_edit.specs.Form.{IsInForm, WasBuilt, is_edit_below};
 ghost use Rattle.nim_edit.specs.Moves as moves;
@@ -39,6 +40,8 @@ pub fn migrate(
     ensures form { IsInForm template.new }
     ensures built { (place : Place) (objects : ℕ) (living : List Bool) (recorded : ControllerTemplate)
         → WasBuilt place objects living recorded template.old → WasBuilt place objects living recorded template.new }
+    ensures unsent { (sent : List (List Entry)) → template.old.halves ≡ fold moves.with_edit sent template.old.unsent
+        → template.new.halves ≡ fold moves.with_edit sent template.new.unsent }
     ensures ascend { OnOk result (list_all (does_ascend 0) template.new.halves ≡ true) }
     ensures by_rule { OnOk result (map (entries_by_rule []) template.new.halves ≡ template.new.halves) }
     ensures effect { (objects : ℕ) → objects ≤ 512 → HasEffect (length template.old.built) objects template.old

@@ -1,4 +1,4 @@
--- What is sent in an instance whose tasks moved is received in the same order, and each task runs once, at its owner.
+-- What is sent in parts of an instance is received in the same order: in what was built, and in a moved task.
 use Rattle.std.proofs.Common.{◌≡◌, ℕ, ◌+◌, ◌≤◌, ◌<◌, Bool, true, false, List, [], ◌∷◌, ◌++◌, map, refl, ap, ap₂, sym, ◌∙◌, arith}
 use Rattle.std.specs.Prelude.{◌*◌, ◌%◌, ◌||◌, nat_le, nat_lt, not, if◌then◌else◌, ℤ}
 use Rattle.std.specs.List.{AllByRecursion, filter}
@@ -20,7 +20,8 @@ use Rattle.nim_place.proofs.Legal.{main_of}
 use Rattle.nim_template.proofs.RankedEnds.{Ends, ends_received, ends_sent}
 use Rattle.nim_edit.proofs.Ascending.{away_commands}
 use Rattle.nim_edit.proofs.Elsewhere.{scratch_of}
-use Rattle.nim_edit.proofs.InOrder.{at_worker, commands_onward, early_commands, placed_command}
+use Rattle.nim_edit.proofs.InOrder.{commands_onward, early_commands, placed_command}
+use Rattle.nim_edit.proofs.LateEntries.{at_worker}
 use Rattle.nim_edit.proofs.Listed.{AreCopied, IsCopyOf, IsRunKind, is_early}
 use Rattle.nim_edit.proofs.Puts.{FirstRead}
 
