@@ -16,11 +16,14 @@ use nim_command::Command;
 use std::alloc::Global;
 use std::collections::{HashMap, HashSet, LinkedList};
 
+/// Among no more tickets than these one is searched.
+const FEW: usize = 16;
+
 /// A command of a group before the queue has it, with all that the queue needs to take it in.
 #[derive(Drop)]
 pub(crate) struct Arrival {
     pub(crate) command: Command,
-    /// The tickets of those that it waits for, as often as it does, each with its own ticket for their followers.
+    /// The tickets of those that it waits for, some maybe more than once, each with its own ticket for their followers.
     pub(crate) waits: Vec<Link>,
     /// The slots that it reads, each with its ticket for their readers.
     pub(crate) reads: Vec<Reading>,
@@ -105,11 +108,33 @@ impl Arrivals {
         ensures written { OnOk result ((s : ℕ) → bag.contains nat_eq self.new.written s
             ≡ (bag.contains nat_eq self.old.written s || does_write command.kind (record { 0 = s }))) }
     {
+        let arrival = self.arrival(waiting, slots, ticket, command)?;
+        note_number(self.alloc, &mut self.numbers, arrival.command.id, ticket)?;
+        note_writes(&mut self.written, arrival.command.kind.writes())?;
+        Ok(arrival)
+    }
+
+    /// A command with this ticket, behind those that wait and those of its group that arrived; it isn't noted.
+    pub(crate) fn arrival(
+        &self,
+        waiting: &HashMap<u64, Waiting>,
+        slots: &HashMap<u16, SlotUse>,
+        ticket: u64,
+        command: Command,
+    ) -> Result<Arrival, NoMemory>
+        ensures same { IfOk result (λ a. a.command ≡ command) }
+        ensures arrival { IfOk result (λ a. HasArrived
+            (record {
+              kept = get nat_eq waiting.now;
+              used = get nat_eq slots.now;
+              named = λ n. unwrap_or (get nat_eq self.now.numbers n) [];
+              written = bag.contains nat_eq self.now.written;
+            })
+            ticket a) }
+    {
         let tickets = self.reach(waiting, slots, &command)?;
         let waits = links(self.alloc, tickets.as_slice(), ticket)?;
         let reads = readings(self.alloc, command.kind.reads(), ticket)?;
-        note_number(self.alloc, &mut self.numbers, command.id, ticket)?;
-        note_writes(&mut self.written, command.kind.writes())?;
         Ok(Arrival {
             command,
             waits,
@@ -284,7 +309,7 @@ fn push_each(
     Ok(())
 }
 
-/// A ticket, where its command waits.
+/// A ticket, where its command waits. Where it is among a few that are there already, it isn't put there again.
 fn push_kept(
     tickets: &mut Vec<u64>,
     waiting: &HashMap<u64, Waiting>,
@@ -292,10 +317,19 @@ fn push_kept(
 ) -> Result<(), NoMemory>
     ensures { OnOk result ((e : ℕ) → is_in e tickets.new.items ≡ (is_in e tickets.old.items || ((e == ticket) && is_some (get nat_eq waiting.now e)))) }
 {
+    if tickets.len() <= FEW && is_known(tickets.as_slice(), ticket) {
+        return Ok(());
+    }
     if waiting.contains_key(&ticket) {
         tickets.push(ticket)?;
     }
     Ok(())
+}
+
+fn is_known(tickets: &[u64], ticket: u64) -> bool
+    ensures { result ≡ is_in ticket tickets.now }
+{
+    tickets.iter().any(|other| ticket == *other)
 }
 
 fn links(alloc: Global, tickets: &[u64], later: u64) -> Result<Vec<Link>, NoMemory>

@@ -14,11 +14,11 @@ ghost use Rattle.nim_queue.specs.Midway.{HasRoom, IsMidway};
 ghost use Rattle.nim_order.specs.Progress.{IsReleasedAt};
 ghost use Rattle.nim_queue.specs.Stands.{Keeps, Stands, command_of, done_with, group_of, is_after, nothing_done, ready_of};
 
-use crate::arrivals::{Arrival, arrive_all};
+use crate::arrivals::{Arrival, Arrivals, arrive_all};
 use crate::complete::free;
 use crate::join::{enter, follow, offer, read, write};
 use crate::look::{command_at, group_at};
-use crate::room::{count_all, cover_all};
+use crate::room::{count_all, count_one, cover_all};
 use crate::slot_use::SlotUse;
 use crate::tickets::Tickets;
 use crate::waiting::Waiting;
@@ -26,6 +26,7 @@ use nim_base::NoMemory;
 use nim_command::Command;
 use std::alloc::Global;
 use std::collections::{HashMap, LinkedList};
+use std::slice;
 
 /// Commands that wait for others: those of their group that their before sets name, and those of earlier groups that
 /// they meet in a slot. The ticket of a command is its place in the order given. Which groups a queue stands for,
@@ -73,6 +74,9 @@ impl BeforeQueue {
         if group.len() as u64 > u64::MAX - self.given || self.groups == u64::MAX {
             return Err(NoMemory);
         }
+        if group.len() == 1 {
+            return self.admit_first(group);
+        }
         let arrived = arrive_all(self.alloc, &self.waiting, &self.slots, self.given, group)?;
         let links = count_all(self.links, arrived.as_slice())?;
         self.make_room(arrived.as_slice())?;
@@ -114,6 +118,39 @@ impl BeforeQueue {
         ensures command { (groups : List group_type) (done : ℕ → Bool) → Stands self.old groups done → result ≡ command_of groups done ticket }
     {
         free(&mut self.waiting, &mut self.released, ticket)
+    }
+
+    /// Takes the only command of a group.
+    fn admit_first(&mut self, mut group: Vec<Command>) -> Result<(), NoMemory>
+        requires one { length group.items ≡ 1 }
+        requires tickets { self.old.given + 1 < 2 ^ 64 }
+        requires groups { self.old.groups + 1 < 2 ^ 64 }
+        ensures ok { (groups : List group_type) (done : ℕ → Bool) (next : group_type) → Stands self.old groups done → next.commands ≡ group.items
+            → OnOk result (Stands self.new (groups ++ next ∷ []) done) }
+        ensures err { (groups : List group_type) (done : ℕ → Bool) → Stands self.old groups done → OnErr result (Stands self.new groups done) }
+    {
+        match group.pop() {
+            Some(command) => self.admit_alone(command),
+            None => Ok(()),
+        }
+    }
+
+    /// Takes a command that is a group by itself. It meets no command of its group, so that nothing is noted of it.
+    fn admit_alone(&mut self, command: Command) -> Result<(), NoMemory>
+        requires tickets { self.old.given + 1 < 2 ^ 64 }
+        requires groups { self.old.groups + 1 < 2 ^ 64 }
+        ensures ok { (groups : List group_type) (done : ℕ → Bool) (next : group_type) → Stands self.old groups done → next.commands ≡ command ∷ []
+            → OnOk result (Stands self.new (groups ++ next ∷ []) done) }
+        ensures err { (groups : List group_type) (done : ℕ → Bool) → Stands self.old groups done → OnErr result (Stands self.new groups done) }
+    {
+        let nothing = Arrivals::new(self.alloc);
+        let arrival = nothing.arrival(&self.waiting, &self.slots, self.given, command)?;
+        let links = count_one(self.links, &arrival)?;
+        self.make_room(slice::from_ref(&arrival))?;
+        self.join(arrival);
+        self.groups += 1;
+        self.links = links;
+        Ok(())
     }
 
     /// Room for what has arrived.

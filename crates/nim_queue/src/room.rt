@@ -122,7 +122,8 @@ pub(crate) fn count_all(links: u64, arrived: &[Arrival]) -> Result<u64, NoMemory
     Ok(count)
 }
 
-fn count_one(links: u64, arrival: &Arrival) -> Result<u64, NoMemory>
+/// The same with one more.
+pub(crate) fn count_one(links: u64, arrival: &Arrival) -> Result<u64, NoMemory>
     ensures count { IfOk result (λ count. count ≡ links + (length arrival.now.waits.items + length arrival.now.reads.items)) }
     ensures few { IfOk result (λ count. count < 2 ^ 62) }
 {
