@@ -1,5 +1,4 @@
 ghost use Rattle.std.specs.Prelude.{◌≡◌, ℕ, ◌+◌, ◌≤◌, ◌<◌, ◌^◌, ◌++◌, ◌∷◌, [], Bool, true, List, length, map, nat_eq, ◌==◌, if◌then◌else◌, Some, IfSome, OnOk, OnErr};
-ghost use Rattle.std.specs.Vec.{vec_capacity, vec_len};
 ghost use Rattle.std.specs.Option.{option_copied};
 ghost use Rattle.nim_command.specs.Waits.{Group as group_type, placed_commands};
 ghost use Rattle.std.specs.HashMap.{get, spare};
@@ -7,6 +6,7 @@ ghost use Rattle.std.specs.VecDeque.{deque_capacity, deque_len};
 ghost use Rattle.std.specs.Option.{option_map};
 ghost use Rattle.nim_base.specs.declared.number.Slot.{Slot as slot_type};
 ghost use Rattle.nim_command.specs.Slots.{is_among, writes_of};
+ghost use Rattle.nim_queue.specs.Used.{used_in};
 ghost use Rattle.nim_queue.specs.Arrived.{HaveArrived, link_to, reading_of};
 ghost use Rattle.nim_queue.specs.Counts.{IsRising, put_in};
 ghost use Rattle.nim_queue.specs.Joined.{AreBrief, AreShort, counted, followed, gathered, gathered_reads, kept_new, more_read, rewritten};
@@ -36,8 +36,8 @@ pub struct BeforeQueue {
     pub(crate) alloc: Global,
     /// The commands that aren't complete, by ticket.
     pub(crate) waiting: HashMap<u64, Waiting>,
-    /// Who uses a slot.
-    pub(crate) slots: HashMap<u16, SlotUse>,
+    /// Who uses a slot, by the slots' numbers.
+    pub(crate) slots: Vec<Option<SlotUse>>,
     /// Those that wait for nothing.
     pub(crate) released: Tickets,
     /// No list of followers or readers is longer.
@@ -55,7 +55,7 @@ impl BeforeQueue {
         BeforeQueue {
             alloc,
             waiting: HashMap::new(alloc),
-            slots: HashMap::new(alloc),
+            slots: Vec::new(alloc),
             released: Tickets::new(alloc),
             links: 0,
             given: 0,
@@ -156,7 +156,7 @@ impl BeforeQueue {
     /// Room for what has arrived.
     fn make_room(&mut self, arrived: &[Arrival]) -> Result<(), NoMemory>
         ensures stands { (groups : List group_type) (done : ℕ → Bool) → Stands self.old groups done → Stands self.new groups done }
-        ensures room { OnOk result (HaveArrived (get nat_eq self.old.waiting) (get nat_eq self.old.slots) self.old.given [] arrived.now
+        ensures room { OnOk result (HaveArrived (get nat_eq self.old.waiting) (used_in self.old.slots.items) self.old.given [] arrived.now
             → self.old.links + counted arrived.now < 2 ^ 62 → HasRoom self.new arrived.now) }
         ensures given { self.new.given ≡ self.old.given }
         ensures groups { self.new.groups ≡ self.old.groups }
@@ -187,10 +187,10 @@ impl BeforeQueue {
             → k + length d < 2 ^ 63 → 0 < spare self.old.waiting → (t : ℕ) → get nat_eq self.new.waiting t
             ≡ (if self.old.given == t then Some (kept_new self.old.groups arrival.command (length d))
             else option_map (followed (gathered t (map (link_to self.old.given) d))) (get nat_eq self.old.waiting t)) }
-        ensures slots { (k : ℕ) (d : List slot_type) → AreBrief (get nat_eq self.old.slots) k → arrival.reads.items ≡ map (reading_of self.old.given) d
-            → k + length d < 2 ^ 63 → (s : ℕ) → get nat_eq self.new.slots s ≡ option_map (more_read (gathered_reads s arrival.reads.items))
-            (if is_among (writes_of arrival.command.kind) (record { 0 = s }) then option_map (rewritten self.old.given) (get nat_eq self.old.slots s)
-            else get nat_eq self.old.slots s) }
+        ensures slots { (k : ℕ) (d : List slot_type) → AreBrief (used_in self.old.slots.items) k → arrival.reads.items ≡ map (reading_of self.old.given) d
+            → k + length d < 2 ^ 63 → (s : ℕ) → used_in self.new.slots.items s ≡ option_map (more_read (gathered_reads s arrival.reads.items))
+            (if is_among (writes_of arrival.command.kind) (record { 0 = s }) then option_map (rewritten self.old.given) (used_in self.old.slots.items s)
+            else used_in self.old.slots.items s) }
         ensures released { IsRising self.old.released.items.items → deque_len self.old.released.items < deque_capacity self.old.released.items
             → self.new.released.items.items ≡ (if length arrival.waits.items == 0 then put_in self.old.given self.old.released.items.items
             else self.old.released.items.items) }

@@ -2,6 +2,7 @@ use Rattle.std.proofs.Common.{◌≡◌, ◌∙◌, ◌<◌, ◌^◌, ◌+◌, �
 use Rattle.std.specs.HashMap.{get}
 use Rattle.std.proofs.Math.Path.{fun_ext}
 use Rattle.nim_command.specs.declared.command.Command.{Command}
+use Rattle.nim_queue.specs.Used.{used_in}
 use Rattle.nim_queue.specs.Arrived.{HasArrived, HaveArrived, Sight, sight_of}
 use Rattle.nim_queue.specs.Joined.{counted}
 use Rattle.nim_queue.specs.Midway.{HasRoom}
@@ -18,7 +19,7 @@ returns-clause-ok c groups done next stands same =
     let now = c.join.new.self in
     let a = c.in_ok-arrival.arrival in
     let kept = get nat_eq old.waiting in
-    let used = get nat_eq old.slots in
+    let used = used_in old.slots.items in
     let past : List Command = [] in
     let sight : (named : ℕ → List ℕ) → (written : ℕ → Bool) → Sight = λ named written. record { kept = kept; used = used; named = named; written = written } in
     let first : old.given ≡ old.given + length past = omega arith in
