@@ -5,7 +5,7 @@ use Rattle.std.proofs.lemmas.List.{append-nil, append_assoc}
 use Rattle.std.proofs.lemmas.List.Concat.{flat_map-append}
 use Rattle.nim_message.specs.declared.order.ToWorker.{ToWorker}
 use Rattle.nim_place.specs.Extends.{worker_of}
-use Rattle.nim_course.specs.Directed.{Directed, directed}
+use Rattle.nim_place.specs.Directed.{Directed, directed}
 use Rattle.nim_control.proofs.Ranges.{range_more}
 
 -- one worker's orders

@@ -10,7 +10,7 @@ use Rattle.nim_base.specs.declared.number.Worker.{Worker}
 use Rattle.nim_command.specs.declared.command.Command.{Command}
 use Rattle.nim_message.specs.declared.order.ToWorker.{ToWorker}
 use Rattle.nim_place.specs.Extends.{longer, single_with, singles_of, worker_of}
-use Rattle.nim_course.specs.Directed.{Directed, by_number, directed, orders_to}
+use Rattle.nim_place.specs.Directed.{Directed, by_number, directed, orders_to}
 use Rattle.nim_course.specs.OrdersGiven.{no_instance, single_for}
 
 -- the orders for a worker, in two parts

@@ -36,7 +36,7 @@ use Rattle.nim_place.proofs.Legal.{schedule_legal}
 use Rattle.nim_place.proofs.Singles.{schedule_asks, singles_covered}
 use Rattle.nim_place.proofs.TaskPairs.{schedule_paired}
 use Rattle.nim_course.specs.Controller.{Controller}
-use Rattle.nim_course.specs.Directed.{Directed, by_number, directed}
+use Rattle.nim_place.specs.Directed.{Directed, by_number, directed}
 use Rattle.nim_course.specs.Leads.{AreLeading, RunsAtHome, is_key_from, position_run}
 use Rattle.nim_course.specs.OrdersGiven.{after_instance, instance_orders}
 use Rattle.nim_course.proofs.Alone.{AreLed, AreQuiet, none_weaker, quiet_homes, quiet_runs, right_more}

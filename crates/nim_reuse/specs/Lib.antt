@@ -1,0 +1,4 @@
+pub mod Awaited
+pub mod Decisions
+pub mod Extends
+pub mod Reuse
