@@ -1,7 +1,9 @@
 -- What the orders of an instance that goes by a template keep true of all orders so far.
 use Rattle.std.specs.Prelude.{◌≡◌, ◌≢◌, ℕ, ◌+◌, ◌^◌, ◌<◌, ◌≤◌, ◌==◌, Bool, true, ◌&&◌, ℤ, List, [], ◌++◌, length, map, take, drop, All}
 use Rattle.std.specs.List.{list_any}
+use Rattle.std.specs.Option.{is_some}
 use Rattle.nim_base.specs.declared.task.TaskForm.{TaskForm}
+use Rattle.nim_base.specs.declared.number.Object.{Object}
 use Rattle.nim_base.specs.declared.number.Worker.{Worker}
 use Rattle.nim_command.specs.declared.command.Command.{Command}
 use Rattle.nim_command.specs.declared.template.WorkerTemplate.{WorkerTemplate}
@@ -12,7 +14,7 @@ use Rattle.nim_place.specs.declared.placement.Placement.{Placement}
 use Rattle.nim_place.specs.Directed.{by_number}
 use Rattle.nim_place.specs.Extends.{LongerIsCovered, LongerIsLegal, LongerIsPaired, longer}
 use Rattle.nim_place.specs.TaskOrders.{AreSoFar, IsAt}
-use Rattle.nim_place.specs.Versions.{Versions}
+use Rattle.nim_place.specs.Versions.{Versions, holder}
 use Rattle.nim_patch.specs.Cache.{IsValid}
 use Rattle.nim_patch.specs.Given.{ArePartsInstalled}
 use Rattle.nim_patch.specs.Uses.{Use}
@@ -58,12 +60,13 @@ pub record AreDecided (place : Placement) (live : List Bool) (objects : ℕ) (de
 -- ---- an instance
 
 -- An instance may go by a template behind orders so far: its block is recorded, workers have what was decided, and the
--- map stands for these orders.
+-- map stands for these orders, and some worker holds the latest version of each object.
 pub record MayReuse (place : Placement) (live : List Bool) (objects : ℕ) (decisions : Decisions) (at : InstanceAt)
     (lists : ℕ → List ToWorker) (given : List (Worker × Command)) (versions : Versions) : Type 0 where
   pub so_far : AreSoFar live at.epoch lists given versions
   pub before : IsBefore (length live) objects at.base versions
   pub room : at.base + 1024 < 2 ^ 64
+  pub holders : (object : Object) → object.0 < versions.objects → is_some (holder versions object) ≡ true
   pub some : list_any (λ (flag : Bool). flag) live ≡ true
   pub decided : AreDecided place live objects decisions lists
   pub there : at.block < length decisions.blocks
