@@ -16,7 +16,7 @@ use Rattle.nim_place.specs.Directed.{Directed}
 use Rattle.nim_course.specs.OrdersGiven.{command_of, first_command, first_commands, first_kind, single_for}
 use Rattle.nim_control.specs.Given.{AreAlone}
 use Rattle.nim_control.specs.Sites.{HasSites, Sites, SitesStay}
-use Rattle.nim_control.proofs.Ranges.{range_more}
+use Rattle.nim_job.proofs.Lists.{range_more}
 
 -- a controller that has these sites has them when only what lies where has changed
 pub has_still : (c : Controller) (old new : Sites) → HasSites c old → SitesStay old new → HasSites c new

@@ -14,7 +14,7 @@ use Rattle.nim_course.specs.Controller.{Controller}
 use Rattle.nim_course.specs.Moves.{fetching}
 use Rattle.nim_course.specs.OrdersGiven.{counted_on, fetch_at, fetch_commands, fetched_of, single_for}
 use Rattle.nim_control.specs.Given.{objects_from}
-use Rattle.nim_control.proofs.Ranges.{range_more}
+use Rattle.nim_job.proofs.Lists.{range_more}
 
 -- ---- fetches
 

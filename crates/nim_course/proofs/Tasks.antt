@@ -42,7 +42,7 @@ use Rattle.nim_course.specs.OrdersGiven.{after_instance, instance_orders}
 use Rattle.nim_course.proofs.Alone.{AreLed, AreQuiet, none_weaker, quiet_homes, quiet_runs, right_more}
 use Rattle.nim_course.proofs.Asking.{AreNext}
 use Rattle.nim_course.proofs.Homes.{live_below, owner_live}
-use Rattle.nim_course.proofs.Lists.{more_directed}
+use Rattle.nim_place.proofs.Directed.{more_directed}
 
 -- ---- what a task reads and writes
 

@@ -12,7 +12,7 @@ use Rattle.nim_message.specs.Orders.{session_of}
 use Rattle.nim_job.specs.declared.job.Job.{Job}
 use Rattle.nim_plan.specs.Paired.{Key}
 use Rattle.nim_patch.specs.declared.patch.PatchCopy.{PatchCopy}
-use Rattle.nim_patch.specs.Parts.{parts_of, patch_commands_of, versions_taken}
+use Rattle.nim_patch.specs.Parts.{patch_parts_of, patch_commands_of, versions_taken}
 use Rattle.nim_patch.specs.Patches.{after_copies}
 use Rattle.nim_place.specs.Extends.{AskFor, LongerIsCovered, LongerIsLegal, LongerIsPaired, is_live, longer, worker_of}
 use Rattle.nim_place.specs.TaskOrders.{AreSoFar, IsAt}
@@ -28,7 +28,7 @@ install_parts epoch patch (part ∷ parts) = InstallPatch epoch patch (part ∷ 
 
 -- the ends of a patch's copies, one order to each worker that has some
 abbrev pub patch_installs_of : ℕ → ℕ → List PatchCopy → ℕ → List ToWorker
-patch_installs_of epoch patch copies = λ number. install_parts epoch patch (parts_of copies (worker_of number))
+patch_installs_of epoch patch copies = λ number. install_parts epoch patch (patch_parts_of copies (worker_of number))
 
 -- the order that asks a worker for its ends, with the versions that they take; none where it has no ends
 abbrev pub run_parts : ℕ → ℕ → ℕ → Versions → List PatchPart → List ToWorker
@@ -39,7 +39,7 @@ run_parts epoch instance patch versions (part ∷ parts) =
 -- a run of a patch, one order to each worker that has ends
 abbrev pub patch_runs_of : ℕ → ℕ → ℕ → List PatchCopy → Versions → ℕ → List ToWorker
 patch_runs_of epoch instance patch copies versions =
-    λ number. run_parts epoch instance patch versions (parts_of copies (worker_of number))
+    λ number. run_parts epoch instance patch versions (patch_parts_of copies (worker_of number))
 
 -- ---- installed
 
@@ -52,7 +52,7 @@ HasParts now (part ∷ parts) = now ≡ part ∷ parts
 abbrev pub ArePartsInstalled : List Bool → ℕ → List PatchCopy → (ℕ → List ToWorker) → Type 0
 ArePartsInstalled live patch copies lists =
     (worker : Worker) → is_live live worker ≡ true
-    → HasParts ((session_of (lists worker.0)).patches patch) (parts_of copies worker)
+    → HasParts ((session_of (lists worker.0)).patches patch) (patch_parts_of copies worker)
 
 -- each live worker has the halves that it had
 abbrev pub KeepHalves : List Bool → (ℕ → List ToWorker) → (ℕ → List ToWorker) → Type 0

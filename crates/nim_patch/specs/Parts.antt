@@ -19,19 +19,20 @@ abbrev pub receiving_part : ℕ → PatchCopy → PatchPart
 receiving_part number copy = record { number = number; receives = true; object = copy.object; peer = copy.from }
 
 -- what a worker has of it: its source sends, its receiver receives
-abbrev pub parts_at : ℕ → PatchCopy → Worker → List PatchPart
-parts_at number copy worker =
+abbrev pub copy_parts : ℕ → PatchCopy → Worker → List PatchPart
+copy_parts number copy worker =
     (if copy.from.0 == worker.0 then sending_part number copy ∷ [] else [])
     ++ (if copy.to.0 == worker.0 then receiving_part number copy ∷ [] else [])
 
 -- what it has of copies, the first of them with this number
-abbrev pub parts_from : ℕ → List PatchCopy → Worker → List PatchPart
-parts_from number [] worker = []
-parts_from number (copy ∷ copies) worker = parts_at number copy worker ++ parts_from (number + 1) copies worker
+abbrev pub patch_parts_from : ℕ → List PatchCopy → Worker → List PatchPart
+patch_parts_from number [] worker = []
+patch_parts_from number (copy ∷ copies) worker =
+    copy_parts number copy worker ++ patch_parts_from (number + 1) copies worker
 
 -- A worker's ends of the copies of a patch, in their order. A copy's number is its place.
-abbrev pub parts_of : List PatchCopy → Worker → List PatchPart
-parts_of copies worker = parts_from 0 copies worker
+abbrev pub patch_parts_of : List PatchCopy → Worker → List PatchPart
+patch_parts_of copies worker = patch_parts_from 0 copies worker
 
 -- ---- commands
 
@@ -51,7 +52,7 @@ run_commands versions parts = patch_commands (versions_taken versions parts) par
 abbrev pub run_commands_from : List PatchCopy → Versions → ℕ → ℕ → List (Worker × Command)
 run_commands_from copies versions number workers =
     flat_map
-    (λ (n : ℕ). map (λ (c : Command). (worker_of n, c)) (run_commands versions (parts_of copies (worker_of n))))
+    (λ (n : ℕ). map (λ (c : Command). (worker_of n, c)) (run_commands versions (patch_parts_of copies (worker_of n))))
     (range_with_len number workers)
 
 -- The commands of a run of a patch, worker by worker, from a map on whose latest versions are copied.

@@ -1,0 +1,5 @@
+pub mod Along
+pub mod Few
+pub mod Patching
+pub mod Receives
+mod WorkedRows

@@ -2,6 +2,7 @@
 use Rattle.std.specs.Prelude.{ℕ, List, [], replicate, slice_index_or, slice_set}
 use Rattle.nim_base.specs.declared.task.TaskForm.{TaskForm}
 use Rattle.nim_patch.specs.Uses.{Use}
+use Rattle.nim_template.specs.declared.template.ControllerTemplate.{ControllerTemplate}
 use Rattle.nim_reuse.specs.declared.decided.Decided.{Decided}
 
 -- What was decided of each block, by its number; the block of the previous instance, 32 where there is none; and the
@@ -19,9 +20,13 @@ no_decisions blocks = record { blocks = replicate blocks Decided.Open; previous 
 abbrev pub decided_of : Decisions → ℕ → Decided
 decided_of decisions block = slice_index_or decisions.blocks block Decided.Open
 
+-- a block's tasks, as they are recorded
+abbrev pub template_with : ℕ → List TaskForm → ControllerTemplate
+template_with block forms = record { block = block; forms = forms }
+
 -- a block's tasks were recorded while its first instance was scheduled
 abbrev pub recorded : Decisions → ℕ → List TaskForm → Decisions
 recorded decisions block forms = record decisions {
-  blocks = slice_set decisions.blocks block (Decided.Recorded (record { block = block; forms = forms }));
+  blocks = slice_set decisions.blocks block (Decided.Recorded (template_with block forms));
   previous = block;
 }

@@ -1,4 +1,4 @@
 pub mod Awaited
 pub mod Decisions
-pub mod Extends
+pub mod Named
 pub mod Reuse

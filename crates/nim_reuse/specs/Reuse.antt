@@ -3,7 +3,6 @@ use Rattle.std.specs.Prelude.{◌≡◌, ◌≢◌, ℕ, ◌≤◌, Bool, true, 
 use Rattle.std.specs.List.{list_all}
 use Rattle.std.specs.Option.{option_map_or}
 use Rattle.nim_command.specs.declared.template.WorkerTemplate.{WorkerTemplate}
-use Rattle.nim_message.specs.declared.order.ToWorker.{ToWorker}
 use Rattle.nim_place.specs.declared.placement.Placement.{Placement}
 use Rattle.nim_place.specs.Directed.{Directed, directed}
 use Rattle.nim_place.specs.Versions.{Versions, after_effect}
@@ -49,10 +48,10 @@ abbrev pub is_new : Decided → Bool
 is_new (Installed template) = false
 is_new decided = true
 
--- the orders that give them their halves, where they don't have them
-abbrev pub halves_given : ℕ → Decided → WorkerTemplate → ℕ → List ToWorker
-halves_given epoch (Installed template) = λ template number. []
-halves_given epoch decided = installs_of epoch
+-- the orders that give so many workers their halves, where they don't have them
+abbrev pub halves_given : ℕ → ℕ → Bool → WorkerTemplate → List Directed
+halves_given workers epoch false template = []
+halves_given workers epoch true template = directed workers (installs_of epoch template)
 
 -- ---- the patch
 
@@ -113,7 +112,7 @@ abbrev pub orders_at : Decisions → Placement → List Bool → Versions → In
 orders_at decisions place live versions at args =
     let template : WorkerTemplate = template_at decisions place versions.objects live at in
     let workers : ℕ = length template.halves in
-    directed workers (halves_given at.epoch (decided_of decisions at.block) template)
+    halves_given workers at.epoch (is_new (decided_of decisions at.block)) template
     ++ patch_given workers at versions (copies_at decisions place live versions at)
     (patched_at decisions place live versions at)
     ++ directed workers

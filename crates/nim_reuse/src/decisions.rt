@@ -1,21 +1,20 @@
 ghost use Rattle.std.specs.Prelude.{◌≡◌, ◌≤◌, ◌<◌, ◌++◌, true, length, IfOk, OnErr, OnOk};
 ghost use Rattle.std.specs.List.{list_any};
-ghost use Rattle.nim_patch.specs.Patches.{after_copies, copies_of};
 ghost use Rattle.nim_reuse.specs.Awaited.{awaited_from};
 ghost use Rattle.nim_reuse.specs.Decisions as spec;
 ghost use Rattle.nim_reuse.specs.Reuse as reuse;
 
 use crate::awaited::awaited;
-use crate::installs::push_installs;
+use crate::Decided;
+use crate::installs::push_halves;
 use crate::instances::push_instances;
-use crate::patches::{apply_copies, push_patch};
+use crate::mending::mend;
 use crate::ready::ready_of;
-use crate::{Decided, Ready};
-use nim_base::{Epoch, Instance, NoMemory, Position, Seq, TaskForm, Worker};
+use nim_base::{Epoch, Instance, NoMemory, Position, TaskForm, Worker};
 use nim_message::ToWorker;
-use nim_patch::{Patch, PatchCache};
+use nim_patch::PatchCache;
 use nim_place::{Placement, VersionMap};
-use nim_template::Recorder;
+use nim_template::{ControllerTemplate, Recorder};
 use std::alloc::Global;
 use std::marker::Model;
 use std::mem;
@@ -100,11 +99,8 @@ impl Decisions {
         ensures ok { OnOk result (self.new ≡ spec.recorded self.old block forms.now) }
         ensures err { OnErr result (self.new ≡ self.old) }
     {
-        let mut recorder = Recorder::new(self.alloc, block);
-        for form in forms {
-            recorder.push_form(form)?;
-        }
-        self.blocks[usize::from(block)] = Decided::Recorded(recorder.finish());
+        let template = recorded(self.alloc, block, forms)?;
+        self.blocks[usize::from(block)] = Decided::Recorded(template);
         self.previous = block;
         Ok(())
     }
@@ -140,60 +136,30 @@ impl Decisions {
         let decided = mem::replace(&mut self.blocks[block], Decided::Open);
         let is_new = is_new(&decided);
         let mut ready = ready_of(self.alloc, decided, place, map.objects(), live)?;
-        if is_new {
-            push_installs(self.alloc, orders, at.epoch, ready.template())?;
-        }
-        let patched = self.patch(orders, map, at, &mut ready)?;
-        push_instances(self.alloc, orders, map, at, ready.template(), args)?;
+        push_halves(self.alloc, orders, at.epoch, is_new, &ready)?;
+        let patched = mend(self.alloc, orders, map, &mut self.patches, self.previous, at, &mut ready)?;
+        push_instances(self.alloc, orders, map, at, &ready, args)?;
         map.apply_effect(ready.template().effect.as_slice(), at.base);
-        let awaited = awaited(self.alloc, ready.template().halves.as_slice())?;
+        let awaited = awaited(self.alloc, &ready)?;
         self.blocks[block] = Decided::Installed(ready);
         self.previous = at.block;
-        Ok(Reused { awaited, is_new, patched })
-    }
-
-    /// Has the preconditions of a template hold: gives the orders of a patch where some fail, and the map takes in its
-    /// copies.
-    fn patch(
-        &mut self,
-        orders: &mut Vec<(Worker, ToWorker)>,
-        map: &mut VersionMap,
-        at: InstanceAt,
-        ready: &mut Ready,
-    ) -> Result<Patched, NoMemory>
-        ensures ready { ready.new ≡ ready.old }
-        ensures orders { let copies = copies_of map.old ready.old.preconditions in
-            IfOk result (λ patched. orders.new.items ≡ orders.old.items
-            ++ reuse.patch_given (length ready.old.halves) at map.old copies patched) }
-        ensures map { OnOk result (map.new ≡ after_copies map.old (copies_of map.old ready.old.preconditions)) }
-        ensures patched { IfOk result (λ patched. patched ≡ reuse.patched_by (reuse.key_at self.old at)
-            (copies_of map.old ready.old.preconditions) self.old.patches) }
-        ensures decisions { IfOk result (λ patched. self.new ≡ record self.old {
-          patches = reuse.patches_after (reuse.key_at self.old at) (copies_of map.old ready.old.preconditions)
-              self.old.patches patched;
-        }) }
-    {
-        let Some(patch) = ready.patch_for(self.alloc, map)? else {
-            return Ok(Patched::Not);
-        };
-        let workers = ready.template().halves.len() as u16;
-        let patched = match self.patches.find(self.previous, at.block, &patch) {
-            Some(number) => Patched::Repeated(number),
-            None => Patched::Made(self.patches.keep(self.previous, at.block, copied(self.alloc, &patch)?)?),
-        };
-        push_patch(self.alloc, orders, map, workers, at, patch.copies.as_slice(), patched)?;
-        apply_copies(self.alloc, map, patch.copies.as_slice());
-        Ok(patched)
+        Ok(Reused {
+            awaited,
+            is_new,
+            patched,
+        })
     }
 }
 
-/// A copy of a patch.
-fn copied(alloc: Global, patch: &Patch) -> Result<Patch, NoMemory>
-    ensures { IfOk result (λ copied. copied.copies ≡ patch.now.copies) }
+/// A block's tasks, recorded.
+fn recorded(alloc: Global, block: u8, forms: &[TaskForm]) -> Result<ControllerTemplate, NoMemory>
+    ensures { IfOk result (λ template. template ≡ spec.template_with block forms.now) }
 {
-    Ok(Patch {
-        copies: Seq::from_vec(Vec::from_slice(alloc, patch.copies.as_slice())?),
-    })
+    let mut recorder = Recorder::new(alloc, block);
+    for form in forms {
+        recorder.push_form(form)?;
+    }
+    Ok(recorder.finish())
 }
 
 /// Whether workers are to be given their halves first.

@@ -1,13 +1,10 @@
-ghost use Rattle.std.specs.Prelude.{◌≡◌, ◌++◌, length, IfOk, OnOk};
-ghost use Rattle.std.specs.List.{flat_map};
-ghost use Rattle.nim_place.specs.Directed.{directed};
-ghost use Rattle.nim_place.specs.Sound.{version_named};
+ghost use Rattle.std.specs.Prelude.{◌≡◌, ◌++◌, length, map as mapped, IfOk, OnOk};
+ghost use Rattle.nim_place.specs.Directed.{directed, for_worker};
 ghost use Rattle.nim_place.specs.Versions.{latest_of};
 ghost use Rattle.nim_template.specs.Given.{instances_of};
 
-use crate::InstanceAt;
-use nim_base::{NoMemory, Seq, Version, Worker};
-use nim_command::{Entry, EntryKind, WorkerTemplate, object_of};
+use crate::{InstanceAt, Ready};
+use nim_base::{NoMemory, Object, Seq, Version, Worker};
 use nim_message::ToWorker;
 use nim_place::VersionMap;
 use std::alloc::Global;
@@ -18,39 +15,53 @@ pub(crate) fn push_instances(
     orders: &mut Vec<(Worker, ToWorker)>,
     map: &VersionMap,
     at: InstanceAt,
-    template: &WorkerTemplate,
+    ready: &Ready,
     args: &[i64],
 ) -> Result<(), NoMemory>
-    ensures { OnOk result (orders.new.items ≡ orders.old.items ++ directed (length template.now.halves)
-        (instances_of at.epoch at.instance template.now at.base args.now map.now)) }
+    ensures { OnOk result (orders.new.items ≡ orders.old.items ++ directed (length ready.now.halves)
+        (instances_of at.epoch at.instance ready.now at.base args.now map.now)) }
 {
-    for (number, half) in template.halves.as_slice().iter().enumerate() {
-        if !half.entries().is_empty() {
-            let order = ToWorker::Instantiate {
-                epoch: at.epoch,
-                instance: at.instance,
-                block: template.block,
-                base: at.base,
-                args: Seq::from_vec(Vec::from_slice(alloc, args)?),
-                versions: versions_named(alloc, map, half.entries())?,
-                edits: Seq::new(alloc),
-            };
-            orders.push((Worker(number as u16), order))?;
-        }
+    for number in 0..ready.workers() {
+        push_instance(alloc, orders, map, at, ready, args, Worker(number))?;
     }
     Ok(())
 }
 
-/// The versions of what entries receive as the block began with it.
-fn versions_named(alloc: Global, map: &VersionMap, entries: &[Entry]) -> Result<Seq<Version>, NoMemory>
-    ensures { IfOk result (λ versions. versions
-        ≡ flat_map (λ e. version_named (latest_of map.now) e.kind) entries.now) }
+/// Asks a worker for it, if its half has entries.
+fn push_instance(
+    alloc: Global,
+    orders: &mut Vec<(Worker, ToWorker)>,
+    map: &VersionMap,
+    at: InstanceAt,
+    ready: &Ready,
+    args: &[i64],
+    worker: Worker,
+) -> Result<(), NoMemory>
+    ensures { OnOk result (orders.new.items ≡ orders.old.items
+        ++ for_worker (instances_of at.epoch at.instance ready.now at.base args.now map.now) worker.0) }
+{
+    if ready.half(worker).is_empty() {
+        return Ok(());
+    }
+    let order = ToWorker::Instantiate {
+        epoch: at.epoch,
+        instance: at.instance,
+        block: ready.template().block,
+        base: at.base,
+        args: Seq::from_vec(Vec::from_slice(alloc, args)?),
+        versions: latest_all(alloc, map, ready.named(worker))?,
+        edits: Seq::new(alloc),
+    };
+    Ok(orders.push((worker, order))?)
+}
+
+/// The latest version of each of these objects.
+fn latest_all(alloc: Global, map: &VersionMap, objects: &[Object]) -> Result<Seq<Version>, NoMemory>
+    ensures { IfOk result (λ versions. versions ≡ mapped (latest_of map.now) objects.now) }
 {
     let mut versions = Seq::new(alloc);
-    for entry in entries {
-        if let EntryKind::Receive { slot, offset: 0 } = entry.kind {
-            versions.push(map.latest(object_of(slot)))?;
-        }
+    for object in objects {
+        versions.push(map.latest(*object))?;
     }
     Ok(versions)
 }

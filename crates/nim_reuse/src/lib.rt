@@ -7,6 +7,8 @@ mod decided;
 mod decisions;
 mod installs;
 mod instances;
+mod mending;
+mod named;
 mod parts;
 mod patches;
 mod ready;

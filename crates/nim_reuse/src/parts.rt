@@ -1,4 +1,4 @@
-ghost use Rattle.std.specs.Prelude.{◌≡◌, ◌++◌, IfOk, OnOk};
+ghost use Rattle.std.specs.Prelude.{◌≡◌, ◌≤◌, if◌then◌else◌, [], ◌∷◌, ◌++◌, length, IfOk, OnOk};
 ghost use Rattle.nim_patch.specs.Parts as spec;
 
 use nim_base::{NoMemory, Seq, Version, Worker};
@@ -9,7 +9,8 @@ use std::alloc::Global;
 
 /// A worker's ends of the copies of a patch, each numbered by its copy's place.
 pub(crate) fn parts_of(alloc: Global, copies: &[PatchCopy], worker: Worker) -> Result<Seq<PatchPart>, NoMemory>
-    ensures { IfOk result (λ parts. parts ≡ spec.parts_of copies.now worker) }
+    requires { length copies.now ≤ 8192 }
+    ensures { IfOk result (λ parts. parts ≡ spec.patch_parts_of copies.now worker) }
 {
     let mut parts = Seq::new(alloc);
     for (number, copy) in copies.iter().enumerate() {
@@ -20,18 +21,33 @@ pub(crate) fn parts_of(alloc: Global, copies: &[PatchCopy], worker: Worker) -> R
 
 /// A worker's ends of one copy.
 fn push_ends(parts: &mut Seq<PatchPart>, number: u16, copy: &PatchCopy, worker: Worker) -> Result<(), NoMemory>
-    ensures { OnOk result (parts.new ≡ parts.old ++ spec.parts_at number copy.now worker) }
+    ensures { OnOk result (parts.new ≡ parts.old ++ spec.copy_parts number copy.now worker) }
 {
     let object = copy.object;
-    if copy.from.0 == worker.0 {
-        let peer = copy.to;
-        parts.push(PatchPart { number, receives: false, object, peer })?;
+    let sends = PatchPart {
+        number,
+        receives: false,
+        object,
+        peer: copy.to,
+    };
+    let receives = PatchPart {
+        number,
+        receives: true,
+        object,
+        peer: copy.from,
+    };
+    push_end(parts, sends, copy.from.0 == worker.0)?;
+    push_end(parts, receives, copy.to.0 == worker.0)
+}
+
+/// An end, if it is the worker's.
+fn push_end(parts: &mut Seq<PatchPart>, part: PatchPart, is_own: bool) -> Result<(), NoMemory>
+    ensures { OnOk result (parts.new ≡ parts.old ++ (if is_own then part ∷ [] else [])) }
+{
+    if !is_own {
+        return Ok(());
     }
-    if copy.to.0 == worker.0 {
-        let peer = copy.from;
-        parts.push(PatchPart { number, receives: true, object, peer })?;
-    }
-    Ok(())
+    parts.push(part)
 }
 
 /// The latest versions of what a worker's ends receive, in their order.
@@ -40,9 +56,17 @@ pub(crate) fn versions_taken(alloc: Global, map: &VersionMap, parts: &[PatchPart
 {
     let mut versions = Seq::new(alloc);
     for part in parts {
-        if part.receives {
-            versions.push(map.latest(part.object))?;
-        }
+        push_taken(&mut versions, map, part)?;
     }
     Ok(versions)
+}
+
+/// The version that an end takes, if it receives.
+fn push_taken(versions: &mut Seq<Version>, map: &VersionMap, part: &PatchPart) -> Result<(), NoMemory>
+    ensures { OnOk result (versions.new ≡ versions.old ++ spec.version_taken map.now part.now) }
+{
+    if !part.receives {
+        return Ok(());
+    }
+    versions.push(map.latest(part.object))
 }

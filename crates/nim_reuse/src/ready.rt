@@ -1,30 +1,37 @@
-ghost use Rattle.std.specs.Prelude.{◌≡◌, ◌≤◌, true, length, IfOk};
+ghost use Rattle.std.specs.Prelude.{◌≡◌, ◌≤◌, true, length, IfOk, IfSome};
 ghost use Rattle.std.specs.List.{list_any};
 ghost use Rattle.nim_patch.specs.Patches.{copies_of};
+ghost use Rattle.nim_reuse.specs.Named as spec;
 ghost use Rattle.nim_reuse.specs.Reuse as reuse;
 ghost use Rattle.nim_reuse.specs.Reuse.{IsPatchOf};
+ghost use Rattle.nim_template.specs.Built as templates;
+ghost use Rattle.nim_template.specs.Instance.{half_of};
+ghost use Rattle.nim_template.specs.MayBuild.{MayBuild};
 
 use crate::Decided;
-use nim_base::NoMemory;
-use nim_command::WorkerTemplate;
+use crate::named::all_named;
+use nim_base::{NoMemory, Object, Seq, Worker};
+use nim_command::{Entry, WorkerTemplate};
 use nim_patch::{Patch, build_patch, failing};
 use nim_place::{Placement, VersionMap};
-use nim_template::{Recorder, build_halves};
+use nim_template::{ControllerTemplate, build_halves};
 use std::alloc::Global;
 use std::marker::Model;
 
-/// A template that workers have, with room for a flag of each precondition. Contracts see the template.
+/// A template that workers have, with what its halves receive as their block began with it, and room for a flag of each
+/// precondition. Contracts see the template.
 #[derive(Debug, Drop)]
 pub struct Ready {
     template: WorkerTemplate,
+    named: Seq<Seq<Object>>,
     flags: Vec<bool>,
 }
 
 impl Model for Ready {
-    ghost use Rattle.std.specs.Prelude.{◌≡◌, length};
     ghost use Rattle.std.specs.Coded.{codes};
     ghost use Rattle.nim_command.specs.declared.template.WorkerTemplate.{WorkerTemplate as template_type};
     ghost use Rattle.nim_command.specs.contracts.template.WorkerTemplate as worker;
+    ghost use Rattle.nim_reuse.specs.Named.{IsReady};
 
     ghost Value = { template_type };
 
@@ -32,16 +39,23 @@ impl Model for Ready {
 
     ghost view = { λ r. r.template };
 
-    ghost invariant = { λ r. length r.flags.items ≡ length r.template.preconditions };
+    ghost invariant = { λ r. IsReady r.template r.named r.flags.items };
 }
 
 impl Ready {
-    /// A template, and room for its flags.
+    /// A template, with what its halves name and room for its flags.
     pub(crate) fn new(alloc: Global, template: WorkerTemplate) -> Result<Ready, NoMemory>
+        requires halves { length template.halves ≤ 16 }
+        requires preconditions { length template.preconditions ≤ 8192 }
         ensures { IfOk result (λ ready. ready ≡ template) }
     {
+        let named = all_named(alloc, template.halves.as_slice())?;
         let flags = vec![in alloc; false; template.preconditions.len()]?;
-        Ok(Ready { template, flags })
+        Ok(Ready {
+            template,
+            named,
+            flags,
+        })
     }
 
     /// The template.
@@ -51,11 +65,39 @@ impl Ready {
         &self.template
     }
 
+    /// How many workers it is for.
+    pub(crate) fn workers(&self) -> u16
+        ensures { result ≡ length self.now.halves }
+    {
+        self.template.halves.len() as u16
+    }
+
+    /// A worker's half.
+    pub(crate) fn half(&self, worker: Worker) -> &[Entry]
+        ensures { result.now ≡ half_of self.now worker.0 }
+    {
+        match self.template.halves.as_slice().get(usize::from(worker.0)) {
+            Some(half) => half.entries(),
+            None => &[],
+        }
+    }
+
+    /// What a worker's half receives as its block began with it.
+    pub(crate) fn named(&self, worker: Worker) -> &[Object]
+        ensures { result.now ≡ spec.objects_named (half_of self.now worker.0) }
+    {
+        match self.named.as_slice().get(usize::from(worker.0)) {
+            Some(objects) => objects.as_slice(),
+            None => &[],
+        }
+    }
+
     /// The patch that makes its preconditions hold; none where there is nothing to copy. Takes memory only where some
     /// precondition fails.
     pub(crate) fn patch_for(&mut self, alloc: Global, map: &VersionMap) -> Result<Option<Patch>, NoMemory>
         ensures same { self.new ≡ self.old }
         ensures patch { IfOk result (IsPatchOf (copies_of map.now self.old.preconditions)) }
+        ensures few { IfOk result (λ found. IfSome found (λ patch. length patch.copies ≤ 8192)) }
     {
         if failing(&self.template, map, self.flags.as_mut_slice()) == 0 {
             return Ok(None);
@@ -68,8 +110,7 @@ impl Ready {
     }
 }
 
-/// The template of a block, with room for its flags: the one that workers have, or the one that is built of the recorded
-/// tasks.
+/// The template of a block: the one that workers have, or the one that is built of the recorded tasks.
 pub(crate) fn ready_of(
     alloc: Global,
     decided: Decided,
@@ -83,11 +124,30 @@ pub(crate) fn ready_of(
     requires fit { reuse.IsFit objects decided }
     ensures { IfOk result (λ ready. ready ≡ reuse.template_for place.now objects live.now decided) }
 {
-    let recorded = match decided {
-        Decided::Installed(ready) => return Ok(ready),
-        Decided::Recorded(recorded) => recorded,
-        Decided::Open => Recorder::new(alloc, 0).finish(),
-    };
-    let template = build_halves(alloc, &recorded, place, objects, live)?;
+    match decided {
+        Decided::Installed(ready) => Ok(ready),
+        Decided::Recorded(recorded) => built(alloc, &recorded, place, objects, live),
+        Decided::Open => {
+            let nothing = ControllerTemplate {
+                block: 0,
+                forms: Seq::new(alloc),
+            };
+            built(alloc, &nothing, place, objects, live)
+        }
+    }
+}
+
+/// The template that is built of recorded tasks.
+fn built(
+    alloc: Global,
+    recorded: &ControllerTemplate,
+    place: &Placement,
+    objects: u16,
+    live: &[bool],
+) -> Result<Ready, NoMemory>
+    requires { MayBuild objects live.now recorded.now.forms }
+    ensures { IfOk result (λ ready. ready ≡ templates.built place.now objects live.now recorded.now) }
+{
+    let template = build_halves(alloc, recorded, place, objects, live)?;
     Ready::new(alloc, template)
 }

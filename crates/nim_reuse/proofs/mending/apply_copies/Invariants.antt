@@ -1,0 +1,7 @@
+-- what the copies so far leave
+use Rattle.std.proofs.Common.{◌≡◌, take}
+use Rattle.nim_patch.specs.Patches.{after_copies}
+use Rattle.nim_reuse.proofs.mending.apply_copies.Given as goal
+
+abbrev pub invariant-loop-copy : goal.invariant-loop-copy
+invariant-loop-copy l = l.map ≡ after_copies l.initial.map (take l.copy-index l.copies)
