@@ -11,14 +11,15 @@ use Rattle.nim_place.specs.Versions.{Versions, latest_of}
 
 -- ---- ends
 
--- the end of the copy with a number that sends, and the one that receives
+-- the end of a copy that sends, by the copy's number
 abbrev pub sending_part : ℕ → PatchCopy → PatchPart
 sending_part number copy = record { number = number; receives = false; object = copy.object; peer = copy.to }
 
+-- the end that receives
 abbrev pub receiving_part : ℕ → PatchCopy → PatchPart
 receiving_part number copy = record { number = number; receives = true; object = copy.object; peer = copy.from }
 
--- what a worker has of it: its source sends, its receiver receives
+-- what a worker has of a copy: its source sends, its receiver receives
 abbrev pub copy_parts : ℕ → PatchCopy → Worker → List PatchPart
 copy_parts number copy worker =
     (if copy.from.0 == worker.0 then sending_part number copy ∷ [] else [])
