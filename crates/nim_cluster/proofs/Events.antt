@@ -11,7 +11,7 @@ use Rattle.nim_schedule.specs.declared.event.Event.TheVariants.{Order, Report, D
 use Rattle.nim_message.specs.declared.report.FromWorker.{FromWorker}
 use Rattle.nim_place.specs.Extends.{is_live, worker_of}
 use Rattle.nim_course.specs.Controller.{Controller}
-use Rattle.nim_course.specs.Directed.{Directed}
+use Rattle.nim_place.specs.Directed.{Directed}
 use Rattle.nim_course.specs.Moves.{IsTurned}
 use Rattle.nim_course.specs.Reports.{after_report}
 use Rattle.nim_history.specs.declared.out.Out.{Out}

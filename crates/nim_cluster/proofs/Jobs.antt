@@ -10,7 +10,7 @@ use Rattle.nim_place.specs.Extends.{is_live}
 use Rattle.nim_course.specs.declared.pending.Pending.{Pending}
 use Rattle.nim_course.specs.declared.pending.Pending.TheVariants.{Begin, Idle, Block, Cell, Parts, Ended}
 use Rattle.nim_course.specs.Controller.{Controller}
-use Rattle.nim_course.specs.Directed.{Directed}
+use Rattle.nim_place.specs.Directed.{Directed}
 use Rattle.nim_course.specs.Moves.{IsTurned, after_moves, asked, done_with}
 use Rattle.nim_course.specs.Reports.{after_report, reported}
 

@@ -13,7 +13,7 @@ use Rattle.nim_place.specs.declared.placement.Placement.{Placement}
 use Rattle.nim_place.specs.Placement.{home}
 use Rattle.nim_place.specs.Versions.{Versions, after_commands, after_kind}
 use Rattle.nim_course.specs.Controller.{Controller}
-use Rattle.nim_course.specs.Directed.{Directed}
+use Rattle.nim_place.specs.Directed.{Directed}
 use Rattle.nim_course.specs.OrdersGiven.{command_of, first_command, first_commands, first_kind, single_for}
 use Rattle.nim_control.specs.Given.{AreAlone}
 use Rattle.nim_control.specs.Sites.{HasSites, Sites, SitesStay}

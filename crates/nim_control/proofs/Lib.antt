@@ -1,6 +1,5 @@
 pub mod Alone
 pub mod Asking
-pub mod Directed
 pub mod Fetches
 pub mod Flights
 pub mod Forms
