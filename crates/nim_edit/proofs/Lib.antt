@@ -12,10 +12,12 @@ pub mod InOrder
 pub mod Installs
 pub mod LateEntries
 pub mod Leaves
+pub mod LegalThen
 pub mod Listed
 pub mod Masks
 pub mod Migrations
 pub mod MovedSound
+pub mod NoTasks
 pub mod OneTask
 pub mod Owners
 pub mod Parts

@@ -55,6 +55,11 @@ use Rattle.nim_edit.proofs.Parts.{AreMain, copies_run, effect_main, onward_copie
 use Rattle.nim_edit.proofs.SamePlanes.{AreAlso, IsSamePlane, copies_also}
 use Rattle.nim_edit.proofs.SlotsSo.{held_by}
 use Rattle.nim_edit.proofs.TasksEnds.{tasks_ends, tasks_run}
+use Rattle.nim_place.specs.Stands.{commands_for}
+use Rattle.nim_template.specs.Tasks.{without_before}
+use Rattle.nim_template.proofs.Halves.{for_plain}
+use Rattle.nim_template.proofs.Sames.{AreSame}
+use Rattle.nim_edit.proofs.NoTasks.{none_asked}
 
 -- ---- all tasks
 
@@ -120,36 +125,54 @@ begun_built place objects live recorded template was job base args slots may = r
       subst (All (λ (one : Worker × Object). slots one.0 (main_slot one.1) ≡ Some (one.1, read_version job base one.1))) was.preconditions may.held;
 }
 
-sound_some : (place : Placement) (objects : ℕ) (live : List Bool) (recorded : ControllerTemplate) (template : WorkerTemplate) (given : TaskForm)
+-- what an instance does, and that its commands by rank are the same, worker by worker
+pub record IsRanked (template : WorkerTemplate) (job : Job) (base : ℕ) (args : List ℤ) (slots : Worker → Slot → Content) : Type 0 where
+  pub does : DoesTasks template job base slots (by_rank base (commands_from (read_version job base) base args 0 template.halves))
+  pub same : AreSame (by_rank base (commands_from (read_version job base) base args 0 template.halves))
+      (commands_from (read_version job base) base args 0 template.halves)
+
+-- So it is for each instance that may begin.
+abbrev pub AreRanked : WorkerTemplate → Type 0
+AreRanked template =
+    (job : Job) (base : ℕ) (args : List ℤ) (slots : Worker → Slot → Content) → MayBegin template job base args slots
+    → IsRanked template job base args slots
+
+ranked_some : (place : Placement) (objects : ℕ) (live : List Bool) (recorded : ControllerTemplate) (template : WorkerTemplate) (given : TaskForm)
     (others : List TaskForm) → recorded.forms ≡ given ∷ others → WasBuilt place objects live recorded template
     → list_any (λ (flag : Bool). flag) live ≡ true → length live ≤ 16 → objects ≤ 512 → length recorded.forms ≤ 1024
-    → list_all (is_fit objects) recorded.forms ≡ true → IsSound template
-sound_some place objects live recorded template given others forms_are was some workers_few objects_few few fit job base args slots may = record {
-  found = plain_found job start now (subst (AreFound job start) (sym now_is) (found_plain job start moved done.found));
-  matched = record {
-    sent = subst (λ (es : Ends). EachEndOnce es (ends_received now)) (sym sent_now) (subst (λ (es : Ends). EachEndOnce es es) (sym received_now) once);
-    received = subst (EachEndOnce (ends_received now)) (sym sent_now) (subst (λ (es : Ends). EachEndOnce es es) (sym received_now) once);
-  };
-  owners = form.owners;
-  runs =
-      sym (runs_plain now) ∙ ap runs_of now_is ∙ runs_plain moved
-      ∙ flat_map-append (λ (c : Worker × Command). run_by c.0 c.1.kind)
-      (flat_map (task_commands template before base args listed) (range_with_len 0 n)) (commands_onward (64 * n) listed)
-      ∙ ap₂ (λ (xs ys : List (Worker × ℕ)). xs ++ ys) (tasks_run template form before base args listed copied room 0 n (omega arith))
-      (copies_run (commands_onward (64 * n) listed) (onward_copies n listed copied))
-      ∙ append-nil (flat_map (λ (t : ℕ). (worker_at template.owners t, base + t) ∷ []) (range_with_len 0 n))
-      ∙ owned_is base 0 n template.owners form.owners (worker_at template.owners) (λ i less. ap (worker_at template.owners) (omega arith))
-      ∙ ap (λ (k : ℕ). owned_from k template.owners) (omega arith);
-  effect =
-      subst (All (SaysNow (walked start now).slots before base)) (sym was.effect)
-      (All-from_recursion (SaysNow (walked start now).slots before base) made.effect
-      (says_same (walked start listed).slots (walked start now).slots before base made.effect same_slots
-      (effect_main (after_closings (end_of place objects live recorded.forms).offsets
-      (needs_of (end_of place objects live recorded.forms).needed (all_slots (length live) objects))) (length live) objects objects_few)
-      (recursion_from_All (SaysNow (walked start listed).slots before base) made.effect does.effect)));
-  rest = λ worker slot low unaffected.
-      same_slots worker slot low
-      ∙ does.rest worker slot low (ap (λ (items : List (Worker × Slot × ℕ)). is_affected items worker slot) (sym was.effect) ∙ unaffected);
+    → list_all (is_fit objects) recorded.forms ≡ true → AreRanked template
+ranked_some place objects live recorded template given others forms_are was some workers_few objects_few few fit job base args slots may = record {
+  does =
+      record {
+        found = plain_found job start now (subst (AreFound job start) (sym now_is) (found_plain job start moved done.found));
+        matched = record {
+          sent = subst (λ (es : Ends). EachEndOnce es (ends_received now)) (sym sent_now) (subst (λ (es : Ends). EachEndOnce es es) (sym received_now) once);
+          received = subst (EachEndOnce (ends_received now)) (sym sent_now) (subst (λ (es : Ends). EachEndOnce es es) (sym received_now) once);
+        };
+        owners = form.owners;
+        runs =
+            sym (runs_plain now) ∙ ap runs_of now_is ∙ runs_plain moved
+            ∙ flat_map-append (λ (c : Worker × Command). run_by c.0 c.1.kind)
+            (flat_map (task_commands template before base args listed) (range_with_len 0 n)) (commands_onward (64 * n) listed)
+            ∙ ap₂ (λ (xs ys : List (Worker × ℕ)). xs ++ ys) (tasks_run template form before base args listed copied room 0 n (omega arith))
+            (copies_run (commands_onward (64 * n) listed) (onward_copies n listed copied))
+            ∙ append-nil (flat_map (λ (t : ℕ). (worker_at template.owners t, base + t) ∷ []) (range_with_len 0 n))
+            ∙ owned_is base 0 n template.owners form.owners (worker_at template.owners) (λ i less. ap (worker_at template.owners) (omega arith))
+            ∙ ap (λ (k : ℕ). owned_from k template.owners) (omega arith);
+        effect =
+            subst (All (SaysNow (walked start now).slots before base)) (sym was.effect)
+            (All-from_recursion (SaysNow (walked start now).slots before base) made.effect
+            (says_same (walked start listed).slots (walked start now).slots before base made.effect same_slots
+            (effect_main (after_closings (end_of place objects live recorded.forms).offsets
+            (needs_of (end_of place objects live recorded.forms).needed (all_slots (length live) objects))) (length live) objects objects_few)
+            (recursion_from_All (SaysNow (walked start listed).slots before base) made.effect does.effect)));
+        rest = λ worker slot low unaffected.
+            same_slots worker slot low
+            ∙ does.rest worker slot low (ap (λ (items : List (Worker × Slot × ℕ)). is_affected items worker slot) (sym was.effect) ∙ unaffected);
+      };
+  same = λ worker.
+      sym (for_plain worker now) ∙ ap (commands_for worker) now_is ∙ for_plain worker moved
+      ∙ sym (in_order_same template form before base args listed of_built worker);
 } where
   before : Object → ℕ
   before = read_version job base
@@ -282,21 +305,27 @@ no_items : {X : Type 0} (xs : List X) → length xs ≡ 0 → xs ≡ []
 no_items [] none = refl
 no_items (x ∷ xs) none = absurd (omega (arith, none))
 
-sound_none : (place : Placement) (objects : ℕ) (live : List Bool) (recorded : ControllerTemplate) (template : WorkerTemplate)
+ranked_none : (place : Placement) (objects : ℕ) (live : List Bool) (recorded : ControllerTemplate) (template : WorkerTemplate)
     → recorded.forms ≡ [] → WasBuilt place objects live recorded template
     → list_any (λ (flag : Bool). flag) live ≡ true → length live ≤ 16 → objects ≤ 512 → length recorded.forms ≤ 1024
-    → list_all (is_fit objects) recorded.forms ≡ true → IsSound template
-sound_none place objects live recorded template none was some workers_few objects_few few fit job base args slots may =
-    subst (λ (halves : List (List Entry)). DoesTasks template job base slots (by_rank base (commands_from (read_version job base) base args 0 halves)))
-    (sym halves_are) (record {
-      found = does.found;
-      matched = does.matched;
-      owners = was.form.owners;
-      runs = does.runs ∙ ap (owned_from base) (no_items made.owners made_none ∙ sym owners_none);
-      effect = subst (All (SaysNow (walked (first_plane slots) listed).slots (read_version job base) base)) (sym was.effect) does.effect;
-      rest = λ worker slot low unaffected.
-          does.rest worker slot low (ap (λ (items : List (Worker × Slot × ℕ)). is_affected items worker slot) (sym was.effect) ∙ unaffected);
-    }) where
+    → list_all (is_fit objects) recorded.forms ≡ true → AreRanked template
+ranked_none place objects live recorded template none was some workers_few objects_few few fit job base args slots may =
+    record {
+      does =
+          subst (λ (halves : List (List Entry)). DoesTasks template job base slots (by_rank base (commands_from (read_version job base) base args 0 halves)))
+          (sym halves_are) (record {
+            found = does.found;
+            matched = does.matched;
+            owners = was.form.owners;
+            runs = does.runs ∙ ap (owned_from base) (no_items made.owners made_none ∙ sym owners_none);
+            effect = subst (All (SaysNow (walked (first_plane slots) listed).slots (read_version job base) base)) (sym was.effect) does.effect;
+            rest = λ worker slot low unaffected.
+                does.rest worker slot low (ap (λ (items : List (Worker × Slot × ℕ)). is_affected items worker slot) (sym was.effect) ∙ unaffected);
+          });
+      same = λ worker.
+          ap (λ (cs : List (Worker × Command)). map without_before (commands_for worker (by_rank base cs))) nothing
+          ∙ sym (ap (λ (cs : List (Worker × Command)). map without_before (commands_for worker cs)) nothing);
+    } where
       made : WorkerTemplate
       made = as_built place objects live recorded
 
@@ -327,11 +356,21 @@ sound_none place objects live recorded template none was some workers_few object
           ∙ sym (at_home template)
           ∙ was.built
 
+      nothing : commands_from (read_version job base) base args 0 template.halves ≡ []
+      nothing =
+          ap (commands_from (read_version job base) base args 0) halves_are ∙ none_asked place objects live recorded none (read_version job base) base args
+
 -- whatever the block
+pub was_ranked : (place : Placement) (objects : ℕ) (live : List Bool) (recorded : ControllerTemplate) (template : WorkerTemplate)
+    → WasBuilt place objects live recorded template → list_any (λ (flag : Bool). flag) live ≡ true → length live ≤ 16 → objects ≤ 512
+    → length recorded.forms ≤ 1024 → list_all (is_fit objects) recorded.forms ≡ true → AreRanked template
+was_ranked place objects live recorded template was some workers_few objects_few few fit = either recorded.forms refl where
+  either : (forms : List TaskForm) → recorded.forms ≡ forms → AreRanked template
+  either [] none = ranked_none place objects live recorded template none was some workers_few objects_few few fit
+  either (given ∷ others) are = ranked_some place objects live recorded template given others are was some workers_few objects_few few fit
+
 pub was_sound : (place : Placement) (objects : ℕ) (live : List Bool) (recorded : ControllerTemplate) (template : WorkerTemplate)
     → WasBuilt place objects live recorded template → list_any (λ (flag : Bool). flag) live ≡ true → length live ≤ 16 → objects ≤ 512
     → length recorded.forms ≤ 1024 → list_all (is_fit objects) recorded.forms ≡ true → IsSound template
-was_sound place objects live recorded template was some workers_few objects_few few fit = either recorded.forms refl where
-  either : (forms : List TaskForm) → recorded.forms ≡ forms → IsSound template
-  either [] none = sound_none place objects live recorded template none was some workers_few objects_few few fit
-  either (given ∷ others) are = sound_some place objects live recorded template given others are was some workers_few objects_few few fit
+was_sound place objects live recorded template was some workers_few objects_few few fit job base args slots may =
+    (was_ranked place objects live recorded template was some workers_few objects_few few fit job base args slots may).does

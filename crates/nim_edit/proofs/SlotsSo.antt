@@ -97,7 +97,7 @@ one_slot job plane worker number (Copy from to) plain found other slot b here = 
 one_slot job plane worker number (Fetch at ticket) plain found other slot b here = absurd plain
 
 -- either way round
-turned : (a b : ℕ) (c : Bool) → (a == b) ≡ c → (b == a) ≡ c
+pub turned : (a b : ℕ) (c : Bool) → (a == b) ≡ c → (b == a) ≡ c
 turned a b true is = eq-eqb b a (sym (eqb-true a b is))
 turned a b false is = ne_eqb b a (λ same. eqb-false a b is (sym same))
 

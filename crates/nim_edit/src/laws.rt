@@ -1,6 +1,7 @@
 ghost use Rattle.std.specs.Prelude.{◌≡◌, ◌≤◌, true, length};
 ghost use Rattle.std.specs.List.{list_all, list_any};
 ghost use Rattle.nim_edit.specs.Form.{IsInForm, WasBuilt};
+ghost use Rattle.nim_edit.specs.Instances.{InstancesAreLegal};
 ghost use Rattle.nim_place.specs.Sound.{IsSound};
 ghost use Rattle.nim_template.specs.Again.{HoldAgain};
 ghost use Rattle.nim_template.specs.Built.{built};
@@ -33,8 +34,8 @@ pub fn built_is_in_form(
 
 /// A template that was built, and of which tasks moved since, stays as good as it was: its effect is that of its halves,
 /// the commands of an instance leave what the effect says, behind it the preconditions hold again, the template is sound
-/// (each task of an instance reads what it reads in program order, wherever it runs), and the orders that install its
-/// halves extend all orders so far.
+/// (each task of an instance reads what it reads in program order, wherever it runs), the commands of an instance are
+/// legal behind those so far, and the orders that install its halves extend all orders so far.
 pub fn moved_stays_good(
     template: &WorkerTemplate,
     recorded: &ControllerTemplate,
@@ -52,5 +53,6 @@ pub fn moved_stays_good(
     ensures again { HoldAgain (length live.now) objects template.now }
     ensures left { LeavesEffect (length live.now) objects template.now }
     ensures sound { IsSound template.now }
+    ensures legal { InstancesAreLegal (length live.now) objects template.now }
     ensures installs { InstallsExtend live.now template.now }
 {}

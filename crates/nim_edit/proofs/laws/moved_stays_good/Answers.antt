@@ -1,5 +1,6 @@
 use Rattle.nim_edit.proofs.Installs.{form_installs}
 use Rattle.nim_edit.proofs.Leaves.{was_again, was_effect, was_left}
+use Rattle.nim_edit.proofs.LegalThen.{was_legal}
 use Rattle.nim_edit.proofs.MovedSound.{was_sound}
 use Rattle.nim_edit.proofs.laws.moved_stays_good.Goals as goal
 
@@ -24,3 +25,8 @@ returns-clause-sound c =
 
 pub returns-clause-installs : goal.returns-clause-installs
 returns-clause-installs c = form_installs c.args.live.now c.args.template.now c.requires.built.form
+
+pub returns-clause-legal : goal.returns-clause-legal
+returns-clause-legal c =
+    was_legal c.args.place.now c.args.objects c.args.live.now c.args.recorded.now c.args.template.now c.requires.built c.requires.live c.requires.workers
+    c.requires.objects c.requires.many c.requires.fit
