@@ -52,8 +52,8 @@ pub record IsInForm (template : WorkerTemplate) : Type 0 where
   pub runs : HaveRuns template
   pub halves : template.halves ≡ halves_for template template.owners
 
--- A template was built of a recorded block, by a placement of so many objects and a flag for each live worker, and tasks
--- of it may have moved since: it is in form, and has all else as it was built.
+-- A template was built of a recorded block, by a placement of so many objects and a flag for each live worker, and
+-- tasks of it may have moved since: it is in form, and has all else as it was built.
 pub record WasBuilt (place : Placement) (objects : ℕ) (live : List Bool) (recorded : ControllerTemplate)
     (template : WorkerTemplate) : Type 0 where
   pub form : IsInForm template

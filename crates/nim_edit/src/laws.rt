@@ -32,10 +32,10 @@ pub fn built_is_in_form(
     ensures built { WasBuilt place.now objects live.now recorded.now template.now }
 {}
 
-/// A template that was built, and of which tasks moved since, stays as good as it was: its effect is that of its halves,
-/// the commands of an instance leave what the effect says, behind it the preconditions hold again, the template is sound
-/// (each task of an instance reads what it reads in program order, wherever it runs), the commands of an instance are
-/// legal behind those so far, and the orders that install its halves extend all orders so far.
+/// A template that was built, and of which tasks moved since, stays as good as it was: its effect is that of its
+/// halves, the commands of an instance leave what the effect says, behind it the preconditions hold again, the template
+/// is sound (each task of an instance reads what it reads in program order, wherever it runs), the commands of an
+/// instance are legal behind those so far, and the orders that install its halves extend all orders so far.
 pub fn moved_stays_good(
     template: &WorkerTemplate,
     recorded: &ControllerTemplate,
