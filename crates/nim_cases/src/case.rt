@@ -72,18 +72,37 @@ fn plain_runs(
     };
     for number in 0..made.count {
         let schedule = made.text(alloc, number)?;
-        let given = Given {
-            sections,
-            about: None,
-            made: Some(schedule.as_slice()),
-        };
         let before = found.len();
-        run(alloc, given, faults, &wanted, found)?;
+        made_run(
+            alloc,
+            sections,
+            schedule.as_slice(),
+            faults,
+            &wanted,
+            found,
+        )?;
         if found.len() != before {
             found.push(format!(in alloc; "  with schedule {number}")?)?;
         }
     }
     Ok(())
+}
+
+// A run with a schedule that was made.
+fn made_run<'a>(
+    alloc: Global,
+    sections: &'a [Section],
+    schedule: &'a [u8],
+    faults: &Faults,
+    wanted: &Wanted,
+    found: &mut Vec<String>,
+) -> Result<(), FileFault> {
+    let given = Given {
+        sections,
+        about: None,
+        made: Some(schedule),
+    };
+    run(alloc, given, faults, wanted, found)
 }
 
 /// The words of the command of a run: what stands between blanks, with escapes; `""` is the empty word.

@@ -11,7 +11,7 @@ use Rattle.nim_schedule.specs.declared.event.Event.TheVariants.{Order, Report, D
 use Rattle.nim_message.specs.declared.report.FromWorker.{FromWorker}
 use Rattle.nim_place.specs.Extends.{is_live, worker_of}
 use Rattle.nim_course.specs.Controller.{Controller}
-use Rattle.nim_course.specs.Directed.{Directed}
+use Rattle.nim_place.specs.Directed.{Directed}
 use Rattle.nim_course.specs.Moves.{IsTurned}
 use Rattle.nim_course.specs.Reports.{after_report}
 use Rattle.nim_history.specs.declared.out.Out.{Out}
@@ -19,7 +19,7 @@ use Rattle.nim_lockstep.specs.declared.given.Given.{Given}
 use Rattle.nim_lockstep.specs.declared.ran.Ran.{Ran}
 use Rattle.nim_lockstep.specs.Cluster.{Batched, ClusterState, Node, has_ended}
 use Rattle.nim_lockstep.specs.Events.{HasTurned, IsPassed, IsStep, batch_finished, is_enabled, may_come, noted, of_live, order_sent, out_sent, passed, report_taken}
-use Rattle.nim_lockstep.specs.Nodes.{finished, outs_by, runs_by}
+use Rattle.nim_lockstep.specs.Nodes.{finished, runs_by}
 use Rattle.nim_cluster.specs.declared.cluster.Cluster.{Cluster}
 use Rattle.nim_cluster.specs.declared.node.Node.{Node as kept_node}
 use Rattle.nim_cluster.specs.Stands.{AreNodes, IsNode, Stands}

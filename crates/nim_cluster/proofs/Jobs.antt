@@ -3,7 +3,6 @@ use Rattle.std.proofs.Common.{◌≡◌, ℕ, zero, suc, Bool, true, false, List
 use Rattle.std.specs.Prelude.{◌==◌, if◌then◌else◌}
 use Rattle.nim_base.specs.declared.number.Worker.{Worker}
 use Rattle.nim_job.specs.declared.ask.Ask.{Ask}
-use Rattle.nim_job.specs.declared.job.Job.{Job}
 use Rattle.nim_job.specs.Machine.{ask_of}
 use Rattle.nim_message.specs.declared.report.FromWorker.{FromWorker}
 use Rattle.nim_message.specs.declared.report.FromWorker.TheVariants.{Value, Ran, NoMemory}
@@ -11,7 +10,7 @@ use Rattle.nim_place.specs.Extends.{is_live}
 use Rattle.nim_course.specs.declared.pending.Pending.{Pending}
 use Rattle.nim_course.specs.declared.pending.Pending.TheVariants.{Begin, Idle, Block, Cell, Parts, Ended}
 use Rattle.nim_course.specs.Controller.{Controller}
-use Rattle.nim_course.specs.Directed.{Directed}
+use Rattle.nim_place.specs.Directed.{Directed}
 use Rattle.nim_course.specs.Moves.{IsTurned, after_moves, asked, done_with}
 use Rattle.nim_course.specs.Reports.{after_report, reported}
 

@@ -1,8 +1,7 @@
 -- What a worker with its links has come to once it took something, or began or finished a batch.
-use Rattle.std.proofs.Common.{◌≡◌, ℕ, zero, suc, Bool, true, false, List, [], ◌∷◌, ◌++◌, drop, get_or, length, map, refl, ap, ap₂, sym, subst, ◌∙◌, arith, ◌≤◌, Option, None, Some, Global, Vec}
+use Rattle.std.proofs.Common.{◌≡◌, ℕ, zero, suc, Bool, true, false, List, [], ◌∷◌, ◌++◌, get_or, length, map, refl, ap, ap₂, sym, subst, ◌∙◌, arith, ◌≤◌, Option, None, Some, Global, Vec}
 use Rattle.std.specs.Prelude.{◌&&◌, if◌then◌else◌, nat_le, not, slice_get, slice_set}
 use Rattle.std.specs.declared.collections.VecDeque.{VecDeque}
-use Rattle.std.specs.List.{flat_map}
 use Rattle.std.specs.Option.{is_some, option_map, option_map_or}
 use Rattle.std.proofs.lemmas.Bool.{and_parts}
 use Rattle.std.proofs.lemmas.List.{length-map, map-append, map-set}
@@ -13,22 +12,20 @@ use Rattle.nim_message.specs.declared.frame.Data.{Data}
 use Rattle.nim_message.specs.declared.order.ToWorker.{ToWorker}
 use Rattle.nim_message.specs.declared.report.FromWorker.{FromWorker}
 use Rattle.nim_place.specs.Extends.{worker_of}
-use Rattle.nim_history.specs.declared.out.Out.{Out}
-use Rattle.nim_history.specs.History.{Asked, Happening, WorkerState, Completed, Framed, Ordered, asked_at, state_of}
+use Rattle.nim_history.specs.History.{Asked, Happening, WorkerState, Framed, Ordered, asked_at, state_of}
 use Rattle.nim_history.specs.InTurn.{is_reset}
 use Rattle.nim_history.specs.Kept.{contents_read}
 use Rattle.nim_worker.specs.declared.batch.Batch.{Batch}
 use Rattle.nim_worker.specs.declared.worker.WorkerCore.{WorkerCore}
 use Rattle.nim_worker.specs.Runs.{all_read_by, run_read, run_read_at, runs_read}
 use Rattle.nim_worker.specs.Stands as worker
-use Rattle.nim_worker.specs.Stands.{Gave, completions_of, tickets_of}
+use Rattle.nim_worker.specs.Stands.{tickets_of}
 use Rattle.nim_worker.specs.Taken.{has_released, taken_of}
 use Rattle.nim_lockstep.specs.declared.ran.Ran.{Ran}
 use Rattle.nim_lockstep.specs.Cluster.{Batched, Node}
-use Rattle.nim_lockstep.specs.Nodes.{batch_after, batch_of, begun, completions, finished, frame_sent, frame_taken, frames_from, may_begin, order_taken, outs_by, run_at, run_of, runs_at, runs_by}
+use Rattle.nim_lockstep.specs.Nodes.{batch_after, batch_of, begun, frame_sent, frame_taken, frames_from, may_begin, order_taken, run_of, runs_at}
 use Rattle.nim_cluster.specs.declared.node.Node.{Node as kept_node}
-use Rattle.nim_cluster.specs.Stands.{IsBatch, IsNode, MayBeBatch, frames_in, ran_at, runs_in}
-use Rattle.nim_cluster.specs.Steps.{IsFinished}
+use Rattle.nim_cluster.specs.Stands.{IsNode, MayBeBatch, frames_in, ran_at}
 
 -- nothing that counts has changed
 pub record IsSame (old new : kept_node) : Type 0 where

@@ -1,5 +1,5 @@
 -- Which events a run gives, and how it ends.
-use Rattle.std.specs.Prelude.{◌≡◌, ℕ, Bool, true, false, List, Option, None, Some}
+use Rattle.std.specs.Prelude.{◌≡◌, ℕ, Bool, true, false, Option, None, Some}
 use Rattle.nim_schedule.specs.declared.event.Event.{Event}
 use Rattle.nim_schedule.specs.declared.event.Event.TheVariants.{Order, Report, Begin, Finish}
 use Rattle.nim_course.specs.declared.outcome.Outcome.{Outcome}

@@ -8,15 +8,15 @@ use Rattle.nim_base.specs.declared.number.Worker.{Worker}
 use Rattle.nim_command.specs.declared.command.Command.{Command}
 use Rattle.nim_command.specs.declared.command.Kind.{Kind}
 use Rattle.nim_job.specs.declared.job.Var.{Var}
+use Rattle.nim_job.proofs.Lists.{range_more}
 use Rattle.nim_place.specs.declared.placement.Placement.{Placement}
 use Rattle.nim_place.specs.Placement.{home}
 use Rattle.nim_place.specs.Versions.{Versions, after_commands, after_kind}
 use Rattle.nim_course.specs.Controller.{Controller}
-use Rattle.nim_course.specs.Directed.{Directed}
+use Rattle.nim_place.specs.Directed.{Directed}
 use Rattle.nim_course.specs.OrdersGiven.{command_of, first_command, first_commands, first_kind, single_for}
 use Rattle.nim_control.specs.Given.{AreAlone}
 use Rattle.nim_control.specs.Sites.{HasSites, Sites, SitesStay}
-use Rattle.nim_control.proofs.Ranges.{range_more}
 
 -- a controller that has these sites has them when only what lies where has changed
 pub has_still : (c : Controller) (old new : Sites) → HasSites c old → SitesStay old new → HasSites c new

@@ -7,14 +7,14 @@ use Rattle.std.proofs.lemmas.List.FromFn.{length-map-range_with_len}
 use Rattle.nim_base.specs.declared.number.Object.{Object}
 use Rattle.nim_base.specs.declared.number.Worker.{Worker}
 use Rattle.nim_command.specs.declared.command.Command.{Command}
+use Rattle.nim_job.proofs.Lists.{range_more}
 use Rattle.nim_place.specs.Versions.{Versions, holder}
 use Rattle.nim_course.specs.declared.fetched.Fetched.{Fetched}
-use Rattle.nim_course.specs.Directed.{Directed}
+use Rattle.nim_place.specs.Directed.{Directed}
 use Rattle.nim_course.specs.Controller.{Controller}
 use Rattle.nim_course.specs.Moves.{fetching}
 use Rattle.nim_course.specs.OrdersGiven.{counted_on, fetch_at, fetch_commands, fetched_of, single_for}
 use Rattle.nim_control.specs.Given.{objects_from}
-use Rattle.nim_control.proofs.Ranges.{range_more}
 
 -- ---- fetches
 

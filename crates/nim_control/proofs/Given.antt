@@ -9,7 +9,7 @@ use Rattle.nim_job.specs.Machine.{Machine, after_ask, answered, ask_of}
 use Rattle.nim_job.specs.Tasks.{block_tasks_of}
 use Rattle.nim_course.specs.declared.pending.Pending.{Pending}
 use Rattle.nim_course.specs.Controller.{Controller, Flight, is_in_flight}
-use Rattle.nim_course.specs.Directed.{Directed}
+use Rattle.nim_place.specs.Directed.{Directed}
 use Rattle.nim_course.specs.Moves.{asked, done_with, fetching, moved, objects_in, orders_asked, orders_of, orders_with, with_instance}
 use Rattle.nim_course.specs.OrdersGiven.{after_instance, counted_on, fetch_orders, flight_of, instance_orders}
 use Rattle.nim_control.specs.Given.{AreTasks, awaiting, objects_from}

@@ -19,7 +19,7 @@ use Rattle.nim_place.specs.Extends.{singles_of}
 use Rattle.nim_place.specs.Schedule.{owner_of, scheduled}
 use Rattle.nim_place.specs.Versions.{after_commands}
 use Rattle.nim_course.specs.Controller.{Controller, Flight}
-use Rattle.nim_course.specs.Directed.{Directed, directed}
+use Rattle.nim_place.specs.Directed.{Directed, directed}
 use Rattle.nim_course.specs.OrdersGiven.{after_instance, instance_orders, task_commands}
 use Rattle.nim_control.specs.declared.instance.InstanceAt.{InstanceAt}
 use Rattle.nim_control.specs.Given.{AreTasks, IsToRun, awaiting}

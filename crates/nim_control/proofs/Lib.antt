@@ -1,6 +1,5 @@
 pub mod Alone
 pub mod Asking
-pub mod Directed
 pub mod Fetches
 pub mod Flights
 pub mod Forms
@@ -8,6 +7,5 @@ pub mod Given
 pub mod Instances
 pub mod Kept
 pub mod Moving
-pub mod Ranges
 pub mod Taken
 pub mod Tasks

@@ -8,7 +8,7 @@ use Rattle.nim_course.specs.declared.outcome.Outcome.{Outcome}
 use Rattle.nim_course.specs.declared.pending.Pending.{Pending}
 use Rattle.nim_course.specs.declared.pending.Pending.TheVariants.{Begin, Idle, Block, Cell, Parts, Ended}
 use Rattle.nim_course.specs.Controller.{Controller}
-use Rattle.nim_course.specs.Directed.{Directed}
+use Rattle.nim_place.specs.Directed.{Directed}
 use Rattle.nim_course.specs.Moves.{AreFree, IsMoved, after_moves, asked, does_wait, done_with, is_held_up, moved, orders_in, orders_of, text_told}
 use Rattle.nim_course.proofs.Asking.{goes_on}
 use Rattle.nim_course.proofs.Standing.{held_parts}

@@ -7,7 +7,7 @@ use Rattle.nim_base.specs.declared.task.Task.{Task}
 use Rattle.nim_command.specs.declared.command.Command.{Command}
 use Rattle.nim_place.specs.Versions.{after_commands}
 use Rattle.nim_course.specs.Controller.{Controller, Flight}
-use Rattle.nim_course.specs.Directed.{Directed}
+use Rattle.nim_place.specs.Directed.{Directed}
 use Rattle.nim_course.specs.OrdersGiven.{after_instance, awaited_of, instance_orders, single_for}
 use Rattle.nim_control.specs.declared.instance.InstanceAt.{InstanceAt}
 use Rattle.nim_control.specs.Sites.{HasSites, Sites}

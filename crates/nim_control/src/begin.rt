@@ -6,7 +6,7 @@ ghost use Rattle.nim_message.specs.declared.order.ToWorker.{ToWorker as order_ty
 ghost use Rattle.nim_place.specs.Orders.{resets_of};
 ghost use Rattle.nim_place.specs.Placement.{home};
 ghost use Rattle.nim_course.specs.Controller.{Controller};
-ghost use Rattle.nim_course.specs.Directed.{directed};
+ghost use Rattle.nim_place.specs.Directed.{directed};
 ghost use Rattle.nim_course.specs.OrdersGiven as spec;
 ghost use Rattle.nim_course.specs.OrdersGiven.{command_of, first_command, first_commands};
 ghost use Rattle.nim_control.specs.Given.{AreAlone};

@@ -7,7 +7,7 @@ ghost use Rattle.nim_place.specs.Extends.{singles_of};
 ghost use Rattle.nim_place.specs.Schedule.{owner_of, scheduled};
 ghost use Rattle.nim_place.specs.Versions.{after_commands};
 ghost use Rattle.nim_course.specs.Controller.{Controller};
-ghost use Rattle.nim_course.specs.Directed.{directed};
+ghost use Rattle.nim_place.specs.Directed.{directed};
 ghost use Rattle.nim_control.specs.Given.{AreTasks, IsToRun, awaiting};
 ghost use Rattle.nim_control.specs.Sites.{SitesStay};
 

@@ -3,7 +3,7 @@ ghost use Rattle.std.specs.List.{filter};
 ghost use Rattle.nim_place.specs.Extends.{single_with, singles_of};
 ghost use Rattle.nim_place.specs.Stands.{commands_for};
 ghost use Rattle.nim_message.specs.declared.order.ToWorker.{ToWorker as order_type};
-ghost use Rattle.nim_course.specs.Directed.{directed};
+ghost use Rattle.nim_place.specs.Directed.{directed};
 ghost use Rattle.nim_course.specs.OrdersGiven as spec;
 
 use nim_base::{Epoch, Instance, NoMemory, Seq, Short, Worker};

@@ -12,7 +12,7 @@ use Rattle.nim_job.specs.Whole.{is_whole}
 use Rattle.nim_course.specs.declared.outcome.Outcome.{Outcome}
 use Rattle.nim_course.specs.declared.pending.Pending.{Pending}
 use Rattle.nim_course.specs.Controller.{Controller}
-use Rattle.nim_course.specs.Directed.{Directed}
+use Rattle.nim_place.specs.Directed.{Directed}
 use Rattle.nim_course.specs.Leads.{AreLeadingFor, IsFetchedAt, IsOpenAt, Leads, StandsFor, begun_by, does_fetch, is_key_from}
 use Rattle.nim_course.specs.Moves.{asked, fetching, objects_in, orders_asked}
 use Rattle.nim_course.specs.OrdersGiven.{fetch_orders}

@@ -42,12 +42,12 @@ use Rattle.nim_place.proofs.Begins.{resets_begin}
 use Rattle.nim_place.proofs.Puts.{put_all}
 use Rattle.nim_place.proofs.Starts.{map_starts}
 use Rattle.nim_course.specs.Controller.{Controller}
-use Rattle.nim_course.specs.Directed.{Directed, by_number, directed}
+use Rattle.nim_place.specs.Directed.{Directed, by_number, directed}
 use Rattle.nim_course.specs.Leads.{AreRight, IsToBegin, position_run}
 use Rattle.nim_course.specs.OrdersGiven.{epoch_orders, first_command, first_commands, first_kind, single_for}
 use Rattle.nim_course.proofs.Alone.{AreLed, AreQuiet, ComeTo, alone_comes, quiet_homes, quiet_runs, right_more}
 use Rattle.nim_course.proofs.Homes.{home_live, live_below}
-use Rattle.nim_course.proofs.Lists.{more_directed}
+use Rattle.nim_place.proofs.Directed.{more_directed}
 
 -- ---- what a part holds at first
 

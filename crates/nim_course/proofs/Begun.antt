@@ -2,7 +2,7 @@
 use Rattle.std.proofs.Common.{◌≡◌, ◌≤◌, List, ◌++◌, ap, subst, None}
 use Rattle.nim_course.specs.declared.pending.Pending.{Pending}
 use Rattle.nim_course.specs.Controller.{Controller}
-use Rattle.nim_course.specs.Directed.{Directed}
+use Rattle.nim_place.specs.Directed.{Directed}
 use Rattle.nim_course.specs.Leads.{AreLeadingFor, Leads, StandsFor, begun_by, does_fetch, is_key_from}
 use Rattle.nim_course.specs.Moves.{begun}
 use Rattle.nim_course.specs.OrdersGiven.{epoch_orders}

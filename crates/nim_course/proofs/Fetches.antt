@@ -16,7 +16,7 @@ use Rattle.nim_place.specs.declared.placement.Placement.{Placement}
 use Rattle.nim_place.specs.Versions.{Versions, holder, latest_of}
 use Rattle.nim_place.proofs.Held.{holder_lives, slot_held}
 use Rattle.nim_place.proofs.Moves.{holder_facts}
-use Rattle.nim_course.specs.Directed.{Directed, by_number}
+use Rattle.nim_place.specs.Directed.{Directed, by_number}
 use Rattle.nim_course.specs.OrdersGiven.{counted_on, fetch_at, fetch_commands, single_for}
 use Rattle.nim_course.proofs.Alone.{AreLed, AreQuiet, ComeTo, MayBeAlone, alone_comes, homes_more, quiet_more}
 

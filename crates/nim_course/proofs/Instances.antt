@@ -14,7 +14,7 @@ use Rattle.nim_place.specs.Extends.{HaveNone}
 use Rattle.nim_place.specs.Versions.{Versions}
 use Rattle.nim_course.specs.declared.pending.Pending.{Pending}
 use Rattle.nim_course.specs.Controller.{Controller}
-use Rattle.nim_course.specs.Directed.{Directed, by_number}
+use Rattle.nim_place.specs.Directed.{Directed, by_number}
 use Rattle.nim_course.specs.Leads.{AreLeading, AreLeadingFor, HasAsked, IsFetchedAt, IsOpenAt, Leads, StandsFor, begun_by, does_fetch, is_key_from}
 use Rattle.nim_course.specs.Moves.{with_instance}
 use Rattle.nim_course.specs.OrdersGiven.{after_instance, counted_on, instance_orders}

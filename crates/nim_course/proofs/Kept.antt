@@ -8,7 +8,7 @@ use Rattle.nim_course.specs.declared.outcome.Outcome.TheVariants.{Done, Limit, N
 use Rattle.nim_course.specs.declared.pending.Pending.{Pending}
 use Rattle.nim_course.specs.declared.pending.Pending.TheVariants.{Begin, Idle, Block, Cell, Parts, Ended}
 use Rattle.nim_course.specs.Controller.{Controller, Flight}
-use Rattle.nim_course.specs.Directed.{Directed}
+use Rattle.nim_place.specs.Directed.{Directed}
 use Rattle.nim_course.specs.Leads.{AreLeadingFor, EndsBy, IsFetchedAt, Leads, StandsFor, begun_by}
 
 -- with what was told

@@ -24,7 +24,7 @@ use Rattle.nim_course.specs.declared.fetched.Fetched.{Fetched}
 use Rattle.nim_course.specs.declared.pending.Pending.{Pending}
 use Rattle.nim_course.specs.declared.pending.Pending.TheVariants.{Begin, Idle, Block, Cell, Parts, Ended}
 use Rattle.nim_course.specs.Controller.{Controller, new_controller}
-use Rattle.nim_course.specs.Directed.{Directed}
+use Rattle.nim_place.specs.Directed.{Directed}
 use Rattle.nim_course.specs.Moves.{AreFree, IsTurned, after_moves, asked, does_wait, done_with, is_open, objects_in, value_in}
 use Rattle.nim_course.specs.OrdersGiven.{fetched_of}
 use Rattle.nim_course.specs.Printed.{Happened, IsAmong, IsOfValues, LeadsTo, Part, PrintsWhatIsTold, Reported, Turned, part_text, value_of, values_by}

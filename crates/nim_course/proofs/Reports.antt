@@ -18,7 +18,7 @@ use Rattle.nim_place.specs.Extends.{is_live}
 use Rattle.nim_course.specs.declared.fetched.Fetched.{Fetched}
 use Rattle.nim_course.specs.declared.outcome.Outcome.{Outcome}
 use Rattle.nim_course.specs.Controller.{Controller}
-use Rattle.nim_course.specs.Directed.{Directed}
+use Rattle.nim_place.specs.Directed.{Directed}
 use Rattle.nim_course.specs.Leads.{IsFetchedAt, Leads}
 use Rattle.nim_course.specs.Moves.{is_open}
 use Rattle.nim_course.specs.Reports.{after_report, flight_after, is_asked, reported, told, told_at}

@@ -9,7 +9,7 @@ use Rattle.nim_job.specs.Whole.{is_whole}
 use Rattle.nim_course.specs.declared.outcome.Outcome.{Outcome}
 use Rattle.nim_course.specs.declared.pending.Pending.{Pending}
 use Rattle.nim_course.specs.Controller.{Controller}
-use Rattle.nim_course.specs.Directed.{Directed}
+use Rattle.nim_place.specs.Directed.{Directed}
 use Rattle.nim_course.specs.Leads.{AreLeadingFor, AreRight, EndsBy, IsFetchedAt, Leads, StandsFor, begun_by, does_fetch}
 
 -- a controller that goes on leads its job

@@ -5,7 +5,7 @@ use Rattle.nim_job.specs.declared.job.Job.{Job}
 use Rattle.nim_course.specs.declared.pending.Pending.{Pending}
 use Rattle.nim_course.specs.declared.pending.Pending.TheVariants.{Begin, Idle, Block, Cell, Parts, Ended}
 use Rattle.nim_course.specs.Controller.{Controller}
-use Rattle.nim_course.specs.Directed.{Directed}
+use Rattle.nim_place.specs.Directed.{Directed}
 use Rattle.nim_course.specs.Leads.{Leads}
 use Rattle.nim_course.specs.Moves.{AreFree, IsTurned, after_moves, does_wait, done_with, is_held_up, moved, orders_in, orders_of, orders_with}
 use Rattle.nim_course.proofs.Asked.{asked_leads}

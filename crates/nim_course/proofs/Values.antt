@@ -10,7 +10,7 @@ use Rattle.nim_job.specs.Machine.{Machine, answered, appended}
 use Rattle.nim_course.specs.declared.outcome.Outcome.{Outcome}
 use Rattle.nim_course.specs.declared.pending.Pending.{Pending}
 use Rattle.nim_course.specs.Controller.{Controller}
-use Rattle.nim_course.specs.Directed.{Directed}
+use Rattle.nim_place.specs.Directed.{Directed}
 use Rattle.nim_course.specs.Leads.{AreLeadingFor, HasAsked, HasAskedCell, HasAskedParts, IsFetchedAt, Leads, StandsFor, begun_by}
 use Rattle.nim_course.specs.Moves.{cell_told, done_with, is_open, text_told}
 use Rattle.nim_course.proofs.Asking.{get_goes, output_goes}

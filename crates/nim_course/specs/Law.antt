@@ -7,7 +7,7 @@ use Rattle.nim_job.specs.Whole.{is_whole}
 use Rattle.nim_plan.specs.Good.{IsGood}
 use Rattle.nim_course.specs.declared.setup.Setup.{Setup}
 use Rattle.nim_course.specs.Controller.{Controller, new_controller}
-use Rattle.nim_course.specs.Directed.{Directed}
+use Rattle.nim_place.specs.Directed.{Directed}
 use Rattle.nim_course.specs.Leads.{Leads}
 use Rattle.nim_course.specs.Moves.{IsTurned}
 use Rattle.nim_course.specs.Reports.{after_report}

@@ -33,7 +33,7 @@ use Rattle.nim_course.specs.declared.outcome.Outcome.TheVariants.{Done, Limit, N
 use Rattle.nim_course.specs.declared.pending.Pending.{Pending}
 use Rattle.nim_course.specs.declared.pending.Pending.TheVariants.{Begin, Idle, Block, Cell, Parts, Ended}
 use Rattle.nim_course.specs.Controller.{Controller}
-use Rattle.nim_course.specs.Directed.{Directed, by_number, orders_to}
+use Rattle.nim_place.specs.Directed.{Directed, by_number, orders_to}
 use Rattle.nim_course.specs.Moves.{objects_in}
 
 -- ---- where the driver stands

@@ -1,5 +1,4 @@
 pub mod Controller
-pub mod Directed
 pub mod Law
 pub mod Leads
 pub mod Moves

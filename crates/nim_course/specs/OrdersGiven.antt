@@ -23,7 +23,7 @@ use Rattle.nim_place.specs.Schedule.{owner_of, scheduled}
 use Rattle.nim_place.specs.Versions.{Versions, after_commands, holder, latest_of}
 use Rattle.nim_course.specs.declared.fetched.Fetched.{Fetched}
 use Rattle.nim_course.specs.Controller.{Controller, Flight}
-use Rattle.nim_course.specs.Directed.{Directed, directed}
+use Rattle.nim_place.specs.Directed.{Directed, directed}
 
 -- the greatest number of 32 bits, an instance that no `do` has
 abbrev pub no_instance : ℕ

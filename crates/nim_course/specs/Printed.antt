@@ -9,7 +9,7 @@ use Rattle.nim_message.specs.declared.report.FromWorker.TheVariants.{Value}
 use Rattle.nim_job.specs.declared.job.Job.{Job}
 use Rattle.nim_course.specs.declared.setup.Setup.{Setup}
 use Rattle.nim_course.specs.Controller.{Controller, new_controller}
-use Rattle.nim_course.specs.Directed.{Directed}
+use Rattle.nim_place.specs.Directed.{Directed}
 use Rattle.nim_course.specs.Moves.{IsTurned}
 use Rattle.nim_course.specs.Reports.{after_report}
 

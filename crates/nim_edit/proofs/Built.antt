@@ -91,7 +91,7 @@ no_edits f from zero none = refl
 no_edits f from (suc n) none = ap₂ (λ (xs ys : List Edit). xs ++ ys) (none from) (no_edits f (from + 1) n none)
 
 -- where each owner is the home, the halves are those that were built
-at_home : (template : WorkerTemplate) → template.built ≡ halves_for template template.homes
+pub at_home : (template : WorkerTemplate) → template.built ≡ halves_for template template.homes
 at_home template =
     same_list [] template.built (halves_for template template.homes) (sym long)
     (λ i less. sym (get_or-map-range_with_len (λ (n : ℕ). half_of template template.homes (record { 0 = n })) 0 (length template.built) i i [] less (omega arith)

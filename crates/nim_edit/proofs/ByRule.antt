@@ -38,7 +38,7 @@ half_is template form i below =
     (λ t less. with_own template (record { 0 = i }) t (worker_at template.owners t) (omega (arith, less, form.many))
     (task_short template.forms t form.fit (omega (arith, less))))
 
-half_at : (template : WorkerTemplate) (form : IsInForm template) (i : ℕ) → i < length template.built
+pub half_at : (template : WorkerTemplate) (form : IsInForm template) (i : ℕ) → i < length template.built
     → get_or template.halves i [] ≡ half_of template template.owners (record { 0 = i })
 half_at template form i below =
     ap (λ (hs : List (List Entry)). get_or hs i []) form.halves

@@ -14,7 +14,9 @@ use Rattle.nim_command.specs.declared.entry.Entry.{Entry}
 use Rattle.nim_command.specs.declared.entry.EntryKind.{EntryKind}
 use Rattle.nim_command.specs.declared.template.WorkerTemplate.{WorkerTemplate}
 use Rattle.nim_place.specs.declared.placement.Placement.TheVariants.{Cyclic}
+use Rattle.nim_place.specs.Versions.{Versions, after_commands, after_effect}
 use Rattle.nim_template.specs.Built.{built}
+use Rattle.nim_template.specs.Instance.{instance_of}
 use Rattle.nim_edit.specs.declared.fault.EditRefused.TheVariants.{NoSuchTask, NotLive, SamePlace, TooMany}
 use Rattle.nim_edit.specs.Moves.{edits_of, migrated}
 use Rattle.nim_edit.specs.Refusals.{refusal_of}
@@ -82,6 +84,19 @@ count_halves = refl
 
 count_owners : (migrated count_block 1 (worker 0)).owners ≡ worker 0 ∷ worker 0 ∷ []
 count_owners = refl
+
+-- From a map in which each object is at its worker, what an instance at position 7 asks for leaves what the effect says.
+abbrev count_map : Versions
+count_map = record { workers = 2; objects = 2; held = Some 5 ∷ None ∷ None ∷ Some 6 ∷ []; latest = 5 ∷ 6 ∷ [] }
+
+abbrev count_after : Versions
+count_after = record { workers = 2; objects = 2; held = Some 8 ∷ None ∷ None ∷ Some 9 ∷ []; latest = 8 ∷ 9 ∷ [] }
+
+count_effect : after_effect 7 count_map (migrated count_block 1 (worker 0)).effect ≡ count_after
+count_effect = refl
+
+count_left : after_commands count_map (instance_of (migrated count_block 1 (worker 0)) 7 [] count_map) ≡ count_after
+count_left = refl
 
 -- and back to its home
 count_back : edits_of (migrated count_block 1 (worker 0)) 1 (worker 1) ≡ (worker 0, Gone 1) ∷ (worker 1, Home 1 count_spec) ∷ []

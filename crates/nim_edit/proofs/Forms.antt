@@ -8,6 +8,7 @@ use Rattle.std.proofs.lemmas.Bool.{cases_lt, eqb-false, eqb-true, false≢true, 
 use Rattle.std.proofs.lemmas.List.{get_or-set_other, get_or-set_same, get_or_past, length-set}
 use Rattle.std.proofs.lemmas.List.Recursion.{and_set}
 use Rattle.std.proofs.lemmas.List.FromFn.{get_or-map-range_with_len, length-map-range_with_len}
+use Rattle.std.proofs.lemmas.List.Sums.{fold-append}
 use Rattle.nim_base.specs.declared.number.Worker.{Worker}
 use Rattle.nim_command.specs.declared.edit.Edit.{Edit}
 use Rattle.nim_command.specs.declared.edit.Edit.TheVariants.{Away, Here, Gone, Home}
@@ -289,3 +290,10 @@ moved_form template task to live edits given halves owners unsent form long take
           (edited_by_them ∙ ap (fold with_edit template.halves) (are_given ∙ are)) owned
           ∙ ap (after (fold with_edit template.halves (edits_of template task to)) (slice_set template.owners task to))
           (sent ∙ ap (λ (es : List (Worker × Edit)). template.unsent ++ es) are)
+
+-- Halves that are those that were sent with the edits that weren't sent yet are so behind a move.
+pub moved_unsent : (sent before : List (List Entry)) (old moves edits given : List (Worker × Edit)) (halves : List (List Entry)) (unsent : List (Worker × Edit))
+    → before ≡ fold with_edit sent old → edits ≡ moves → given ≡ edits → halves ≡ fold with_edit before given → unsent ≡ old ++ edits
+    → halves ≡ fold with_edit sent unsent
+moved_unsent sent before old moves edits given halves unsent is are are_given edited_by_them more =
+    edited_by_them ∙ ap₂ (fold with_edit) is are_given ∙ sym (fold-append with_edit sent old edits) ∙ sym (ap (fold with_edit sent) more)

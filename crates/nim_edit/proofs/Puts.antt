@@ -85,7 +85,7 @@ abbrev pub FirstRead : Type 0
 FirstRead = ItemOf (first_reads [] 0 [])
 
 -- reads in order of their indices
-abbrev Indexed : ℕ → List FirstRead → Type 0
+abbrev pub Indexed : ℕ → List FirstRead → Type 0
 Indexed low [] = low ≤ 8
 Indexed low (read ∷ reads) = (low ≤ read.index) × (read.index < 8) × Indexed (read.index + 1) reads
 
@@ -93,7 +93,7 @@ lower_index : (less low : ℕ) (reads : List FirstRead) → less ≤ low → Ind
 lower_index less low [] below are = omega (arith, below, are)
 lower_index less low (read ∷ reads) below are = (omega (arith, below, are.0), are.1, are.2)
 
-first_indexed : (past : List (Object × ℕ)) (mask low : ℕ) (reads : List (Object × ℕ)) → length past ≡ low → low + length reads ≤ 8
+pub first_indexed : (past : List (Object × ℕ)) (mask low : ℕ) (reads : List (Object × ℕ)) → length past ≡ low → low + length reads ≤ 8
     → Indexed low (first_reads past mask reads)
 first_indexed past mask low [] is few = omega (arith, few)
 first_indexed past mask low (read ∷ reads) is few =
@@ -110,27 +110,27 @@ first_indexed past mask low (read ∷ reads) is few =
         subst (λ (n : ℕ). Indexed (n + 1) (first_reads (past ++ read ∷ []) (mask / 2) reads)) (sym is) rest,
       )
 
-filter_indexed : (p : FirstRead → Bool) (low : ℕ) (reads : List FirstRead) → Indexed low reads → Indexed low (filter p reads)
+pub filter_indexed : (p : FirstRead → Bool) (low : ℕ) (reads : List FirstRead) → Indexed low reads → Indexed low (filter p reads)
 filter_indexed p low [] are = are
 filter_indexed p low (read ∷ reads) are = either (p read) (filter_indexed p (read.index + 1) reads are.2) where
   either : (b : Bool) → Indexed (read.index + 1) (filter p reads) → Indexed low (if b then read ∷ filter p reads else filter p reads)
   either true rest = (are.0, are.1, rest)
   either false rest = lower_index low (read.index + 1) (filter p reads) (omega (arith, are.0)) rest
 
-sends_of : (task : ℕ) (to : Worker) (low : ℕ) (reads : List FirstRead) → Indexed low reads → AreOf task 2 low (map (forward_send task to) reads)
+pub sends_of : (task : ℕ) (to : Worker) (low : ℕ) (reads : List FirstRead) → Indexed low reads → AreOf task 2 low (map (forward_send task to) reads)
 sends_of task to low [] are = are
 sends_of task to low (read ∷ reads) are = (read.index, are.0, are.1, refl, sends_of task to (read.index + 1) reads are.2)
 
-receives_of : (task low : ℕ) (reads : List FirstRead) → Indexed low reads → AreOf task 3 low (map (forward_receive task) reads)
+pub receives_of : (task low : ℕ) (reads : List FirstRead) → Indexed low reads → AreOf task 3 low (map (forward_receive task) reads)
 receives_of task low [] are = are
 receives_of task low (read ∷ reads) are = (read.index, are.0, are.1, refl, receives_of task (read.index + 1) reads are.2)
 
-return_receives_of : (task index : ℕ) (objects : List Object) → index + length objects ≤ 8 → AreOf task 6 index (return_receives task index objects)
+pub return_receives_of : (task index : ℕ) (objects : List Object) → index + length objects ≤ 8 → AreOf task 6 index (return_receives task index objects)
 return_receives_of task index [] few = omega (arith, few)
 return_receives_of task index (object ∷ objects) few =
     (index, omega arith, omega (arith, few), refl, return_receives_of task (index + 1) objects (omega (arith, few)))
 
-return_sends_of : (task : ℕ) (home : Worker) (index : ℕ) (objects : List Object) → index + length objects ≤ 8
+pub return_sends_of : (task : ℕ) (home : Worker) (index : ℕ) (objects : List Object) → index + length objects ≤ 8
     → AreOf task 5 index (return_sends task home index objects)
 return_sends_of task home index [] few = omega (arith, few)
 return_sends_of task home index (object ∷ objects) few =

@@ -1,5 +1,6 @@
 -- What a template of a block has that was built and of which tasks were moved since.
-use Rattle.std.specs.Prelude.{◌≡◌, ℕ, ◌≤◌, ◌<◌, ◌==◌, nat_lt, Bool, true, false, [], ◌∷◌, if◌then◌else◌, length, map}
+use Rattle.std.specs.Prelude.{◌≡◌, ℕ, ◌≤◌, ◌<◌, ◌==◌, nat_lt, Bool, true, false, List, [], ◌∷◌}
+use Rattle.std.specs.Prelude.{if◌then◌else◌, length, map}
 use Rattle.std.specs.Prelude.{None, slice_index_or}
 use Rattle.std.specs.List.{list_all}
 use Rattle.nim_base.specs.declared.number.Worker.{Worker}
@@ -8,7 +9,10 @@ use Rattle.nim_command.specs.declared.template.WorkerTemplate.{WorkerTemplate}
 use Rattle.nim_command.specs.Edits.{run_over}
 use Rattle.nim_command.specs.Numbers.{phase_of, task_of}
 use Rattle.nim_command.specs.Ruled.{entries_by_rule}
+use Rattle.nim_place.specs.declared.placement.Placement.{Placement}
+use Rattle.nim_template.specs.declared.template.ControllerTemplate.{ControllerTemplate}
 use Rattle.nim_template.specs.Ascends.{does_ascend}
+use Rattle.nim_template.specs.Built.{built as as_built}
 use Rattle.nim_template.specs.Fits.{is_fit}
 use Rattle.nim_edit.specs.Cells.{kind_at}
 use Rattle.nim_edit.specs.Halves.{halves_for}
@@ -47,3 +51,15 @@ pub record IsInForm (template : WorkerTemplate) : Type 0 where
   pub ruled : map (entries_by_rule []) template.built ≡ template.built
   pub runs : HaveRuns template
   pub halves : template.halves ≡ halves_for template template.owners
+
+-- A template was built of a recorded block, by a placement of so many objects and a flag for each live worker, and
+-- tasks of it may have moved since: it is in form, and has all else as it was built.
+pub record WasBuilt (place : Placement) (objects : ℕ) (live : List Bool) (recorded : ControllerTemplate)
+    (template : WorkerTemplate) : Type 0 where
+  pub form : IsInForm template
+  pub block : template.block ≡ recorded.block
+  pub forms : template.forms ≡ recorded.forms
+  pub built : template.built ≡ (as_built place objects live recorded).built
+  pub preconditions : template.preconditions ≡ (as_built place objects live recorded).preconditions
+  pub effect : template.effect ≡ (as_built place objects live recorded).effect
+  pub homes : template.homes ≡ (as_built place objects live recorded).homes

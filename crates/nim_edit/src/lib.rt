@@ -8,5 +8,5 @@ mod mask;
 mod migration;
 
 pub use fault::{EditFault, EditRefused};
-pub use laws::built_is_in_form;
+pub use laws::{built_is_in_form, moved_stays_good};
 pub use migration::migrate;

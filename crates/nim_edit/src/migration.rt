@@ -1,11 +1,14 @@
-ghost use Rattle.std.specs.Prelude.{◌≡◌, ℕ, ◌++◌, ◌<◌, ◌≤◌, [], true, length, map, slice_set, None};
+ghost use Rattle.std.specs.Prelude.{◌≡◌, ℕ, Bool, List, ◌++◌, ◌<◌, ◌≤◌, [], true, length, map, slice_set, None};
 ghost use Rattle.std.specs.Prelude.{IfOk, IfErr, OnOk, OnErr};
 ghost use Rattle.std.specs.List.{fold, list_all};
+ghost use Rattle.nim_command.specs.declared.entry.Entry.{Entry};
 ghost use Rattle.nim_command.specs.Ruled.{entries_by_rule};
-ghost use Rattle.nim_edit.specs.Form.{IsInForm, is_edit_below};
+ghost use Rattle.nim_edit.specs.Form.{IsInForm, WasBuilt, is_edit_below};
 ghost use Rattle.nim_edit.specs.Moves as moves;
 ghost use Rattle.nim_edit.specs.Refusals as spec;
 ghost use Rattle.nim_place.specs.Extends.{is_live};
+ghost use Rattle.nim_place.specs.declared.placement.Placement.{Placement as Place};
+ghost use Rattle.nim_template.specs.declared.template.ControllerTemplate.{ControllerTemplate};
 ghost use Rattle.nim_template.specs.Ascends.{does_ascend};
 ghost use Rattle.nim_template.specs.Written.{HasEffect};
 
@@ -35,6 +38,10 @@ pub fn migrate(
     ensures told { IfErr result (λ fault. spec.IsToldBy (spec.refusal_of template.old task to live.now) fault) }
     ensures err { OnErr result (template.new ≡ template.old) }
     ensures form { IsInForm template.new }
+    ensures built { (place : Place) (objects : ℕ) (living : List Bool) (recorded : ControllerTemplate)
+        → WasBuilt place objects living recorded template.old → WasBuilt place objects living recorded template.new }
+    ensures unsent { (sent : List (List Entry)) → template.old.halves ≡ fold moves.with_edit sent template.old.unsent
+        → template.new.halves ≡ fold moves.with_edit sent template.new.unsent }
     ensures ascend { OnOk result (list_all (does_ascend 0) template.new.halves ≡ true) }
     ensures by_rule { OnOk result (map (entries_by_rule []) template.new.halves ≡ template.new.halves) }
     ensures effect { (objects : ℕ) → objects ≤ 512 → HasEffect (length template.old.built) objects template.old

@@ -57,7 +57,8 @@ found_in groups member =
     option_and_then
     (λ (m : Member). option_map (λ (group : Group). record { number = m.group; group = group; command = m.command }) (slice_get groups m.group)) member
 
-asked_still : (groups more : List Group) (place : ℕ) (asked : Asked) → asked_at groups place ≡ Some asked → asked_at (groups ++ more) place ≡ Some asked
+-- what a place asks for is the same when more is asked for behind it
+pub asked_still : (groups more : List Group) (place : ℕ) (asked : Asked) → asked_at groups place ≡ Some asked → asked_at (groups ++ more) place ≡ Some asked
 asked_still groups more place asked = either (slice_get (members_of groups) place) refl where
   either : (o : Option Member) → slice_get (members_of groups) place ≡ o → found_in groups o ≡ Some asked → asked_at (groups ++ more) place ≡ Some asked
   either None there is = absurd cc

@@ -16,7 +16,7 @@ use Rattle.nim_place.specs.Extends.{is_live}
 use Rattle.nim_course.specs.declared.pending.Pending.{Pending}
 use Rattle.nim_course.specs.declared.pending.Pending.TheVariants.{Idle, Block}
 use Rattle.nim_course.specs.Controller.{Controller, Flight, is_in_flight}
-use Rattle.nim_course.specs.Directed.{Directed}
+use Rattle.nim_place.specs.Directed.{Directed}
 use Rattle.nim_course.specs.Moves.{IsTurned, after_moves, asked, done_with, with_instance}
 use Rattle.nim_course.specs.OrdersGiven.{awaited_of, flight_of}
 use Rattle.nim_course.specs.Reports.{after_ran, after_report, flight_after, is_of, reported, told}

@@ -25,11 +25,11 @@ use Rattle.nim_course.specs.declared.pending.Pending.{Pending}
 use Rattle.nim_course.specs.declared.pending.Pending.TheVariants.{Begin, Idle, Block, Cell, Parts, Ended}
 use Rattle.nim_course.specs.declared.setup.Setup.{Setup}
 use Rattle.nim_course.specs.Controller.{Controller}
-use Rattle.nim_course.specs.Directed.{Directed, by_number, directed, orders_to}
+use Rattle.nim_place.specs.Directed.{Directed, by_number, directed, orders_to}
 use Rattle.nim_course.specs.Moves.{IsTurned, after_moves, asked, done_with, moved, objects_in, orders_asked, orders_in, orders_of, orders_with}
 use Rattle.nim_course.specs.OrdersGiven.{epoch_orders, fetch_commands, first_commands, instance_orders, single_for, task_commands}
 use Rattle.nim_course.specs.Reports.{after_report, flight_after, reported, told}
-use Rattle.nim_course.proofs.Lists.{more_directed, to_append}
+use Rattle.nim_place.proofs.Directed.{more_directed, to_append}
 use Rattle.nim_history.specs.InTurn.{is_reset}
 use Rattle.nim_lockstep.proofs.UnderWay.{BeginOnce}
 

@@ -4,7 +4,7 @@ use Rattle.std.specs.Prelude.{slice_get, slice_set}
 use Rattle.std.specs.List.{fold}
 use Rattle.std.specs.Option.{option_map_or}
 use Rattle.nim_course.specs.Controller.{Controller}
-use Rattle.nim_course.specs.Directed.{Directed}
+use Rattle.nim_place.specs.Directed.{Directed}
 use Rattle.nim_history.specs.declared.out.Out.{Out}
 use Rattle.nim_lockstep.specs.Cluster.{Batched, ClusterState, Node}
 use Rattle.nim_lockstep.specs.Events.{HasTurned, at_node, batch_finished, order_sent, out_sent}

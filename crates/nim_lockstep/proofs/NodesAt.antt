@@ -8,7 +8,7 @@ use Rattle.std.proofs.lemmas.List.Elements.{All-weaker}
 use Rattle.std.proofs.lemmas.Option.{same_Some, slice_get_within}
 use Rattle.nim_order.specs.Progress.{is_one_of}
 use Rattle.nim_job.specs.declared.job.Job.{Job}
-use Rattle.nim_course.specs.Directed.{Directed, orders_to}
+use Rattle.nim_place.specs.Directed.{Directed, orders_to}
 use Rattle.nim_history.specs.History.{WorkerState, state_of}
 use Rattle.nim_lockstep.specs.declared.ran.Ran.{Ran}
 use Rattle.nim_lockstep.specs.Cluster.{ClusterState, Node}

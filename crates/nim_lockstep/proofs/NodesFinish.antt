@@ -10,7 +10,7 @@ use Rattle.nim_message.specs.declared.report.FromWorker.TheVariants.{Ran}
 use Rattle.nim_order.specs.Progress.{is_one_of}
 use Rattle.nim_job.specs.declared.job.Job.{Job}
 use Rattle.nim_job.specs.Whole.{is_whole}
-use Rattle.nim_course.specs.Directed.{orders_to}
+use Rattle.nim_place.specs.Directed.{orders_to}
 use Rattle.nim_history.specs.declared.out.Out.{Out}
 use Rattle.nim_history.specs.History.{Completed, Happening, IsHistory, WorkerState, state_of}
 use Rattle.nim_history.specs.InTurn.{MayAllComplete}

@@ -8,7 +8,7 @@ use Rattle.nim_message.specs.declared.order.ToWorker.{ToWorker}
 use Rattle.nim_message.specs.declared.report.FromWorker.{FromWorker}
 use Rattle.nim_job.specs.declared.job.Job.{Job}
 use Rattle.nim_plan.specs.Good.{IsGood, IsGoodFrame}
-use Rattle.nim_course.specs.Directed.{Directed, orders_to}
+use Rattle.nim_place.specs.Directed.{Directed, orders_to}
 use Rattle.nim_history.specs.declared.out.Out.{Out}
 use Rattle.nim_history.specs.Truth.{IsGoodOut}
 use Rattle.nim_lockstep.specs.declared.ran.Ran.{Ran as ran_type}

@@ -13,7 +13,7 @@ use Rattle.nim_place.specs.Extends.{is_live, worker_of}
 use Rattle.nim_course.specs.declared.pending.Pending.{Pending}
 use Rattle.nim_course.specs.declared.pending.Pending.TheVariants as pendings
 use Rattle.nim_course.specs.Controller.{Controller}
-use Rattle.nim_course.specs.Directed.{Directed, orders_to}
+use Rattle.nim_place.specs.Directed.{Directed, orders_to}
 use Rattle.nim_course.specs.Leads.{AreLeadingFor}
 use Rattle.nim_history.specs.History.{orders_in, state_of}
 use Rattle.nim_history.proofs.GoesOn.{history_goes_on}

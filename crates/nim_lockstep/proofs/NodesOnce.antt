@@ -1,24 +1,22 @@
 -- Orders that begin one epoch: a Reset is the first of them, and behind it what was asked for stays.
-use Rattle.std.proofs.Common.{◌≡◌, ℕ, ◌+◌, Bool, true, false, List, [], ◌∷◌, ◌++◌, length, refl, ap, sym, ◌∙◌, Option, None, Some, All}
-use Rattle.std.specs.Prelude.{if◌then◌else◌, slice_get}
+use Rattle.std.proofs.Common.{◌≡◌, ℕ, ◌+◌, Bool, true, false, List, [], ◌∷◌, ◌++◌, refl, ap, sym, ◌∙◌, Option, None, Some, All}
+use Rattle.std.specs.Prelude.{if◌then◌else◌}
 use Rattle.std.specs.List.{fold}
-use Rattle.std.specs.Option.{option_and_then, option_map, option_map_or}
+use Rattle.std.specs.Option.{option_map_or}
 use Rattle.std.proofs.lemmas.Bool.{both_ways}
 use Rattle.std.proofs.lemmas.List.{append-nil, append_assoc}
 use Rattle.std.proofs.lemmas.List.Elements.{All-head, All-tail}
 use Rattle.std.proofs.lemmas.List.Sums.{fold-append}
-use Rattle.std.proofs.lemmas.Option.{slice_get_within}
-use Rattle.nim_command.specs.Waits.{Group, Member, members_from, members_of}
+use Rattle.nim_command.specs.Waits.{Group}
 use Rattle.nim_message.specs.declared.order.ToWorker.{ToWorker}
 use Rattle.nim_message.specs.declared.order.ToWorker.TheVariants.{Single, InstallTemplate, Instantiate, InstallPatch, RunPatch, Reset, Stop}
 use Rattle.nim_message.specs.Orders.{Session, after_order, no_session, session_of}
-use Rattle.nim_order.proofs.Items.{get_front}
-use Rattle.nim_order.proofs.Longer.{members_append}
 use Rattle.nim_course.specs.declared.pending.Pending.{Pending}
 use Rattle.nim_course.specs.declared.pending.Pending.TheVariants.{Begin}
 use Rattle.nim_course.specs.Leads.{position_run}
 use Rattle.nim_history.specs.History.{Asked, asked_at}
 use Rattle.nim_history.specs.InTurn.{is_reset}
+use Rattle.nim_history.proofs.InTurn.{asked_still}
 use Rattle.nim_history.proofs.Ordered.{order_grows}
 use Rattle.nim_lockstep.proofs.NodesLists.{All_behind}
 use Rattle.nim_lockstep.proofs.UnderWay.{BeginOnce}
@@ -58,35 +56,7 @@ groups_grow session (order ∷ orders) none =
       rest.1 ∙ ap (λ (groups : List Group). groups ++ rest.0) first.1 ∙ append_assoc session.groups first.0 rest.0,
     )
 
--- the command at a place stays when more is asked for
-there_still : {X : Type 0} (xs ys : List X) (i : ℕ) (x : X) → slice_get xs i ≡ Some x → slice_get (xs ++ ys) i ≡ Some x
-there_still xs ys i x there = get_front xs ys i (slice_get_within xs i x there) ∙ there
-
-abbrev found_in : List Group → Option Member → Option Asked
-found_in groups member =
-    option_and_then
-    (λ (m : Member). option_map (λ (group : Group). record { number = m.group; group = group; command = m.command }) (slice_get groups m.group)) member
-
-of_group_still : (groups more : List Group) (m : Member) (asked : Asked) → found_in groups (Some m) ≡ Some asked
-    → found_in (groups ++ more) (Some m) ≡ Some asked
-of_group_still groups more m asked = either (slice_get groups m.group) refl where
-  either : (o : Option Group) → slice_get groups m.group ≡ o
-      → option_map (λ (group : Group). record { number = m.group; group = group; command = m.command }) o ≡ Some asked
-      → found_in (groups ++ more) (Some m) ≡ Some asked
-  either None there is = absurd cc
-  either (Some g) there is =
-      ap (option_map (λ (group : Group). record { number = m.group; group = group; command = m.command })) (there_still groups more m.group g there) ∙ is
-
-asked_still : (groups more : List Group) (place : ℕ) (asked : Asked) → asked_at groups place ≡ Some asked → asked_at (groups ++ more) place ≡ Some asked
-asked_still groups more place asked = either (slice_get (members_of groups) place) refl where
-  either : (o : Option Member) → slice_get (members_of groups) place ≡ o → found_in groups o ≡ Some asked → asked_at (groups ++ more) place ≡ Some asked
-  either None there is = absurd cc
-  either (Some m) there is =
-      ap (λ (ms : List Member). found_in (groups ++ more) (slice_get ms place)) (members_append 0 groups more)
-      ∙ ap (found_in (groups ++ more)) (there_still (members_of groups) (members_from (0 + length groups) more) place m there)
-      ∙ of_group_still groups more m asked is
-
--- and so does the run at a place
+-- the run at a place stays when more is asked for behind it
 pub run_still : (groups more : List Group) (place position : ℕ) → position_in groups place ≡ position ∷ [] → position_in (groups ++ more) place ≡ position ∷ []
 run_still groups more place position = either (asked_at groups place) refl where
   either : (o : Option Asked) → asked_at groups place ≡ o → option_map_or (λ (asked : Asked). position_run asked.command.kind) o [] ≡ position ∷ []

@@ -7,7 +7,7 @@ use Rattle.nim_message.specs.declared.order.ToWorker.{ToWorker}
 use Rattle.nim_message.specs.declared.report.FromWorker.{FromWorker}
 use Rattle.nim_job.specs.declared.job.Job.{Job}
 use Rattle.nim_plan.specs.Good.{IsGood}
-use Rattle.nim_course.specs.Directed.{orders_to}
+use Rattle.nim_place.specs.Directed.{orders_to}
 use Rattle.nim_lockstep.specs.declared.ran.Ran.{Ran}
 use Rattle.nim_lockstep.specs.Cluster.{ClusterState, Node}
 use Rattle.nim_lockstep.specs.Events.{report_taken}

@@ -8,7 +8,7 @@ use Rattle.std.proofs.lemmas.List.{append-nil, append_assoc, map-append}
 use Rattle.std.proofs.lemmas.List.Elements.{All-weaker, filter-append}
 use Rattle.nim_message.specs.declared.order.ToWorker.{ToWorker}
 use Rattle.nim_job.specs.declared.job.Job.{Job}
-use Rattle.nim_course.specs.Directed.{Directed, orders_to}
+use Rattle.nim_place.specs.Directed.{Directed, orders_to}
 use Rattle.nim_history.specs.History.{orders_in}
 use Rattle.nim_lockstep.specs.declared.ran.Ran.{Ran}
 use Rattle.nim_lockstep.specs.Cluster.{ClusterState, Node}

@@ -13,7 +13,7 @@ use Rattle.nim_course.specs.declared.outcome.Outcome.TheVariants.{Done, NoWorker
 use Rattle.nim_course.specs.declared.pending.Pending.{Pending}
 use Rattle.nim_course.specs.declared.pending.Pending.TheVariants.{Begin, Idle, Block, Cell, Parts, Ended}
 use Rattle.nim_course.specs.Controller.{Controller, Flight}
-use Rattle.nim_course.specs.Directed.{Directed}
+use Rattle.nim_place.specs.Directed.{Directed}
 use Rattle.nim_course.specs.Moves.{AreFree, IsTurned, after_moves, asked, does_wait, done_with}
 use Rattle.nim_course.specs.Reports.{after_report, flight_after, reported, told}
 use Rattle.nim_course.proofs.Standing.{held_parts}

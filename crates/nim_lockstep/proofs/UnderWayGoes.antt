@@ -15,7 +15,7 @@ use Rattle.nim_plan.specs.Good.{IsGood}
 use Rattle.nim_course.specs.declared.outcome.Outcome.{Outcome}
 use Rattle.nim_course.specs.declared.setup.Setup.{Setup}
 use Rattle.nim_course.specs.Controller.{Controller, new_controller}
-use Rattle.nim_course.specs.Directed.{Directed}
+use Rattle.nim_place.specs.Directed.{Directed}
 use Rattle.nim_course.specs.Leads.{Leads}
 use Rattle.nim_course.proofs.Reports.{report_leads}
 use Rattle.nim_course.proofs.Starts.{start_leads}

@@ -7,7 +7,7 @@ use Rattle.nim_message.specs.declared.report.FromWorker.{FromWorker}
 use Rattle.nim_job.specs.declared.job.Job.{Job}
 use Rattle.nim_course.specs.declared.setup.Setup.{Setup}
 use Rattle.nim_course.specs.Controller.{Controller, new_controller}
-use Rattle.nim_course.specs.Directed.{Directed}
+use Rattle.nim_place.specs.Directed.{Directed}
 use Rattle.nim_history.specs.History.{Happening}
 use Rattle.nim_lockstep.specs.declared.given.Given.{Given}
 use Rattle.nim_lockstep.specs.declared.ran.Ran.{Ran}

@@ -19,7 +19,7 @@ use Rattle.nim_place.specs.Versions.{Versions, held_at, holder, is_current, is_k
 use Rattle.nim_place.proofs.Puts.{IsWhole, kept_bounds, kept_for}
 
 -- where a slot holds the latest version, the map has it
-current_kept : (versions : Versions) (object : Object) (worker : Worker) → is_current versions object worker ≡ true
+pub current_kept : (versions : Versions) (object : Object) (worker : Worker) → is_current versions object worker ≡ true
     → is_kept versions worker (main_slot object) ≡ true
 current_kept versions object worker is = by (is_kept versions worker (main_slot object)) is where
   by : (b : Bool)
@@ -71,7 +71,7 @@ targeted versions (first ∷ rest) precondition among wanted some = elim (Contai
 ]
 
 -- a slot that a copy goes to, or that held the latest version, holds it
-holds_then : (t : Bool) (o : Option ℕ) (latest : ℕ) → (option_map_or (λ (n : ℕ). n == latest) o false ≡ false → t ≡ true)
+pub holds_then : (t : Bool) (o : Option ℕ) (latest : ℕ) → (option_map_or (λ (n : ℕ). n == latest) o false ≡ false → t ≡ true)
     → option_map_or (λ (n : ℕ). n == latest) (if t then Some latest else o) false ≡ true
 holds_then true o latest copied = eq-eqb latest latest refl
 holds_then false o latest copied = by (option_map_or (λ (n : ℕ). n == latest) o false) copied where

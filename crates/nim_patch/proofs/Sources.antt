@@ -1,11 +1,12 @@
 -- Where the copies of a patch come from.
-use Rattle.std.proofs.Common.{◌≡◌, ℕ, zero, suc, ◌+◌, ◌<◌, ◌≤◌, Bool, true, false, List, [], ◌∷◌, refl, ap, subst, ◌∙◌, arith, inl, inr}
+use Rattle.std.proofs.Common.{◌≡◌, ℕ, zero, suc, ◌+◌, ◌<◌, ◌≤◌, Bool, true, false, List, [], ◌∷◌, length, refl, ap, subst, ◌∙◌, arith, inl, inr}
 use Rattle.std.specs.Prelude.{if◌then◌else◌, Option, None, Some, option_map}
 use Rattle.std.proofs.lemmas.Bool.{cases_eq}
 use Rattle.nim_base.specs.declared.number.Object.{Object}
 use Rattle.nim_base.specs.declared.number.Worker.{Worker}
+use Rattle.nim_patch.specs.declared.patch.PatchCopy.{PatchCopy}
 use Rattle.nim_patch.specs.Mends.{AreSourced, IsSourced}
-use Rattle.nim_patch.specs.Patches.{copies_of, copy_first, copy_from, fails}
+use Rattle.nim_patch.specs.Patches.{copies_of, copy_first, copy_from, copy_of, fails}
 use Rattle.nim_place.specs.Versions.{Versions, holder, holder_from, is_current}
 
 -- a worker holds the latest version, and none from one on that is lower
@@ -51,3 +52,12 @@ copies_sourced versions (precondition ∷ rest) = first (fails versions precondi
   first true None is others = others
   first true (Some from) is others = (holder_sourced versions precondition from is, others)
   first false o is others = others
+
+-- there are no more copies than preconditions
+pub copies_few : (versions : Versions) (preconditions : List (Worker × Object)) → length (copies_of versions preconditions) ≤ length preconditions
+copies_few versions [] = omega arith
+copies_few versions (precondition ∷ rest) = first (copy_of versions precondition) (copies_few versions rest) where
+  first : (o : Option PatchCopy) → length (copies_of versions rest) ≤ length rest
+      → length (copy_first o (copies_of versions rest)) ≤ length (precondition ∷ rest)
+  first None few = omega (arith, few)
+  first (Some copy) few = omega (arith, few)

@@ -1,9 +1,11 @@
-ghost use Rattle.std.specs.Prelude.{◌≡◌, List, length, IfOk};
+ghost use Rattle.std.specs.Prelude.{◌≡◌, ◌≤◌, Bool, ℕ, List, length, IfOk};
 ghost use Rattle.nim_command.specs.declared.command.Command.{Command};
 ghost use Rattle.nim_base.specs.declared.number.Worker.{Worker as worker_type};
+ghost use Rattle.nim_patch.specs.Given.{PatchInstallsExtend, PatchRunsExtend};
 ghost use Rattle.nim_patch.specs.Mends.{AreSourced, Mends};
 ghost use Rattle.nim_patch.specs.Patches as spec;
 ghost use Rattle.nim_place.specs.Stands.{Stands};
+ghost use Rattle.nim_template.specs.MainSlots.{AreMainSlots};
 
 use nim_base::{NoMemory, Object, Seq, Worker};
 use nim_command::WorkerTemplate;
@@ -54,9 +56,13 @@ pub fn build_patch(
 ) -> Result<Patch, NoMemory>
     requires { flags.now ≡ spec.flags_of map.now template.now.preconditions }
     ensures copies { IfOk result (λ patch. patch.copies ≡ spec.copies_of map.now template.now.preconditions) }
+    ensures few { IfOk result (λ patch. length patch.copies ≤ length template.now.preconditions) }
     ensures sources { IfOk result (λ patch. AreSourced map.now patch.copies) }
     ensures mends { (given : List (worker_type × Command)) → Stands given map.now
         → IfOk result (λ patch. Mends map.now template.now.preconditions patch.copies) }
+    ensures installs { (live : List Bool) → IfOk result (λ patch. PatchInstallsExtend live patch.copies) }
+    ensures runs { (live : List Bool) (objects : ℕ) → AreMainSlots live objects template.now.preconditions
+        → IfOk result (λ patch. PatchRunsExtend live objects template.now.preconditions patch.copies map.now) }
 {
     let preconditions = template.preconditions.as_slice();
     let mut copies = Vec::new(alloc);

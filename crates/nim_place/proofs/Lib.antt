@@ -1,5 +1,6 @@
 pub mod Begins
 pub mod ByTask
+pub mod Directed
 pub mod Finds
 pub mod Given
 pub mod GoesOn

@@ -1,3 +1,4 @@
+pub mod Directed
 pub mod Extends
 pub mod Finds
 pub mod Orders

@@ -7,6 +7,7 @@ use Rattle.std.specs.Option.{option_map}
 use Rattle.std.proofs.lemmas.Bool.{cases_lt, eqb-true, false≢true, le-ltb, lt-ltb, ne_eqb, or_from, or_parts}
 use Rattle.std.proofs.Math.Path.{fun_ext}
 use Rattle.nim_command.specs.Waits.{Group, Member, members_of, waits_of}
+use Rattle.nim_queue.specs.Used.{used_in}
 use Rattle.nim_queue.specs.Counts.{AreBrief, AreReleased, fewer, is_in, times}
 use Rattle.nim_queue.specs.Stands.{Keeps, count_of, done_with, is_reader, is_writer, kept_at, open_waits}
 use Rattle.nim_queue.specs.declared.queue.BeforeQueue.{BeforeQueue}
@@ -76,7 +77,7 @@ still_short k most (Some x) v false short is =
 pub completed : (old new : BeforeQueue) (groups : List Group) (done : ℕ → Bool) (u : ℕ) (w : Waiting) → Keeps old groups done
     → get nat_eq old.waiting u ≡ Some w
     → ((t : ℕ) → get nat_eq new.waiting t ≡ option_map (fewer (times t w.followers)) (if u == t then None else get nat_eq old.waiting t))
-    → AreReleased (get nat_eq new.waiting) new.released old.given → ((s : ℕ) → get nat_eq new.slots s ≡ get nat_eq old.slots s)
+    → AreReleased (get nat_eq new.waiting) new.released old.given → ((s : ℕ) → used_in new.slots.items s ≡ used_in old.slots.items s)
     → new.links ≡ old.links → new.given ≡ old.given → new.groups ≡ old.groups → Keeps new groups (done_with groups done u)
 completed old new groups done u w stands found waiting released slots links given numbered =
     let members : List Member = members_of groups in
@@ -130,9 +131,9 @@ option_cases (Some x) = inr (x, refl)
 -- a queue that has the same commands, slots and counts
 pub stands_still : (old new : BeforeQueue) (groups : List Group) (done : ℕ → Bool) → Keeps old groups done
     → ((t : ℕ) → get nat_eq new.waiting t ≡ get nat_eq old.waiting t)
-    → ((t s : ℕ) → is_writer t (get nat_eq new.slots s) ≡ is_writer t (get nat_eq old.slots s))
-    → ((t s : ℕ) → done t ≡ false → is_reader t (get nat_eq new.slots s) ≡ is_reader t (get nat_eq old.slots s))
-    → AreReleased (get nat_eq new.waiting) new.released old.given → AreBrief (get nat_eq new.slots) new.links → new.links ≡ old.links
+    → ((t s : ℕ) → is_writer t (used_in new.slots.items s) ≡ is_writer t (used_in old.slots.items s))
+    → ((t s : ℕ) → done t ≡ false → is_reader t (used_in new.slots.items s) ≡ is_reader t (used_in old.slots.items s))
+    → AreReleased (get nat_eq new.waiting) new.released old.given → AreBrief (used_in new.slots.items) new.links → new.links ≡ old.links
     → new.given ≡ old.given → new.groups ≡ old.groups → Keeps new groups done
 stands_still old new groups done stands waiting written read released brief links given numbered = record {
   waits = stands.waits;

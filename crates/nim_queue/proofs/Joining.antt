@@ -15,6 +15,7 @@ use Rattle.nim_command.specs.Slots.{does_read, does_write}
 use Rattle.nim_command.specs.Waits.{Group, Member, is_written_by, members_of, waits_for, waits_of}
 use Rattle.nim_order.proofs.Items.{get_front}
 use Rattle.nim_order.proofs.Longer.{waits_of_front}
+use Rattle.nim_queue.specs.Used.{used_in}
 use Rattle.nim_queue.specs.Arrived.{link_to}
 use Rattle.nim_queue.specs.Counts.{AreBrief, AreReleased, AreShort, is_in, times}
 use Rattle.nim_queue.specs.Joined.{followed, gathered}
@@ -212,13 +213,13 @@ pub joined : (old new : BeforeQueue) (groups more : List Group) (done : ℕ → 
     → ((e : ℕ) → is_in e d ≡ is_in e (open_waits (members_of groups ++ m ∷ []) done old.given))
     → ((t : ℕ) → get nat_eq new.waiting t
     ≡ (if old.given == t then Some (as_kept m (length d)) else option_map (followed (gathered t (map (link_to old.given) d))) (get nat_eq old.waiting t)))
-    → ((t s : ℕ) → is_writer t (get nat_eq new.slots s)
-    ≡ (if does_write m.command.kind (record { 0 = s }) then old.given == t else is_writer t (get nat_eq old.slots s)))
-    → ((t s : ℕ) → is_reader t (get nat_eq new.slots s)
-    ≡ ((not (does_write m.command.kind (record { 0 = s })) && is_reader t (get nat_eq old.slots s))
+    → ((t s : ℕ) → is_writer t (used_in new.slots.items s)
+    ≡ (if does_write m.command.kind (record { 0 = s }) then old.given == t else is_writer t (used_in old.slots.items s)))
+    → ((t s : ℕ) → is_reader t (used_in new.slots.items s)
+    ≡ ((not (does_write m.command.kind (record { 0 = s })) && is_reader t (used_in old.slots.items s))
     || ((old.given == t) && does_read m.command.kind (record { 0 = s }))))
     → AreReleased (get nat_eq new.waiting) new.released (old.given + 1) → AreShort (get nat_eq new.waiting) new.links
-    → AreBrief (get nat_eq new.slots) new.links → new.given ≡ old.given + 1 → new.groups ≡ length more → Keeps new more done
+    → AreBrief (used_in new.slots.items) new.links → new.given ≡ old.given + 1 → new.groups ≡ length more → Keeps new more done
 joined old new groups more done m d stands members reached waiting written read released short brief given numbered =
     let all : List Member = members_of groups in
     let n : ℕ = old.given in
@@ -242,7 +243,7 @@ joined old new groups more done m d stands members reached waiting written read 
       released = subst (λ (k : ℕ). AreReleased (get nat_eq new.waiting) new.released k) (sym given) released;
       written = λ t s here.
           let slot : Slot = record { 0 = s } in
-          written_joined (does_write m.command.kind slot) (n == t) (is_writer t (get nat_eq old.slots s)) (is_writer t (get nat_eq new.slots s))
+          written_joined (does_write m.command.kind slot) (n == t) (is_writer t (used_in old.slots.items s)) (is_writer t (used_in new.slots.items s))
           (does_use_last does_write (members_of more) t slot) (written t s)
           (λ same. stands.written t s here ∙ unused_past does_write all t slot (past t same))
           (λ same. ap (λ (ms : List Member). does_use_last does_write ms t slot) members ∙ last_new does_write all m t slot (long ∙ at_n t same))
@@ -251,8 +252,8 @@ joined old new groups more done m d stands members reached waiting written read 
           ∙ ap (λ (b : Bool). b && not (does_write m.command.kind slot)) (sym (stands.written t s here)));
       read = λ t s here.
           let slot : Slot = record { 0 = s } in
-          read_joined (does_write m.command.kind slot) (does_read m.command.kind slot) (n == t) (is_reader t (get nat_eq old.slots s))
-          (is_reader t (get nat_eq new.slots s)) (does_use_last does_read (members_of more) t slot) (read t s)
+          read_joined (does_write m.command.kind slot) (does_read m.command.kind slot) (n == t) (is_reader t (used_in old.slots.items s))
+          (is_reader t (used_in new.slots.items s)) (does_use_last does_read (members_of more) t slot) (read t s)
           (λ same. stands.read t s here ∙ unused_past does_read all t slot (past t same))
           (λ same. ap (λ (ms : List Member). does_use_last does_read ms t slot) members ∙ last_new does_read all m t slot (long ∙ at_n t same))
           (λ other.

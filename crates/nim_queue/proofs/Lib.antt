@@ -15,5 +15,6 @@ pub mod Reaching
 pub mod Released
 pub mod Rising
 pub mod Uses
+pub mod Slots
 pub mod Stepping
 pub mod Taking

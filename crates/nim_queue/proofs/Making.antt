@@ -16,6 +16,7 @@ use Rattle.nim_command.specs.declared.command.Command.{Command}
 use Rattle.nim_command.specs.Slots.{does_read, reads_of, writes_of}
 use Rattle.nim_command.specs.Waits.{Group, Member, is_written_by, members_of}
 use Rattle.nim_command.proofs.Lists.{any_same}
+use Rattle.nim_queue.specs.Used.{used_in}
 use Rattle.nim_queue.specs.Arrived.{HasArrived, HaveArrived, Sight, is_met, sight_of}
 use Rattle.nim_queue.specs.Counts.{AreBrief, AreReleased, free_ones, is_in, kept_ones}
 use Rattle.nim_queue.specs.Joined.{HaveSameUses}
@@ -102,20 +103,20 @@ never_kept queue groups done t slot stands now none =
 
 -- what a queue stands for stays
 pub still_stands : (old new : BeforeQueue) (groups : List Group) (done : ℕ → Bool) → Keeps old groups done
-    → ((t : ℕ) → get nat_eq new.waiting t ≡ get nat_eq old.waiting t) → HaveSameUses (get nat_eq old.waiting) (get nat_eq old.slots) (get nat_eq new.slots)
+    → ((t : ℕ) → get nat_eq new.waiting t ≡ get nat_eq old.waiting t) → HaveSameUses (get nat_eq old.waiting) (used_in old.slots.items) (used_in new.slots.items)
     → new.released.items.items ≡ old.released.items.items → deque_capacity old.released.items ≤ deque_capacity new.released.items → new.links ≡ old.links
     → new.given ≡ old.given → new.groups ≡ old.groups → Keeps new groups done
 still_stands old new groups done stands waiting uses items capacity links given numbered =
     stands_still old new groups done stands waiting uses.written
     (λ t s now. either_read t s now (is_some (get nat_eq old.waiting t)) refl)
     (released_roomier (get nat_eq old.waiting) (get nat_eq new.waiting) old.released new.released old.given stands.released waiting items capacity)
-    (subst (AreBrief (get nat_eq new.slots)) (sym links) (uses.brief old.links stands.brief)) links given numbered
+    (subst (AreBrief (used_in new.slots.items)) (sym links) (uses.brief old.links stands.brief)) links given numbered
   where
     either_read : (t s : ℕ) → done t ≡ false → (b : Bool) → is_some (get nat_eq old.waiting t) ≡ b
-        → is_reader t (get nat_eq new.slots s) ≡ is_reader t (get nat_eq old.slots s)
+        → is_reader t (used_in new.slots.items s) ≡ is_reader t (used_in old.slots.items s)
     either_read t s now true some = uses.read t s some
     either_read t s now false none =
-        let unused : is_reader t (get nat_eq old.slots s) ≡ false = stands.read t s now ∙ never_kept old groups done t (record { 0 = s }) stands now none in
+        let unused : is_reader t (used_in old.slots.items s) ≡ false = stands.read t s now ∙ never_kept old groups done t (record { 0 = s }) stands now none in
         uses.fewer t s unused ∙ sym unused
 
 distinct : (p : ℕ → Bool) (n : ℕ) → IsDistinct nat_eq (filter p (range_with_len 0 n))

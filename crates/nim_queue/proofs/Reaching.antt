@@ -14,6 +14,7 @@ use Rattle.nim_command.specs.Slots.{does_read, does_touch, does_write, is_among,
 use Rattle.nim_command.specs.Waits.{Group, Member, is_border, is_waited, is_written_by, members_from, members_of, waits_for, waits_of}
 use Rattle.nim_command.proofs.Lists.{any_nothing, any_same}
 use Rattle.nim_order.proofs.Items.{get_front}
+use Rattle.nim_queue.specs.Used.{used_in}
 use Rattle.nim_queue.specs.Arrived.{Sight, as_members, is_met, is_reached, is_written_in, named_in, sight_of}
 use Rattle.nim_queue.specs.Counts.{is_in}
 use Rattle.nim_queue.specs.Stands.{Keeps, is_reader, is_writer, kept_at, open_waits}
@@ -248,7 +249,7 @@ and_false true = refl
 and_false false = refl
 
 pub reached_open : (queue : BeforeQueue) (groups : List Group) (done : ℕ → Bool) (past : List Command) (c : Command) (e : ℕ) → Keeps queue groups done
-    → is_reached (sight_of (get nat_eq queue.waiting) (get nat_eq queue.slots) queue.given past) c e
+    → is_reached (sight_of (get nat_eq queue.waiting) (used_in queue.slots.items) queue.given past) c e
     ≡ is_in e (open_waits ((members_of groups ++ as_members (length groups) past) ++ record { group = length groups; command = c } ∷ []) done (queue.given + length past))
 reached_open queue groups done past c e stands =
     elim (cases_lt e last) [
@@ -269,7 +270,7 @@ reached_open queue groups done past c e stands =
     last = queue.given + length past
 
     sight : Sight
-    sight = sight_of (get nat_eq queue.waiting) (get nat_eq queue.slots) queue.given past
+    sight = sight_of (get nat_eq queue.waiting) (used_in queue.slots.items) queue.given past
 
     before_all : List Member
     before_all = members_of groups ++ as_members (length groups) past
@@ -334,11 +335,11 @@ reached_open queue groups done past c e stands =
         ap is_some (stands.kept e)
         ∙ ap₂ (λ (b : Bool) (o : Option Member). is_some (if b then None else option_map (kept_at stands.waits stands.followers e) o)) here found.2 in
         let user : (uses : Slot → Bool) (s : Slot) → Bool = λ uses s. uses s && not (is_written_by rest s) in
-        let writer : (s : Slot) → is_writer e (get nat_eq queue.slots s.0) ≡ (does_write x.command.kind s && not (is_written_by rest s)) =
+        let writer : (s : Slot) → is_writer e (used_in queue.slots.items s.0) ≡ (does_write x.command.kind s && not (is_written_by rest s)) =
         λ s.
         stands.written e s.0 here
         ∙ ap (λ (o : Option Member). option_map_or (λ (y : Member). does_write y.command.kind s && not (is_written_by rest s)) o false) found.2 in
-        let reader : (s : Slot) → is_reader e (get nat_eq queue.slots s.0) ≡ (does_read x.command.kind s && not (is_written_by rest s)) =
+        let reader : (s : Slot) → is_reader e (used_in queue.slots.items s.0) ≡ (does_read x.command.kind s && not (is_written_by rest s)) =
         λ s.
         stands.read e s.0 here
         ∙ ap (λ (o : Option Member). option_map_or (λ (y : Member). does_read y.command.kind s && not (is_written_by rest s)) o false) found.2 in

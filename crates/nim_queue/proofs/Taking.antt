@@ -13,6 +13,7 @@ use Rattle.nim_command.specs.declared.command.Command.{Command}
 use Rattle.nim_command.specs.declared.command.Kind.{Kind}
 use Rattle.nim_command.specs.Slots.{does_read, does_write, is_among, reads_of, writes_of}
 use Rattle.nim_command.specs.Waits.{Group, Member, members_of}
+use Rattle.nim_queue.specs.Used.{used_in}
 use Rattle.nim_queue.specs.Arrived.{HasArrived, as_members, commands_of, link_to, reading_of, sight_of}
 use Rattle.nim_queue.specs.Counts.{AreBrief, AreShort, IsRising, is_in, kept_ones, put_in}
 use Rattle.nim_queue.specs.Joined.{are_covered, counted, gathered, gathered_reads, kept_new, more_read, rewritten}
@@ -62,7 +63,7 @@ begun_midway start groups done s = record {
         written = λ t x now. s.written t x now ∙ ap (λ (ms : List Member). does_use_last does_write ms t (record { 0 = x })) same;
         read = λ t x now. s.read t x now ∙ ap (λ (ms : List Member). does_use_last does_read ms t (record { 0 = x })) same;
         short = subst (AreShort (get nat_eq start.waiting)) links s.short;
-        brief = subst (AreBrief (get nat_eq start.slots)) links s.brief;
+        brief = subst (AreBrief (used_in start.slots.items)) links s.brief;
         given = s.given ∙ ap length same;
         numbered = sym (length-append groups (next ∷ []));
         later = λ t from. s.later t (omega (arith, from, ap length same));
@@ -80,9 +81,9 @@ pub stepped : (start now after : BeforeQueue) (past rest : List Arrival) (a : Ar
     → HasRoom start (past ++ a ∷ rest) → Keeps start groups done → IsMidway start now past groups done
     → ((k : ℕ) (d : List ℕ) → AreShort (get nat_eq now.waiting) k → a.waits.items ≡ map (link_to now.given) d → k + length d < 2 ^ 63 → 0 < spare now.waiting
     → HasEntered (get nat_eq now.waiting) (get nat_eq after.waiting) (λ t. gathered t (map (link_to now.given) d)) now.given (kept_new now.groups a.command (length d)))
-    → ((k : ℕ) (d : List Slot) → AreBrief (get nat_eq now.slots) k → a.reads.items ≡ map (reading_of now.given) d → k + length d < 2 ^ 63 → (s : ℕ)
-    → get nat_eq after.slots s ≡ option_map (more_read (gathered_reads s a.reads.items))
-    (if is_among (writes_of a.command.kind) (record { 0 = s }) then option_map (rewritten now.given) (get nat_eq now.slots s) else get nat_eq now.slots s))
+    → ((k : ℕ) (d : List Slot) → AreBrief (used_in now.slots.items) k → a.reads.items ≡ map (reading_of now.given) d → k + length d < 2 ^ 63 → (s : ℕ)
+    → used_in after.slots.items s ≡ option_map (more_read (gathered_reads s a.reads.items))
+    (if is_among (writes_of a.command.kind) (record { 0 = s }) then option_map (rewritten now.given) (used_in now.slots.items s) else used_in now.slots.items s))
     → (IsRising now.released.items.items → deque_len now.released.items < deque_capacity now.released.items
     → after.released.items.items ≡ (if length a.waits.items == 0 then put_in now.given now.released.items.items else now.released.items.items))
     → deque_capacity now.released.items ≤ deque_capacity after.released.items → spare now.waiting ≤ spare after.waiting + 1 → after.given ≡ now.given + 1
@@ -98,14 +99,14 @@ stepped start now after past rest a groups done any room began mid waiting slots
       has.reached e ∙ reached_open start groups done (commands_of past) a.command e began
       ∙ ap₂ (λ (ms : List Member) (n : ℕ). is_in e (open_waits (ms ++ m ∷ []) done n)) (sym (members_more groups prev)) (sym ticket))
       entered
-      (λ t s. ap (is_writer t) (slots_are s) ∙ writer_after t now.given (does_write kind (record { 0 = s })) (gathered_reads s a.reads.items) (get nat_eq now.slots s) (written_use s)
-      ∙ ap (λ (b : Bool). if does_write kind (record { 0 = s }) then b else is_writer t (get nat_eq now.slots s)) (same_ways t now.given))
+      (λ t s. ap (is_writer t) (slots_are s) ∙ writer_after t now.given (does_write kind (record { 0 = s })) (gathered_reads s a.reads.items) (used_in now.slots.items s) (written_use s)
+      ∙ ap (λ (b : Bool). if does_write kind (record { 0 = s }) then b else is_writer t (used_in now.slots.items s)) (same_ways t now.given))
       (λ t s.
       ap (is_reader t) (slots_are s)
-      ∙ reader_after t now.given (does_write kind (record { 0 = s })) (does_read kind (record { 0 = s })) (gathered_reads s a.reads.items) (get nat_eq now.slots s)
+      ∙ reader_after t now.given (does_write kind (record { 0 = s })) (does_read kind (record { 0 = s })) (gathered_reads s a.reads.items) (used_in now.slots.items s)
       (written_use s) (read_use s)
       (ap (λ (rs : List Reading). is_in t (gathered_reads s rs)) reads ∙ added_readers t now.given (record { 0 = s }) (reads_of kind))
-      ∙ ap (λ (b : Bool). (not (does_write kind (record { 0 = s })) && is_reader t (get nat_eq now.slots s)) || (b && does_read kind (record { 0 = s })))
+      ∙ ap (λ (b : Bool). (not (does_write kind (record { 0 = s })) && is_reader t (used_in now.slots.items s)) || (b && does_read kind (record { 0 = s })))
       (same_ways t now.given))
       (released_joined (get nat_eq now.waiting) (get nat_eq after.waiting) (λ t. gathered t (map (link_to now.given) d)) now.released after.released now.given
       (kept_new (length groups) a.command (length d)) stood.released entered
@@ -116,10 +117,10 @@ stepped start now after past rest a groups done any room began mid waiting slots
       (subst (AreShort (get nat_eq after.waiting)) total
       (short_joined (get nat_eq now.waiting) (get nat_eq after.waiting) (λ t. gathered t (map (link_to now.given) d)) now.given (kept_new (length groups) a.command (length d))
       before own refl entered (λ t. omega (arith, length_gathered now.given t d, waits_count)) stood.short))
-      (subst (AreBrief (get nat_eq after.slots)) total
-      (within_all (λ (u : SlotUse). u.readers) more_read (λ s. rewrites s (get nat_eq now.slots s)) (get nat_eq after.slots) (λ s. gathered_reads s a.reads.items) before own
+      (subst (AreBrief (used_in after.slots.items)) total
+      (within_all (λ (u : SlotUse). u.readers) more_read (λ s. rewrites s (used_in now.slots.items s)) (used_in after.slots.items) (λ s. gathered_reads s a.reads.items) before own
       (λ ms u. refl) slots_are (λ s. omega (arith, ap (λ (rs : List Reading). length (gathered_reads s rs)) reads, length_gathered_reads now.given s (reads_of kind), reads_count))
-      (brief_written (get nat_eq now.slots) (λ s. rewrites s (get nat_eq now.slots s)) (λ s. is_among (writes_of kind) (record { 0 = s })) now.given before (λ s. refl)
+      (brief_written (used_in now.slots.items) (λ s. rewrites s (used_in now.slots.items s)) (λ s. is_among (writes_of kind) (record { 0 = s })) now.given before (λ s. refl)
       stood.brief)))
       given (sym (length-append groups (next ∷ [])));
   given = omega (arith, given, mid.given, long);
@@ -135,7 +136,7 @@ stepped start now after past rest a groups done any room began mid waiting slots
             (kept_new (length groups) a.command (length d)) entered,
       );
   covered = λ s there.
-      ap is_some (slots_are s) ∙ use_stays now.given (does_write kind (record { 0 = s })) (gathered_reads s a.reads.items) (get nat_eq now.slots s) ∙ mid.covered s there;
+      ap is_some (slots_are s) ∙ use_stays now.given (does_write kind (record { 0 = s })) (gathered_reads s a.reads.items) (used_in now.slots.items s) ∙ mid.covered s there;
   number = number ∙ mid.number;
 }
   where
@@ -151,8 +152,8 @@ stepped start now after past rest a groups done any room began mid waiting slots
     own : ℕ
     own = length a.waits.items + length a.reads.items
 
-    has : HasArrived (sight_of (get nat_eq start.waiting) (get nat_eq start.slots) start.given (commands_of past)) (start.given + length (commands_of past)) a
-    has = arrived_at (get nat_eq start.waiting) (get nat_eq start.slots) start.given [] past rest a room.arrived
+    has : HasArrived (sight_of (get nat_eq start.waiting) (used_in start.slots.items) start.given (commands_of past)) (start.given + length (commands_of past)) a
+    has = arrived_at (get nat_eq start.waiting) (used_in start.slots.items) start.given [] past rest a room.arrived
 
     d : List ℕ
     d = has.waits
@@ -195,20 +196,20 @@ stepped start now after past rest a groups done any room began mid waiting slots
     rewrites : ℕ → Option SlotUse → Option SlotUse
     rewrites s o = if is_among (writes_of a.command.kind) (record { 0 = s }) then option_map (rewritten now.given) o else o
 
-    slots_are : (s : ℕ) → get nat_eq after.slots s ≡ option_map (more_read (gathered_reads s a.reads.items)) (rewrites s (get nat_eq now.slots s))
+    slots_are : (s : ℕ) → used_in after.slots.items s ≡ option_map (more_read (gathered_reads s a.reads.items)) (rewrites s (used_in now.slots.items s))
     slots_are = slots before (reads_of kind) standing.brief reads (omega (arith, room.few, counted_at past rest a, reads_count))
 
-    covers : are_covered (get nat_eq start.slots) a ≡ true
-    covers = covered_at (are_covered (get nat_eq start.slots)) past rest a room.covered
+    covers : are_covered (used_in start.slots.items) a ≡ true
+    covers = covered_at (are_covered (used_in start.slots.items)) past rest a room.covered
 
-    both : (list_all (λ (slot : Slot). is_some (get nat_eq start.slots slot.0)) (reads_of a.command.kind) ≡ true)
-        × (list_all (λ (slot : Slot). is_some (get nat_eq start.slots slot.0)) (writes_of a.command.kind) ≡ true)
+    both : (list_all (λ (slot : Slot). is_some (used_in start.slots.items slot.0)) (reads_of a.command.kind) ≡ true)
+        × (list_all (λ (slot : Slot). is_some (used_in start.slots.items slot.0)) (writes_of a.command.kind) ≡ true)
     both =
-        and_parts (list_all (λ (slot : Slot). is_some (get nat_eq start.slots slot.0)) (reads_of a.command.kind))
-        (list_all (λ (slot : Slot). is_some (get nat_eq start.slots slot.0)) (writes_of a.command.kind)) covers
+        and_parts (list_all (λ (slot : Slot). is_some (used_in start.slots.items slot.0)) (reads_of a.command.kind))
+        (list_all (λ (slot : Slot). is_some (used_in start.slots.items slot.0)) (writes_of a.command.kind)) covers
 
-    written_use : (s : ℕ) → does_write a.command.kind (record { 0 = s }) ≡ true → is_some (get nat_eq now.slots s) ≡ true
-    written_use s is = mid.covered s (among_all (λ k. is_some (get nat_eq start.slots k)) (writes_of a.command.kind) s both.1 is)
+    written_use : (s : ℕ) → does_write a.command.kind (record { 0 = s }) ≡ true → is_some (used_in now.slots.items s) ≡ true
+    written_use s is = mid.covered s (among_all (λ k. is_some (used_in start.slots.items k)) (writes_of a.command.kind) s both.1 is)
 
-    read_use : (s : ℕ) → does_read a.command.kind (record { 0 = s }) ≡ true → is_some (get nat_eq now.slots s) ≡ true
-    read_use s is = mid.covered s (among_all (λ k. is_some (get nat_eq start.slots k)) (reads_of a.command.kind) s both.0 is)
+    read_use : (s : ℕ) → does_read a.command.kind (record { 0 = s }) ≡ true → is_some (used_in now.slots.items s) ≡ true
+    read_use s is = mid.covered s (among_all (λ k. is_some (used_in start.slots.items k)) (reads_of a.command.kind) s both.0 is)

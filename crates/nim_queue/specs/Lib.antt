@@ -3,3 +3,4 @@ pub mod Counts
 pub mod Joined
 pub mod Midway
 pub mod Stands
+pub mod Used

@@ -4,6 +4,7 @@ use Rattle.std.specs.HashMap.{get, spare}
 use Rattle.std.specs.List.{list_all}
 use Rattle.std.specs.VecDeque.{deque_capacity}
 use Rattle.nim_command.specs.Waits.{Group}
+use Rattle.nim_queue.specs.Used.{used_in}
 use Rattle.nim_queue.specs.Arrived.{HaveArrived, commands_of}
 use Rattle.nim_queue.specs.Counts.{kept_ones}
 use Rattle.nim_queue.specs.Joined.{are_covered, counted}
@@ -13,8 +14,8 @@ use Rattle.nim_queue.specs.declared.queue.BeforeQueue.{BeforeQueue}
 
 -- There is room for what has arrived.
 pub record HasRoom (start : BeforeQueue) (all : List Arrival) : Type 0 where
-  pub arrived : HaveArrived (get nat_eq start.waiting) (get nat_eq start.slots) start.given [] all
-  pub covered : list_all (are_covered (get nat_eq start.slots)) all ≡ true
+  pub arrived : HaveArrived (get nat_eq start.waiting) (used_in start.slots.items) start.given [] all
+  pub covered : list_all (are_covered (used_in start.slots.items)) all ≡ true
   pub few : start.links + counted all < 2 ^ 62
   pub spare : length all ≤ spare start.waiting
   pub room : length (kept_ones (get nat_eq start.waiting) start.given) + length all ≤ deque_capacity start.released.items
@@ -27,5 +28,5 @@ pub record IsMidway (start now : BeforeQueue) (past : List Arrival) (groups : Li
   pub spare : spare start.waiting ≤ spare now.waiting + length past
   pub capacity : deque_capacity start.released.items ≤ deque_capacity now.released.items
   pub count : length (kept_ones (get nat_eq now.waiting) now.given) ≤ length (kept_ones (get nat_eq start.waiting) start.given) + length past
-  pub covered : (slot : ℕ) → is_some (get nat_eq start.slots slot) ≡ true → is_some (get nat_eq now.slots slot) ≡ true
+  pub covered : (slot : ℕ) → is_some (used_in start.slots.items slot) ≡ true → is_some (used_in now.slots.items slot) ≡ true
   pub number : now.groups ≡ start.groups

@@ -8,6 +8,7 @@ use Rattle.nim_command.specs.declared.command.Command.{Command}
 use Rattle.nim_command.specs.declared.command.Kind.{Kind}
 use Rattle.nim_command.specs.Slots.{does_read, does_write}
 use Rattle.nim_command.specs.Waits.{Group, Member, is_written_by, members_of, waits_of}
+use Rattle.nim_queue.specs.Used.{used_in}
 use Rattle.nim_queue.specs.Counts.{AreBrief, AreReleased, AreShort, is_in, kept_ones, times}
 use Rattle.nim_queue.specs.declared.queue.BeforeQueue.{BeforeQueue}
 use Rattle.nim_queue.specs.declared.slot_use.SlotUse.{SlotUse}
@@ -98,12 +99,12 @@ pub record Keeps (queue : BeforeQueue) (groups : List Group) (done : ℕ → Boo
   pub released : AreReleased (get nat_eq queue.waiting) queue.released queue.given
   -- the last writer of each slot, and the readers since, where they aren't complete
   pub written : (ticket slot : ℕ) → done ticket ≡ false
-      → is_writer ticket (get nat_eq queue.slots slot) ≡ does_use_last does_write (members_of groups) ticket (record { 0 = slot })
+      → is_writer ticket (used_in queue.slots.items slot) ≡ does_use_last does_write (members_of groups) ticket (record { 0 = slot })
   pub read : (ticket slot : ℕ) → done ticket ≡ false
-      → is_reader ticket (get nat_eq queue.slots slot) ≡ does_use_last does_read (members_of groups) ticket (record { 0 = slot })
+      → is_reader ticket (used_in queue.slots.items slot) ≡ does_use_last does_read (members_of groups) ticket (record { 0 = slot })
   -- no list is longer than was counted
   pub short : AreShort (get nat_eq queue.waiting) queue.links
-  pub brief : AreBrief (get nat_eq queue.slots) queue.links
+  pub brief : AreBrief (used_in queue.slots.items) queue.links
   pub given : queue.given ≡ count_of groups
   pub numbered : queue.groups ≡ length groups
   -- no command is complete before it is given

@@ -2,25 +2,28 @@ ghost use Rattle.std.specs.Prelude.{◌≡◌, ◌+◌, ◌<◌, ◌^◌, length
 ghost use Rattle.std.specs.HashMap.{get};
 ghost use Rattle.std.specs.HashSet as bag;
 ghost use Rattle.std.specs.List.{list_any};
-ghost use Rattle.std.specs.Option.{option_map_or};
 ghost use Rattle.nim_base.specs.declared.number.Slot.{Slot as slot_type};
 ghost use Rattle.nim_command.specs.Slots.{does_write, is_among};
+ghost use Rattle.nim_queue.specs.Used.{used_in};
 ghost use Rattle.nim_queue.specs.Arrived.{HasArrived, HaveArrived, commands_of, is_reached, link_to, reading_of};
 ghost use Rattle.nim_queue.specs.Counts.{is_in};
 ghost use Rattle.nim_queue.specs.Stands.{is_reader, is_writer};
 
-use crate::slot_use::SlotUse;
+use crate::slot_use::{SlotUse, use_of};
 use crate::waiting::Waiting;
-use nim_base::{NoMemory, Slot};
+use nim_base::{NoMemory, Short, Slot};
 use nim_command::Command;
 use std::alloc::Global;
 use std::collections::{HashMap, HashSet, LinkedList};
+
+/// Among no more tickets than these one is searched.
+const FEW: usize = 16;
 
 /// A command of a group before the queue has it, with all that the queue needs to take it in.
 #[derive(Drop)]
 pub(crate) struct Arrival {
     pub(crate) command: Command,
-    /// The tickets of those that it waits for, as often as it does, each with its own ticket for their followers.
+    /// The tickets of those that it waits for, some maybe more than once, each with its own ticket for their followers.
     pub(crate) waits: Vec<Link>,
     /// The slots that it reads, each with its ticket for their readers.
     pub(crate) reads: Vec<Reading>,
@@ -44,13 +47,13 @@ pub(crate) struct Reading {
 pub(crate) fn arrive_all(
     alloc: Global,
     waiting: &HashMap<u64, Waiting>,
-    slots: &HashMap<u16, SlotUse>,
+    slots: &Vec<Option<SlotUse>>,
     first: u64,
     commands: Vec<Command>,
 ) -> Result<Vec<Arrival>, NoMemory>
     requires { first + length commands.items < 2 ^ 64 }
     ensures commands { IfOk result (λ arrived. commands_of arrived.items ≡ commands.items) }
-    ensures arrived { IfOk result (λ arrived. HaveArrived (get nat_eq waiting.now) (get nat_eq slots.now) first [] arrived.items) }
+    ensures arrived { IfOk result (λ arrived. HaveArrived (get nat_eq waiting.now) (used_in slots.now.items) first [] arrived.items) }
 {
     let mut arrived = Vec::with_capacity(alloc, commands.len())?;
     let mut arrivals = Arrivals::new(alloc);
@@ -87,7 +90,7 @@ impl Arrivals {
     pub(crate) fn arrive(
         &mut self,
         waiting: &HashMap<u64, Waiting>,
-        slots: &HashMap<u16, SlotUse>,
+        slots: &Vec<Option<SlotUse>>,
         ticket: u64,
         command: Command,
     ) -> Result<Arrival, NoMemory>
@@ -95,7 +98,7 @@ impl Arrivals {
         ensures arrival { IfOk result (λ a. HasArrived
             (record {
               kept = get nat_eq waiting.now;
-              used = get nat_eq slots.now;
+              used = used_in slots.now.items;
               named = λ n. unwrap_or (get nat_eq self.old.numbers n) [];
               written = bag.contains nat_eq self.old.written;
             })
@@ -105,11 +108,33 @@ impl Arrivals {
         ensures written { OnOk result ((s : ℕ) → bag.contains nat_eq self.new.written s
             ≡ (bag.contains nat_eq self.old.written s || does_write command.kind (record { 0 = s }))) }
     {
+        let arrival = self.arrival(waiting, slots, ticket, command)?;
+        note_number(self.alloc, &mut self.numbers, arrival.command.id, ticket)?;
+        note_writes(&mut self.written, arrival.command.kind.writes())?;
+        Ok(arrival)
+    }
+
+    /// A command with this ticket, behind those that wait and those of its group that arrived; it isn't noted.
+    pub(crate) fn arrival(
+        &self,
+        waiting: &HashMap<u64, Waiting>,
+        slots: &Vec<Option<SlotUse>>,
+        ticket: u64,
+        command: Command,
+    ) -> Result<Arrival, NoMemory>
+        ensures same { IfOk result (λ a. a.command ≡ command) }
+        ensures arrival { IfOk result (λ a. HasArrived
+            (record {
+              kept = get nat_eq waiting.now;
+              used = used_in slots.now.items;
+              named = λ n. unwrap_or (get nat_eq self.now.numbers n) [];
+              written = bag.contains nat_eq self.now.written;
+            })
+            ticket a) }
+    {
         let tickets = self.reach(waiting, slots, &command)?;
         let waits = links(self.alloc, tickets.as_slice(), ticket)?;
         let reads = readings(self.alloc, command.kind.reads(), ticket)?;
-        note_number(self.alloc, &mut self.numbers, command.id, ticket)?;
-        note_writes(&mut self.written, command.kind.writes())?;
         Ok(Arrival {
             command,
             waits,
@@ -121,19 +146,19 @@ impl Arrivals {
     fn reach(
         &self,
         waiting: &HashMap<u64, Waiting>,
-        slots: &HashMap<u16, SlotUse>,
+        slots: &Vec<Option<SlotUse>>,
         command: &Command,
-    ) -> Result<Vec<u64>, NoMemory>
-        ensures { IfOk result (λ tickets. (e : ℕ) → is_in e tickets.items ≡ is_reached
+    ) -> Result<Short<u64, 8>, NoMemory>
+        ensures { IfOk result (λ tickets. (e : ℕ) → is_in e tickets ≡ is_reached
             (record {
               kept = get nat_eq waiting.now;
-              used = get nat_eq slots.now;
+              used = used_in slots.now.items;
               named = λ n. unwrap_or (get nat_eq self.now.numbers n) [];
               written = bag.contains nat_eq self.now.written;
             })
             command.now e) }
     {
-        let mut tickets = Vec::new(self.alloc);
+        let mut tickets = Short::new(self.alloc);
         self.add_named(&mut tickets, command.before.as_slice())?;
         self.add_writers(&mut tickets, waiting, slots, command.kind.reads())?;
         self.add_writers(&mut tickets, waiting, slots, command.kind.writes())?;
@@ -142,8 +167,8 @@ impl Arrivals {
     }
 
     /// The commands of the group with these numbers.
-    fn add_named(&self, tickets: &mut Vec<u64>, numbers: &[u32]) -> Result<(), NoMemory>
-        ensures { OnOk result ((e : ℕ) → is_in e tickets.new.items ≡ (is_in e tickets.old.items
+    fn add_named(&self, tickets: &mut Short<u64, 8>, numbers: &[u32]) -> Result<(), NoMemory>
+        ensures { OnOk result ((e : ℕ) → is_in e tickets.new ≡ (is_in e tickets.old
             || list_any (λ number. is_in e (unwrap_or (get nat_eq self.now.numbers number) [])) numbers.now)) }
     {
         for number in numbers {
@@ -155,13 +180,13 @@ impl Arrivals {
     /// The waiting commands that write these slots, where none of the group has written them.
     fn add_writers(
         &self,
-        tickets: &mut Vec<u64>,
+        tickets: &mut Short<u64, 8>,
         waiting: &HashMap<u64, Waiting>,
-        slots: &HashMap<u16, SlotUse>,
+        slots: &Vec<Option<SlotUse>>,
         touched: &[Slot],
     ) -> Result<(), NoMemory>
-        ensures { OnOk result ((e : ℕ) → is_in e tickets.new.items ≡ (is_in e tickets.old.items || list_any (λ (slot : slot_type).
-            not (bag.contains nat_eq self.now.written slot.0) && (is_writer e (get nat_eq slots.now slot.0) && is_some (get nat_eq waiting.now e))) touched.now)) }
+        ensures { OnOk result ((e : ℕ) → is_in e tickets.new ≡ (is_in e tickets.old || list_any (λ (slot : slot_type).
+            not (bag.contains nat_eq self.now.written slot.0) && (is_writer e (used_in slots.now.items slot.0) && is_some (get nat_eq waiting.now e))) touched.now)) }
     {
         for slot in touched {
             if !self.written.contains(&slot.0) {
@@ -174,13 +199,13 @@ impl Arrivals {
     /// The waiting commands that read these slots, where none of the group has written them.
     fn add_readers(
         &self,
-        tickets: &mut Vec<u64>,
+        tickets: &mut Short<u64, 8>,
         waiting: &HashMap<u64, Waiting>,
-        slots: &HashMap<u16, SlotUse>,
+        slots: &Vec<Option<SlotUse>>,
         written: &[Slot],
     ) -> Result<(), NoMemory>
-        ensures { OnOk result ((e : ℕ) → is_in e tickets.new.items ≡ (is_in e tickets.old.items || list_any (λ (slot : slot_type).
-            not (bag.contains nat_eq self.now.written slot.0) && (is_reader e (get nat_eq slots.now slot.0) && is_some (get nat_eq waiting.now e))) written.now)) }
+        ensures { OnOk result ((e : ℕ) → is_in e tickets.new ≡ (is_in e tickets.old || list_any (λ (slot : slot_type).
+            not (bag.contains nat_eq self.now.written slot.0) && (is_reader e (used_in slots.now.items slot.0) && is_some (get nat_eq waiting.now e))) written.now)) }
     {
         for slot in written {
             if !self.written.contains(&slot.0) {
@@ -218,11 +243,11 @@ fn note_writes(written: &mut HashSet<u16>, slots: &[Slot]) -> Result<(), NoMemor
 }
 
 fn push_named(
-    tickets: &mut Vec<u64>,
+    tickets: &mut Short<u64, 8>,
     numbers: &HashMap<u32, LinkedList<u64>>,
     number: u32,
 ) -> Result<(), NoMemory>
-    ensures { OnOk result ((e : ℕ) → is_in e tickets.new.items ≡ (is_in e tickets.old.items || is_in e (unwrap_or (get nat_eq numbers.now number) []))) }
+    ensures { OnOk result ((e : ℕ) → is_in e tickets.new ≡ (is_in e tickets.old || is_in e (unwrap_or (get nat_eq numbers.now number) []))) }
 {
     if let Some(named) = numbers.get(&number) {
         push_all(tickets, named)?;
@@ -230,8 +255,8 @@ fn push_named(
     Ok(())
 }
 
-fn push_all(tickets: &mut Vec<u64>, more: &LinkedList<u64>) -> Result<(), NoMemory>
-    ensures { OnOk result (tickets.new.items ≡ tickets.old.items ++ more.now) }
+fn push_all(tickets: &mut Short<u64, 8>, more: &LinkedList<u64>) -> Result<(), NoMemory>
+    ensures { OnOk result (tickets.new ≡ tickets.old ++ more.now) }
 {
     for ticket in more.iter() {
         tickets.push(*ticket)?;
@@ -240,15 +265,15 @@ fn push_all(tickets: &mut Vec<u64>, more: &LinkedList<u64>) -> Result<(), NoMemo
 }
 
 fn push_writer(
-    tickets: &mut Vec<u64>,
+    tickets: &mut Short<u64, 8>,
     waiting: &HashMap<u64, Waiting>,
-    slots: &HashMap<u16, SlotUse>,
+    slots: &Vec<Option<SlotUse>>,
     slot: Slot,
 ) -> Result<(), NoMemory>
-    ensures { OnOk result ((e : ℕ) → is_in e tickets.new.items
-        ≡ (is_in e tickets.old.items || (is_writer e (get nat_eq slots.now slot.0) && is_some (get nat_eq waiting.now e)))) }
+    ensures { OnOk result ((e : ℕ) → is_in e tickets.new
+        ≡ (is_in e tickets.old || (is_writer e (used_in slots.now.items slot.0) && is_some (get nat_eq waiting.now e)))) }
 {
-    if let Some(used) = slots.get(&slot.0) {
+    if let Some(used) = use_of(slots.as_slice(), slot) {
         if let Some(writer) = used.writer {
             push_kept(tickets, waiting, writer)?;
         }
@@ -257,26 +282,26 @@ fn push_writer(
 }
 
 fn push_readers(
-    tickets: &mut Vec<u64>,
+    tickets: &mut Short<u64, 8>,
     waiting: &HashMap<u64, Waiting>,
-    slots: &HashMap<u16, SlotUse>,
+    slots: &Vec<Option<SlotUse>>,
     slot: Slot,
 ) -> Result<(), NoMemory>
-    ensures { OnOk result ((e : ℕ) → is_in e tickets.new.items
-        ≡ (is_in e tickets.old.items || (is_reader e (get nat_eq slots.now slot.0) && is_some (get nat_eq waiting.now e)))) }
+    ensures { OnOk result ((e : ℕ) → is_in e tickets.new
+        ≡ (is_in e tickets.old || (is_reader e (used_in slots.now.items slot.0) && is_some (get nat_eq waiting.now e)))) }
 {
-    if let Some(used) = slots.get(&slot.0) {
+    if let Some(used) = use_of(slots.as_slice(), slot) {
         push_each(tickets, waiting, &used.readers)?;
     }
     Ok(())
 }
 
 fn push_each(
-    tickets: &mut Vec<u64>,
+    tickets: &mut Short<u64, 8>,
     waiting: &HashMap<u64, Waiting>,
     readers: &LinkedList<u64>,
 ) -> Result<(), NoMemory>
-    ensures { OnOk result ((e : ℕ) → is_in e tickets.new.items ≡ (is_in e tickets.old.items || (is_in e readers.now && is_some (get nat_eq waiting.now e)))) }
+    ensures { OnOk result ((e : ℕ) → is_in e tickets.new ≡ (is_in e tickets.old || (is_in e readers.now && is_some (get nat_eq waiting.now e)))) }
 {
     for reader in readers.iter() {
         push_kept(tickets, waiting, *reader)?;
@@ -284,18 +309,27 @@ fn push_each(
     Ok(())
 }
 
-/// A ticket, where its command waits.
+/// A ticket, where its command waits. Where it is among a few that are there already, it isn't put there again.
 fn push_kept(
-    tickets: &mut Vec<u64>,
+    tickets: &mut Short<u64, 8>,
     waiting: &HashMap<u64, Waiting>,
     ticket: u64,
 ) -> Result<(), NoMemory>
-    ensures { OnOk result ((e : ℕ) → is_in e tickets.new.items ≡ (is_in e tickets.old.items || ((e == ticket) && is_some (get nat_eq waiting.now e)))) }
+    ensures { OnOk result ((e : ℕ) → is_in e tickets.new ≡ (is_in e tickets.old || ((e == ticket) && is_some (get nat_eq waiting.now e)))) }
 {
+    if tickets.len() <= FEW && is_known(tickets.as_slice(), ticket) {
+        return Ok(());
+    }
     if waiting.contains_key(&ticket) {
         tickets.push(ticket)?;
     }
     Ok(())
+}
+
+fn is_known(tickets: &[u64], ticket: u64) -> bool
+    ensures { result ≡ is_in ticket tickets.now }
+{
+    tickets.iter().any(|other| ticket == *other)
 }
 
 fn links(alloc: Global, tickets: &[u64], later: u64) -> Result<Vec<Link>, NoMemory>

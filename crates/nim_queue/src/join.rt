@@ -1,7 +1,8 @@
 ghost use Rattle.std.specs.Prelude.{◌≡◌, ◌+◌, ◌≤◌, ◌<◌, ◌^◌, ◌==◌, ◌∷◌, [], ℕ, List, if◌then◌else◌, length, map, nat_eq, Some};
-ghost use Rattle.std.specs.HashMap.{get, hash_map_len, spare};
+ghost use Rattle.std.specs.HashMap.{get, spare};
 ghost use Rattle.std.specs.Option.{option_map};
 ghost use Rattle.std.specs.VecDeque.{deque_capacity, deque_len};
+ghost use Rattle.nim_queue.specs.Used.{used_in};
 ghost use Rattle.nim_queue.specs.Counts.{IsRising, put_in};
 ghost use Rattle.nim_base.specs.declared.number.Slot.{Slot as slot_type};
 ghost use Rattle.nim_command.specs.Slots.{is_among};
@@ -9,7 +10,7 @@ ghost use Rattle.nim_queue.specs.Arrived.{link_to, reading_of};
 ghost use Rattle.nim_queue.specs.Joined.{AreBrief, AreShort, followed, gathered, gathered_reads, more_read, rewritten};
 
 use crate::arrivals::{Link, Reading};
-use crate::slot_use::SlotUse;
+use crate::slot_use::{SlotUse, read_more, rewrite};
 use crate::tickets::Tickets;
 use crate::waiting::Waiting;
 use nim_base::Slot;
@@ -38,42 +39,43 @@ fn follow_one(waiting: &mut HashMap<u64, Waiting>, link: Link)
 }
 
 /// A command writes these slots, each of which has a use.
-pub(crate) fn write(slots: &mut HashMap<u16, SlotUse>, written: &[Slot], ticket: u64)
-    ensures { (s : ℕ) → get nat_eq slots.new s
-        ≡ (if is_among written.now (record { 0 = s }) then option_map (rewritten ticket) (get nat_eq slots.old s) else get nat_eq slots.old s) }
+pub(crate) fn write(slots: &mut Vec<Option<SlotUse>>, written: &[Slot], ticket: u64)
+    ensures { (s : ℕ) → used_in slots.new.items s
+        ≡ (if is_among written.now (record { 0 = s }) then option_map (rewritten ticket) (used_in slots.old.items s) else used_in slots.old.items s) }
 {
     for slot in written {
         write_one(slots, *slot, ticket);
     }
 }
 
-fn write_one(slots: &mut HashMap<u16, SlotUse>, slot: Slot, ticket: u64)
-    ensures { (s : ℕ) → get nat_eq slots.new s
-        ≡ (if slot.0 == s then option_map (rewritten ticket) (get nat_eq slots.old s) else get nat_eq slots.old s) }
+fn write_one(slots: &mut Vec<Option<SlotUse>>, slot: Slot, ticket: u64)
+    ensures { (s : ℕ) → used_in slots.new.items s
+        ≡ (if slot.0 == s then option_map (rewritten ticket) (used_in slots.old.items s) else used_in slots.old.items s) }
 {
-    if let Some(used) = slots.get_mut(&slot.0) {
-        used.writer = Some(ticket);
-        used.readers.clear();
+    let at = usize::from(slot.0);
+    if at < slots.len() {
+        rewrite(&mut slots[at], ticket);
     }
 }
 
 /// It reads these slots, each of which has a use.
-pub(crate) fn read(slots: &mut HashMap<u16, SlotUse>, reads: Vec<Reading>)
-    ensures { (k n : ℕ) (d : List slot_type) → AreBrief (get nat_eq slots.old) k → reads.items ≡ map (reading_of n) d → k + length d < 2 ^ 63
-        → (s : ℕ) → get nat_eq slots.new s ≡ option_map (more_read (gathered_reads s reads.items)) (get nat_eq slots.old s) }
+pub(crate) fn read(slots: &mut Vec<Option<SlotUse>>, reads: Vec<Reading>)
+    ensures { (k n : ℕ) (d : List slot_type) → AreBrief (used_in slots.old.items) k → reads.items ≡ map (reading_of n) d → k + length d < 2 ^ 63
+        → (s : ℕ) → used_in slots.new.items s ≡ option_map (more_read (gathered_reads s reads.items)) (used_in slots.old.items s) }
 {
     for reading in reads {
         read_one(slots, reading);
     }
 }
 
-fn read_one(slots: &mut HashMap<u16, SlotUse>, reading: Reading)
-    ensures { (k : ℕ) → AreBrief (get nat_eq slots.old) k → k + length reading.reader < 2 ^ 63
-        → (s : ℕ) → get nat_eq slots.new s ≡ option_map (more_read (if reading.slot.0 == s then reading.reader else [])) (get nat_eq slots.old s) }
+fn read_one(slots: &mut Vec<Option<SlotUse>>, reading: Reading)
+    ensures { (k : ℕ) → AreBrief (used_in slots.old.items) k → k + length reading.reader < 2 ^ 63
+        → (s : ℕ) → used_in slots.new.items s ≡ option_map (more_read (if reading.slot.0 == s then reading.reader else [])) (used_in slots.old.items s) }
 {
-    let Reading { slot, mut reader } = reading;
-    if let Some(used) = slots.get_mut(&slot.0) {
-        let _ = used.readers.append(&mut reader);
+    let Reading { slot, reader } = reading;
+    let at = usize::from(slot.0);
+    if at < slots.len() {
+        read_more(&mut slots[at], reader);
     }
 }
 

@@ -1,5 +1,4 @@
 ghost use Rattle.std.specs.Prelude.{◌≡◌, ℕ, ◌+◌, ◌≤◌, ◌<◌, ◌^◌, ◌++◌, ◌∷◌, [], Bool, true, List, length, map, nat_eq, ◌==◌, if◌then◌else◌, Some, IfSome, OnOk, OnErr};
-ghost use Rattle.std.specs.Vec.{vec_capacity, vec_len};
 ghost use Rattle.std.specs.Option.{option_copied};
 ghost use Rattle.nim_command.specs.Waits.{Group as group_type, placed_commands};
 ghost use Rattle.std.specs.HashMap.{get, spare};
@@ -7,6 +6,7 @@ ghost use Rattle.std.specs.VecDeque.{deque_capacity, deque_len};
 ghost use Rattle.std.specs.Option.{option_map};
 ghost use Rattle.nim_base.specs.declared.number.Slot.{Slot as slot_type};
 ghost use Rattle.nim_command.specs.Slots.{is_among, writes_of};
+ghost use Rattle.nim_queue.specs.Used.{used_in};
 ghost use Rattle.nim_queue.specs.Arrived.{HaveArrived, link_to, reading_of};
 ghost use Rattle.nim_queue.specs.Counts.{IsRising, put_in};
 ghost use Rattle.nim_queue.specs.Joined.{AreBrief, AreShort, counted, followed, gathered, gathered_reads, kept_new, more_read, rewritten};
@@ -14,11 +14,11 @@ ghost use Rattle.nim_queue.specs.Midway.{HasRoom, IsMidway};
 ghost use Rattle.nim_order.specs.Progress.{IsReleasedAt};
 ghost use Rattle.nim_queue.specs.Stands.{Keeps, Stands, command_of, done_with, group_of, is_after, nothing_done, ready_of};
 
-use crate::arrivals::{Arrival, arrive_all};
+use crate::arrivals::{Arrival, Arrivals, arrive_all};
 use crate::complete::free;
 use crate::join::{enter, follow, offer, read, write};
 use crate::look::{command_at, group_at};
-use crate::room::{count_all, cover_all};
+use crate::room::{count_all, count_one, cover_all};
 use crate::slot_use::SlotUse;
 use crate::tickets::Tickets;
 use crate::waiting::Waiting;
@@ -26,6 +26,7 @@ use nim_base::NoMemory;
 use nim_command::Command;
 use std::alloc::Global;
 use std::collections::{HashMap, LinkedList};
+use std::slice;
 
 /// Commands that wait for others: those of their group that their before sets name, and those of earlier groups that
 /// they meet in a slot. The ticket of a command is its place in the order given. Which groups a queue stands for,
@@ -35,8 +36,8 @@ pub struct BeforeQueue {
     pub(crate) alloc: Global,
     /// The commands that aren't complete, by ticket.
     pub(crate) waiting: HashMap<u64, Waiting>,
-    /// Who uses a slot.
-    pub(crate) slots: HashMap<u16, SlotUse>,
+    /// Who uses a slot, by the slots' numbers.
+    pub(crate) slots: Vec<Option<SlotUse>>,
     /// Those that wait for nothing.
     pub(crate) released: Tickets,
     /// No list of followers or readers is longer.
@@ -54,7 +55,7 @@ impl BeforeQueue {
         BeforeQueue {
             alloc,
             waiting: HashMap::new(alloc),
-            slots: HashMap::new(alloc),
+            slots: Vec::new(alloc),
             released: Tickets::new(alloc),
             links: 0,
             given: 0,
@@ -72,6 +73,9 @@ impl BeforeQueue {
     {
         if group.len() as u64 > u64::MAX - self.given || self.groups == u64::MAX {
             return Err(NoMemory);
+        }
+        if group.len() == 1 {
+            return self.admit_first(group);
         }
         let arrived = arrive_all(self.alloc, &self.waiting, &self.slots, self.given, group)?;
         let links = count_all(self.links, arrived.as_slice())?;
@@ -116,10 +120,43 @@ impl BeforeQueue {
         free(&mut self.waiting, &mut self.released, ticket)
     }
 
+    /// Takes the only command of a group.
+    fn admit_first(&mut self, mut group: Vec<Command>) -> Result<(), NoMemory>
+        requires one { length group.items ≡ 1 }
+        requires tickets { self.old.given + 1 < 2 ^ 64 }
+        requires groups { self.old.groups + 1 < 2 ^ 64 }
+        ensures ok { (groups : List group_type) (done : ℕ → Bool) (next : group_type) → Stands self.old groups done → next.commands ≡ group.items
+            → OnOk result (Stands self.new (groups ++ next ∷ []) done) }
+        ensures err { (groups : List group_type) (done : ℕ → Bool) → Stands self.old groups done → OnErr result (Stands self.new groups done) }
+    {
+        match group.pop() {
+            Some(command) => self.admit_alone(command),
+            None => Ok(()),
+        }
+    }
+
+    /// Takes a command that is a group by itself. It meets no command of its group, so that nothing is noted of it.
+    fn admit_alone(&mut self, command: Command) -> Result<(), NoMemory>
+        requires tickets { self.old.given + 1 < 2 ^ 64 }
+        requires groups { self.old.groups + 1 < 2 ^ 64 }
+        ensures ok { (groups : List group_type) (done : ℕ → Bool) (next : group_type) → Stands self.old groups done → next.commands ≡ command ∷ []
+            → OnOk result (Stands self.new (groups ++ next ∷ []) done) }
+        ensures err { (groups : List group_type) (done : ℕ → Bool) → Stands self.old groups done → OnErr result (Stands self.new groups done) }
+    {
+        let nothing = Arrivals::new(self.alloc);
+        let arrival = nothing.arrival(&self.waiting, &self.slots, self.given, command)?;
+        let links = count_one(self.links, &arrival)?;
+        self.make_room(slice::from_ref(&arrival))?;
+        self.join(arrival);
+        self.groups += 1;
+        self.links = links;
+        Ok(())
+    }
+
     /// Room for what has arrived.
     fn make_room(&mut self, arrived: &[Arrival]) -> Result<(), NoMemory>
         ensures stands { (groups : List group_type) (done : ℕ → Bool) → Stands self.old groups done → Stands self.new groups done }
-        ensures room { OnOk result (HaveArrived (get nat_eq self.old.waiting) (get nat_eq self.old.slots) self.old.given [] arrived.now
+        ensures room { OnOk result (HaveArrived (get nat_eq self.old.waiting) (used_in self.old.slots.items) self.old.given [] arrived.now
             → self.old.links + counted arrived.now < 2 ^ 62 → HasRoom self.new arrived.now) }
         ensures given { self.new.given ≡ self.old.given }
         ensures groups { self.new.groups ≡ self.old.groups }
@@ -150,10 +187,10 @@ impl BeforeQueue {
             → k + length d < 2 ^ 63 → 0 < spare self.old.waiting → (t : ℕ) → get nat_eq self.new.waiting t
             ≡ (if self.old.given == t then Some (kept_new self.old.groups arrival.command (length d))
             else option_map (followed (gathered t (map (link_to self.old.given) d))) (get nat_eq self.old.waiting t)) }
-        ensures slots { (k : ℕ) (d : List slot_type) → AreBrief (get nat_eq self.old.slots) k → arrival.reads.items ≡ map (reading_of self.old.given) d
-            → k + length d < 2 ^ 63 → (s : ℕ) → get nat_eq self.new.slots s ≡ option_map (more_read (gathered_reads s arrival.reads.items))
-            (if is_among (writes_of arrival.command.kind) (record { 0 = s }) then option_map (rewritten self.old.given) (get nat_eq self.old.slots s)
-            else get nat_eq self.old.slots s) }
+        ensures slots { (k : ℕ) (d : List slot_type) → AreBrief (used_in self.old.slots.items) k → arrival.reads.items ≡ map (reading_of self.old.given) d
+            → k + length d < 2 ^ 63 → (s : ℕ) → used_in self.new.slots.items s ≡ option_map (more_read (gathered_reads s arrival.reads.items))
+            (if is_among (writes_of arrival.command.kind) (record { 0 = s }) then option_map (rewritten self.old.given) (used_in self.old.slots.items s)
+            else used_in self.old.slots.items s) }
         ensures released { IsRising self.old.released.items.items → deque_len self.old.released.items < deque_capacity self.old.released.items
             → self.new.released.items.items ≡ (if length arrival.waits.items == 0 then put_in self.old.given self.old.released.items.items
             else self.old.released.items.items) }

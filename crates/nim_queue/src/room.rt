@@ -1,12 +1,12 @@
 ghost use Rattle.std.specs.Prelude.{◌≡◌, ◌≢◌, ◌==◌, ◌+◌, ◌<◌, ◌^◌, ℕ, false, true, drop, if◌then◌else◌, is_some, length, nat_eq, IfOk, OnErr, OnOk};
-ghost use Rattle.std.specs.Option.{option_map};
 ghost use Rattle.std.specs.HashMap.{get};
 ghost use Rattle.std.specs.List.{list_all};
 ghost use Rattle.nim_base.specs.declared.number.Slot.{Slot as slot_type};
-ghost use Rattle.nim_queue.specs.Joined.{HaveSameUses, are_covered, counted, left_by, use_at, without_front};
+ghost use Rattle.nim_queue.specs.Used.{used_in};
+ghost use Rattle.nim_queue.specs.Joined.{HaveSameUses, are_covered, counted, use_at, without_front};
 
 use crate::arrivals::Arrival;
-use crate::slot_use::SlotUse;
+use crate::slot_use::{SlotUse, reach, settle};
 use crate::waiting::Waiting;
 use nim_base::{NoMemory, Slot};
 use std::alloc::Global;
@@ -19,11 +19,11 @@ const MOST: u64 = 1 << 62;
 pub(crate) fn cover_all(
     alloc: Global,
     waiting: &HashMap<u64, Waiting>,
-    slots: &mut HashMap<u16, SlotUse>,
+    slots: &mut Vec<Option<SlotUse>>,
     arrived: &[Arrival],
 ) -> Result<(), NoMemory>
-    ensures same { HaveSameUses (get nat_eq waiting.now) (get nat_eq slots.old) (get nat_eq slots.new) }
-    ensures covered { OnOk result (list_all (are_covered (get nat_eq slots.new)) arrived.now ≡ true) }
+    ensures same { HaveSameUses (get nat_eq waiting.now) (used_in slots.old.items) (used_in slots.new.items) }
+    ensures covered { OnOk result (list_all (are_covered (used_in slots.new.items)) arrived.now ≡ true) }
 {
     for arrival in arrived {
         cover_arrival(alloc, waiting, slots, arrival)?;
@@ -34,11 +34,11 @@ pub(crate) fn cover_all(
 fn cover_arrival(
     alloc: Global,
     waiting: &HashMap<u64, Waiting>,
-    slots: &mut HashMap<u16, SlotUse>,
+    slots: &mut Vec<Option<SlotUse>>,
     arrival: &Arrival,
 ) -> Result<(), NoMemory>
-    ensures same { HaveSameUses (get nat_eq waiting.now) (get nat_eq slots.old) (get nat_eq slots.new) }
-    ensures covered { OnOk result (are_covered (get nat_eq slots.new) arrival.now ≡ true) }
+    ensures same { HaveSameUses (get nat_eq waiting.now) (used_in slots.old.items) (used_in slots.new.items) }
+    ensures covered { OnOk result (are_covered (used_in slots.new.items) arrival.now ≡ true) }
 {
     cover(alloc, waiting, slots, arrival.command.kind.reads())?;
     cover(alloc, waiting, slots, arrival.command.kind.writes())?;
@@ -48,11 +48,11 @@ fn cover_arrival(
 fn cover(
     alloc: Global,
     waiting: &HashMap<u64, Waiting>,
-    slots: &mut HashMap<u16, SlotUse>,
+    slots: &mut Vec<Option<SlotUse>>,
     used: &[Slot],
 ) -> Result<(), NoMemory>
-    ensures same { HaveSameUses (get nat_eq waiting.now) (get nat_eq slots.old) (get nat_eq slots.new) }
-    ensures covered { OnOk result (list_all (λ (slot : slot_type). is_some (get nat_eq slots.new slot.0)) used.now ≡ true) }
+    ensures same { HaveSameUses (get nat_eq waiting.now) (used_in slots.old.items) (used_in slots.new.items) }
+    ensures covered { OnOk result (list_all (λ (slot : slot_type). is_some (used_in slots.new.items slot.0)) used.now ≡ true) }
 {
     for slot in used {
         cover_one(alloc, waiting, slots, *slot)?;
@@ -63,32 +63,20 @@ fn cover(
 fn cover_one(
     alloc: Global,
     waiting: &HashMap<u64, Waiting>,
-    slots: &mut HashMap<u16, SlotUse>,
+    slots: &mut Vec<Option<SlotUse>>,
     slot: Slot,
 ) -> Result<(), NoMemory>
-    ensures uses { OnOk result ((s : ℕ) → get nat_eq slots.new s
-        ≡ (if slot.0 == s then use_at (get nat_eq waiting.now) (get nat_eq slots.old s) else get nat_eq slots.old s)) }
-    ensures err { OnErr result ((s : ℕ) → get nat_eq slots.new s ≡ get nat_eq slots.old s) }
+    ensures uses { OnOk result ((s : ℕ) → used_in slots.new.items s
+        ≡ (if slot.0 == s then use_at (get nat_eq waiting.now) (used_in slots.old.items s) else used_in slots.old.items s)) }
+    ensures err { OnErr result ((s : ℕ) → used_in slots.new.items s ≡ used_in slots.old.items s) }
 {
-    if slots.contains_key(&slot.0) {
-        leave(waiting, slots, slot);
-        return Ok(());
-    }
-    slots.insert(slot.0, SlotUse::new(alloc))?;
+    reach(slots, slot)?;
+    settle(alloc, waiting, &mut slots[usize::from(slot.0)]);
     Ok(())
 }
 
 /// The readers of a slot in front that don't wait any more leave.
-fn leave(waiting: &HashMap<u64, Waiting>, slots: &mut HashMap<u16, SlotUse>, slot: Slot)
-    ensures { (s : ℕ) → get nat_eq slots.new s
-        ≡ (if slot.0 == s then option_map (left_by (get nat_eq waiting.now)) (get nat_eq slots.old s) else get nat_eq slots.old s) }
-{
-    if let Some(used) = slots.get_mut(&slot.0) {
-        drop_front(waiting, &mut used.readers);
-    }
-}
-
-fn drop_front(waiting: &HashMap<u64, Waiting>, readers: &mut LinkedList<u64>)
+pub(crate) fn drop_front(waiting: &HashMap<u64, Waiting>, readers: &mut LinkedList<u64>)
     ensures { readers.new ≡ without_front (get nat_eq waiting.now) readers.old }
 {
     while is_past(waiting, readers) {
@@ -122,7 +110,8 @@ pub(crate) fn count_all(links: u64, arrived: &[Arrival]) -> Result<u64, NoMemory
     Ok(count)
 }
 
-fn count_one(links: u64, arrival: &Arrival) -> Result<u64, NoMemory>
+/// The same with one more.
+pub(crate) fn count_one(links: u64, arrival: &Arrival) -> Result<u64, NoMemory>
     ensures count { IfOk result (λ count. count ≡ links + (length arrival.now.waits.items + length arrival.now.reads.items)) }
     ensures few { IfOk result (λ count. count < 2 ^ 62) }
 {

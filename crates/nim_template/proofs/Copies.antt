@@ -35,9 +35,8 @@ use Rattle.nim_place.proofs.Places.{both_true}
 use Rattle.nim_place.proofs.Puts.{IsPut, kept_for, put_all}
 use Rattle.nim_place.proofs.Singles.{singles_ask}
 use Rattle.nim_place.proofs.TaskPairs.{itself}
-use Rattle.nim_template.specs.Given.{is_key_in}
 use Rattle.nim_template.proofs.Closes.{current_of, kept_latest}
-use Rattle.nim_template.proofs.Turns.{AreGiven, IsBetween, step_given}
+use Rattle.nim_template.proofs.Turns.{AreGiven, between_is, is_key_between, is_key_by, step_given}
 use Rattle.nim_template.proofs.Walks.{only_object, same_latest}
 
 -- the Send and the Receive of a copy, both of this number
@@ -62,7 +61,7 @@ pub record IsCopy (versions : Versions) (from to : Worker) (object : Object) (ve
 -- ---- whose commands they are
 
 -- of two workers' commands those of one
-two_for : (worker : Worker) (first second : Worker × Command) (a b : Bool) → (first.0.0 == worker.0) ≡ a → (second.0.0 == worker.0) ≡ b
+pub two_for : (worker : Worker) (first second : Worker × Command) (a b : Bool) → (first.0.0 == worker.0) ≡ a → (second.0.0 == worker.0) ≡ b
     → commands_for worker (first ∷ second ∷ []) ≡ (if a then first.1 ∷ (if b then second.1 ∷ [] else []) else (if b then second.1 ∷ [] else []))
 two_for worker first second a b one other =
     let rest : Bool → List (Worker × Command) = λ d. if d then second ∷ [] else [] in
@@ -126,7 +125,7 @@ copy_receives to group number object version false false = refl
 
 -- whether a key is of a number
 abbrev pub is_numbered : ℕ → ℕ → ℕ → Key → Bool
-is_numbered epoch instance number key = is_key_in epoch instance key && (key.entry == number)
+is_numbered epoch instance number key = is_key_by epoch instance key && (key.entry == number)
 
 picked : (P : Key → Type 0) (b : Bool) (key : Key) → P key → AllByRecursion P (if b then key ∷ [] else [])
 picked P true key holds = (holds, tt)
@@ -240,12 +239,13 @@ held_lives live epoch lists given versions worker object version so_far below th
       ∙ ap (λ (o : Option ℕ). option_map (λ (v : ℕ). (object_of (main_slot object), v)) o) held in
       absurd (false≢true (ap (λ (o : Content). is_some o) none))
 
-numbered_between : (epoch instance number : ℕ) → IsBetween epoch instance number (number + 1) (is_numbered epoch instance number)
-numbered_between epoch instance number = record {
-  of = λ key is. (both_true (is_key_in epoch instance key) (key.entry == number) is).0;
-  least = λ key is. (let same = eqb-true key.entry number (both_true (is_key_in epoch instance key) (key.entry == number) is).1 in omega (arith, same));
-  most = λ key is. (let same = eqb-true key.entry number (both_true (is_key_in epoch instance key) (key.entry == number) is).1 in omega (arith, same));
-}
+-- the keys of a number are between it and the next one
+numbered_between : (epoch instance number : ℕ) (key : Key) → is_numbered epoch instance number key ≡ true
+    → is_key_between epoch instance number (number + 1) key ≡ true
+numbered_between epoch instance number key is =
+    let each = both_true (is_key_by epoch instance key) (key.entry == number) is in
+    let same = eqb-true key.entry number each.1 in
+    between_is epoch instance number (number + 1) key each.0 (omega (arith, same)) (omega (arith, same))
 
 pub copy_given : (live : List Bool) (epoch instance number : ℕ) (lists : ℕ → List ToWorker) (given : List (Worker × Command)) (versions : Versions)
     (from to : Worker) (object : Object) (version : ℕ) → AreSoFar live epoch lists given versions → IsCopy versions from to object version

@@ -179,7 +179,7 @@ expanded_same base args versions taken past (entry ∷ entries) none =
 
 -- ---- the commands of all halves
 
-for_here : (worker : Worker) (number : ℕ) (cs : List Command) → number ≡ worker.0
+pub for_here : (worker : Worker) (number : ℕ) (cs : List Command) → number ≡ worker.0
     → commands_for worker (map (λ (c : Command). (let here : Worker = record { 0 = number } in (here, c))) cs) ≡ cs
 for_here worker number [] same = refl
 for_here worker number (c ∷ cs) same =
@@ -190,7 +190,7 @@ for_here worker number (c ∷ cs) same =
     (eq-eqb number worker.0 same)
     ∙ ap (λ (rest : List Command). c ∷ rest) (for_here worker number cs same)
 
-for_there : (worker : Worker) (number : ℕ) (cs : List Command) → (number ≡ worker.0 → ⊥)
+pub for_there : (worker : Worker) (number : ℕ) (cs : List Command) → (number ≡ worker.0 → ⊥)
     → commands_for worker (map (λ (c : Command). (let here : Worker = record { 0 = number } in (here, c))) cs) ≡ []
 for_there worker number [] apart = refl
 for_there worker number (c ∷ cs) apart =

@@ -2,9 +2,9 @@
 use Rattle.std.proofs.Common.{◌≡◌, ℕ, zero, suc, ◌+◌, ◌<◌, ◌≤◌, Bool, true, List, [], ◌∷◌, ◌++◌, drop, length, map, refl, ap, ap₂, sym, subst, ◌∙◌}
 use Rattle.std.proofs.Common.{arith}
 use Rattle.std.proofs.Common.{Some, inl, inr}
-use Rattle.std.specs.Prelude.{◌*◌, ◌⊎◌, nat_le, slice_get, slice_index_or, take, ℤ}
+use Rattle.std.specs.Prelude.{◌*◌, ◌⊎◌, not, slice_get, slice_index_or, take, ℤ}
 use Rattle.std.specs.List.{list_all, list_any}
-use Rattle.std.proofs.lemmas.Bool.{cases_lt}
+use Rattle.std.proofs.lemmas.Bool.{and_from, cases_lt, false_from_ne_true, leb-true}
 use Rattle.std.proofs.lemmas.List.{get_or_past}
 use Rattle.std.proofs.lemmas.List.FromFn.{get_or-map-range_with_len, length-map-range_with_len}
 use Rattle.std.proofs.Math.Nat.{mul-le-mul_left}
@@ -17,6 +17,7 @@ use Rattle.nim_base.specs.declared.task.TaskForm.{TaskForm}
 use Rattle.nim_command.specs.declared.command.Command.{Command}
 use Rattle.nim_command.specs.declared.template.WorkerTemplate.{WorkerTemplate}
 use Rattle.nim_command.specs.Expansion.{param_with}
+use Rattle.nim_command.specs.Ranks.{is_patch_number}
 use Rattle.nim_command.specs.Waits.{commands_of}
 use Rattle.nim_message.specs.declared.order.ToWorker.{ToWorker}
 use Rattle.nim_order.specs.Orders.{AreEntriesByRule}
@@ -34,7 +35,6 @@ use Rattle.nim_place.specs.Versions.{Versions, after_commands, is_current, lates
 use Rattle.nim_place.proofs.Held.{for_append}
 use Rattle.nim_place.proofs.Keys.{new_received, new_sent, received_in, sent_in}
 use Rattle.nim_place.proofs.LiveOnce.{live_within}
-use Rattle.nim_place.proofs.Places.{both_true}
 use Rattle.nim_template.specs.declared.closing.Closing.{Closing}
 use Rattle.nim_template.specs.declared.template.ControllerTemplate.{ControllerTemplate}
 use Rattle.nim_template.specs.declared.walk.Walk.{Walk}
@@ -50,8 +50,8 @@ use Rattle.nim_template.proofs.Chosen.{command_at}
 use Rattle.nim_template.proofs.Entries.{one_from, own_commands}
 use Rattle.nim_template.proofs.InTurn.{AreLegalAt, AreTasksFrom, closings_given, closings_legal, legal_then, tasks_given, tasks_legal}
 use Rattle.nim_template.proofs.Left.{IsDoneBy, closing_of, done_by, entries_of}
-use Rattle.nim_template.proofs.Numbers.{filter_few, slots_long}
-use Rattle.nim_template.proofs.Turns.{AreGiven, given_then, have_fewer, is_key_from}
+use Rattle.nim_template.proofs.Numbers.{closings_few, filter_few, slots_long}
+use Rattle.nim_template.proofs.Turns.{AreGiven, between_parts, given_then, have_fewer, is_key_between, is_key_by}
 use Rattle.nim_template.proofs.OneWorker.{IsInFor, IsOutFor, entries_ruled, in_for, install_legal, install_ruled, instance_legal, instance_ruled}
 use Rattle.nim_template.proofs.OneWorker.{out_for}
 use Rattle.nim_template.proofs.SameKeys.{SendSame, same_none, same_paired}
@@ -148,7 +148,7 @@ built_installs place objects live template epoch lists given ask =
         received = λ worker there. sym (ap received_in (out worker there).groups);
       }
 
-map_none : {X Y : Type 0} (f : X → Y) (xs : List X) → map f xs ≡ [] → xs ≡ []
+pub map_none : {X Y : Type 0} (f : X → Y) (xs : List X) → map f xs ≡ [] → xs ≡ []
 map_none f [] is = refl
 map_none f (x ∷ xs) is = absurd cc
 
@@ -182,10 +182,9 @@ built_instances place objects live template some workers_few objects_few few fit
       paired = record {
         paired = λ pairs none.
             same_paired live all.next (longer lists more) same
-            (all.paired pairs
-            (have_fewer (is_key_in epoch instance) (is_key_from epoch instance 0) live lists
-            (λ key passes. (both_true (is_key_in epoch instance key) (nat_le 0 key.entry) passes).0) none));
-        others = λ other apart none. same_none live all.next (longer lists more) other same (all.others other apart none);
+            (all.paired pairs (have_fewer (is_key_in epoch instance) (is_key_between epoch instance (64 * 0) last_number) live lists of_halves none));
+        others = λ other apart none.
+            same_none live all.next (longer lists more) other same (all.others other (λ key is. apart key (of_halves key is)) none);
       };
       legal = λ job at tasks worker there before.
           instance_legal job epoch instance made.block base args (latest_of versions) (half_of made worker.0) (lists worker.0)
@@ -244,12 +243,25 @@ built_instances place objects live template some workers_few objects_few few fit
       copies : List Closing
       copies = closings walk.offsets needs
 
+      -- the numbers of a template's entries are below those of a patch's copies
+      last_number : ℕ
+      last_number = 65536 + 0 + length copies
+
+      of_halves : (key : Key) → is_key_between epoch instance (64 * 0) last_number key ≡ true → is_key_in epoch instance key ≡ true
+      of_halves key is =
+          let parts = between_parts epoch instance (64 * 0) last_number key is in
+          let most : key.entry < 65536 + 0 + length copies = parts.most in
+          let closed_few : length copies ≤ length needs = closings_few walk.offsets needs in
+          and_from (is_key_by epoch instance key) (not (is_patch_number key.entry)) parts.of
+          (ap not (false_from_ne_true (is_patch_number key.entry)
+          (λ patch. (let past = leb-true 131072 key.entry patch in omega (arith, past, most, closed_few, needs_few)))))
+
       tasks : AreGiven live epoch instance (64 * 0) (64 * (0 + length forms)) lists given real mid
       tasks =
           tasks_given place live epoch instance base args 0 versions forms lists given may.so_far may.before.rows some
           (subst (λ (n : ℕ). list_all (is_fit n) forms ≡ true) (sym may.before.columns) fit) (omega (arith, few))
 
-      all : AreGiven live epoch instance (64 * 0) (65536 + 0 + length copies) lists given (real ++ last) after
+      all : AreGiven live epoch instance (64 * 0) last_number lists given (real ++ last) after
       all =
           given_then live epoch instance (64 * 0) (64 * (0 + length forms)) (65536 + 0) (65536 + 0 + length copies) lists given real last mid after
           (omega arith) (omega (arith, few)) (omega arith) tasks

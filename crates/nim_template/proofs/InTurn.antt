@@ -19,6 +19,7 @@ use Rattle.nim_job.specs.Objects.{objects_of}
 use Rattle.nim_job.specs.Serial.{tasks_of}
 use Rattle.nim_job.specs.Whole.{is_whole}
 use Rattle.nim_plan.specs.Legal.{AreLegal}
+use Rattle.nim_plan.specs.Paired.{Key}
 use Rattle.nim_place.specs.declared.placement.Placement.{Placement}
 use Rattle.nim_place.specs.Extends.{is_live}
 use Rattle.nim_place.specs.Placement.{home, live_ahead, live_from, preferred}
@@ -37,7 +38,6 @@ use Rattle.nim_place.proofs.Singles.{schedule_asks}
 use Rattle.nim_place.proofs.TaskPairs.{schedule_paired}
 use Rattle.nim_template.specs.Closing.{closed_for, closing_entries, closing_from, closing_number, closings, copy_from}
 use Rattle.nim_template.specs.Fits.{is_fit}
-use Rattle.nim_template.specs.Given.{is_key_in}
 use Rattle.nim_template.specs.Tasks.{scheduled_from, task_with}
 use Rattle.nim_template.specs.Walk.{home_of, offset_for}
 use Rattle.nim_template.proofs.Again.{home_within}
@@ -49,7 +49,7 @@ use Rattle.nim_template.proofs.Entries.{from_facts}
 use Rattle.nim_template.proofs.Fits.{few_reads, first_written}
 use Rattle.nim_template.proofs.Numbers.{from_apart}
 use Rattle.nim_template.proofs.Sizes.{AreLike, like_commands}
-use Rattle.nim_template.proofs.Turns.{AreGiven, IsBetween, given_then, nothing_given, step_given}
+use Rattle.nim_template.proofs.Turns.{AreGiven, between_is, given_then, is_key_between, is_key_by, nothing_given, step_given}
 use Rattle.nim_template.proofs.Written.{closing_more}
 
 -- ---- a home is live
@@ -88,16 +88,13 @@ home_lives place live objects form some fit = either (slice_get form.writes 0) (
 
 -- ---- tasks
 
-task_between : (epoch instance number : ℕ) → IsBetween epoch instance (64 * number) (64 * (number + 1)) (is_key_of epoch instance number)
-task_between epoch instance number = record {
-  of = λ key is. (both_true (is_key_in epoch instance key) (task_of key.entry == number) is).0;
-  least = λ key is.
-      (let same : key.entry / 64 ≡ number = eqb-true (task_of key.entry) number (both_true (is_key_in epoch instance key) (task_of key.entry == number) is).1 in
-      omega (arith, same));
-  most = λ key is.
-      (let same : key.entry / 64 ≡ number = eqb-true (task_of key.entry) number (both_true (is_key_in epoch instance key) (task_of key.entry == number) is).1 in
-      omega (arith, same));
-}
+-- a task's keys are of entries between two numbers
+task_between : (epoch instance number : ℕ) (key : Key) → is_key_of epoch instance number key ≡ true
+    → is_key_between epoch instance (64 * number) (64 * (number + 1)) key ≡ true
+task_between epoch instance number key is =
+    let each = both_true (is_key_by epoch instance key) (task_of key.entry == number) is in
+    let same : key.entry / 64 ≡ number = eqb-true (task_of key.entry) number each.1 in
+    between_is epoch instance (64 * number) (64 * (number + 1)) key each.0 (omega (arith, same)) (omega (arith, same))
 
 pub tasks_given : (place : Placement) (live : List Bool) (epoch instance base : ℕ) (args : List ℤ) (number : ℕ) (versions : Versions) (forms : List TaskForm)
     (lists : ℕ → List ToWorker) (given : List (Worker × Command)) → AreSoFar live epoch lists given versions → versions.workers ≡ length live

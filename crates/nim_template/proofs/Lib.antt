@@ -19,6 +19,7 @@ pub mod InTurn
 pub mod Instances
 pub mod IsSound
 pub mod Left
+pub mod MainSlots
 pub mod Numbers
 pub mod Offsets
 pub mod OneWorker

@@ -38,7 +38,7 @@ pub record IsOutFor (orders more : List ToWorker) (current block : ℕ) (half : 
   pub installed : IsInstalled ((session_of (orders ++ more)).halves block) half
 
 -- an order of the session's epoch counts
-counts : (epoch : ℕ) (orders : List ToWorker) (order : ToWorker) → (session_of orders).begun ≡ true → (session_of orders).epoch ≡ epoch
+pub counts : (epoch : ℕ) (orders : List ToWorker) (order : ToWorker) → (session_of orders).begun ≡ true → (session_of orders).epoch ≡ epoch
     → does_count (session_of orders) order ≡ ((session_of orders).begun && (epoch == (session_of orders).epoch))
     → session_of (orders ++ order ∷ []) ≡ counted (session_of orders) order
 counts epoch orders order begun same is =

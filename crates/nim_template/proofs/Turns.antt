@@ -1,7 +1,7 @@
 -- Commands that are given one step after another, each step as Singles: what all orders so far come to.
 use Rattle.std.proofs.Common.{◌≡◌, ℕ, ◌<◌, ◌≤◌, Bool, true, false, List, [], ◌++◌, refl, ap, ap₂, sym, subst, ◌∙◌, arith}
-use Rattle.std.specs.Prelude.{◌&&◌, nat_le}
-use Rattle.std.proofs.lemmas.Bool.{false≢true, le-leb, leb-true}
+use Rattle.std.specs.Prelude.{◌&&◌, ◌==◌, nat_le, nat_lt}
+use Rattle.std.proofs.lemmas.Bool.{false≢true, le-leb, leb-true, lt-ltb, ltb-true}
 use Rattle.std.proofs.lemmas.List.{append_assoc, append-nil}
 use Rattle.std.proofs.lemmas.List.Elements.{All-weaker}
 use Rattle.nim_base.specs.declared.number.Worker.{Worker}
@@ -17,18 +17,58 @@ use Rattle.nim_place.specs.Versions.{Versions}
 use Rattle.nim_place.proofs.Held.{for_append}
 use Rattle.nim_place.proofs.Keys.{keys_received_more, keys_sent_more, new_received, new_sent}
 use Rattle.nim_place.proofs.Places.{both_true}
-use Rattle.nim_template.specs.Given.{is_key_in}
 use Rattle.nim_template.proofs.Bare.{group_of, new_received_append, new_received_by, new_sent_append, new_sent_by}
 
 -- ---- keys from a number on
 
--- whether a key is of an instance, of an entry of this number or a greater one
-abbrev pub is_key_from : ℕ → ℕ → ℕ → Key → Bool
-is_key_from epoch instance low key = is_key_in epoch instance key && nat_le low key.entry
+-- whether a key is of an instance, or of the patch before it
+abbrev pub is_key_by : ℕ → ℕ → Key → Bool
+is_key_by epoch instance key = (key.epoch == epoch) && (key.instance == instance)
 
+-- whether a key is of an instance, of an entry from one number on and below another one
+abbrev pub is_key_between : ℕ → ℕ → ℕ → ℕ → Key → Bool
+is_key_between epoch instance low high key = is_key_by epoch instance key && nat_le low key.entry && nat_lt key.entry high
+
+-- by its parts
+pub between_is : (epoch instance low high : ℕ) (key : Key) → is_key_by epoch instance key ≡ true → low ≤ key.entry → key.entry < high
+    → is_key_between epoch instance low high key ≡ true
+between_is epoch instance low high key of least most =
+    ap₂ (λ (a b : Bool). a && b) (ap₂ (λ (a b : Bool). a && b) of (le-leb low key.entry least)) (lt-ltb key.entry high most)
+
+-- what such a key is
+pub record IsBetween (epoch instance low high : ℕ) (key : Key) : Type 0 where
+  pub of : is_key_by epoch instance key ≡ true
+  pub least : low ≤ key.entry
+  pub most : key.entry < high
+
+-- its parts
+pub between_parts : (epoch instance low high : ℕ) (key : Key) → is_key_between epoch instance low high key ≡ true → IsBetween epoch instance low high key
+between_parts epoch instance low high key is =
+    let both = both_true (is_key_by epoch instance key && nat_le low key.entry) (nat_lt key.entry high) is in
+    let first = both_true (is_key_by epoch instance key) (nat_le low key.entry) both.0 in
+    record { of = first.0; least = leb-true low key.entry first.1; most = ltb-true key.entry high both.1 }
+
+-- a key between two numbers is between numbers that are further apart
+pub between_wider : (epoch instance low high lower higher : ℕ) (key : Key) → lower ≤ low → high ≤ higher
+    → is_key_between epoch instance low high key ≡ true → is_key_between epoch instance lower higher key ≡ true
+between_wider epoch instance low high lower higher key under over is =
+    let parts = between_parts epoch instance low high key is in
+    let least = parts.least in
+    let most = parts.most in
+    between_is epoch instance lower higher key parts.of (omega (arith, under, least)) (omega (arith, over, most))
+
+-- what isn't true is false
 not_true : (b : Bool) → (b ≡ true → ⊥) → b ≡ false
 not_true true not = absurd (not refl)
 not_true false not = refl
+
+-- and not between numbers behind them
+between_apart : (epoch instance low high next end : ℕ) (key : Key) → high ≤ next → is_key_between epoch instance low high key ≡ true
+    → is_key_between epoch instance next end key ≡ false
+between_apart epoch instance low high next end key behind is =
+    not_true (is_key_between epoch instance next end key)
+    (λ also. (let most = (between_parts epoch instance low high key is).most in
+    let least = (between_parts epoch instance next end key also).least in omega (arith, behind, most, least)))
 
 -- fewer keys pass a stronger test
 pub have_fewer : (test other : Key → Bool) (live : List Bool) (lists : ℕ → List ToWorker) → ((key : Key) → other key ≡ true → test key ≡ true)
@@ -44,12 +84,6 @@ have_fewer test other live lists stronger none =
           (none.received worker there);
     }
 
--- a test that only keys of an instance pass, of entries from one number to another
-pub record IsBetween (epoch instance low high : ℕ) (test : Key → Bool) : Type 0 where
-  pub of : (key : Key) → test key ≡ true → is_key_in epoch instance key ≡ true
-  pub least : (key : Key) → test key ≡ true → low ≤ key.entry
-  pub most : (key : Key) → test key ≡ true → key.entry < high
-
 -- ---- orders that give commands
 
 -- Orders behind others ask for these commands too. Which orders they are is left open; their new keys are of entries from
@@ -63,9 +97,8 @@ pub record AreGiven (live : List Bool) (epoch instance low high : ℕ) (lists : 
       ≡ keys_sent to (lists worker.0) ++ new_sent to (group_of epoch instance) (commands_for worker given) (commands_for worker commands)
   pub received : (worker : Worker) → is_live live worker ≡ true
       → keys_received (next worker.0) ≡ keys_received (lists worker.0) ++ new_received (group_of epoch instance) (commands_for worker commands)
-  pub paired : ArePaired (live_lists live lists) → HaveNone (is_key_from epoch instance low) live lists → ArePaired (live_lists live next)
-  pub behind : (from : ℕ) → high ≤ from → HaveNone (is_key_from epoch instance from) live lists → HaveNone (is_key_from epoch instance from) live next
-  pub others : (other : Key → Bool) → ((key : Key) → is_key_in epoch instance key ≡ true → other key ≡ false) → HaveNone other live lists
+  pub paired : ArePaired (live_lists live lists) → HaveNone (is_key_between epoch instance low high) live lists → ArePaired (live_lists live next)
+  pub others : (other : Key → Bool) → ((key : Key) → is_key_between epoch instance low high key ≡ true → other key ≡ false) → HaveNone other live lists
       → HaveNone other live next
 
 -- no commands
@@ -77,19 +110,13 @@ nothing_given live epoch instance low lists given versions so_far = record {
   sent = λ worker to there. sym (append-nil (keys_sent to (lists worker.0)));
   received = λ worker there. sym (append-nil (keys_received (lists worker.0)));
   paired = λ pairs none. pairs;
-  behind = λ from above none. none;
   others = λ other apart none. none;
 }
 
-from_more : (epoch instance low mid : ℕ) (key : Key) → low ≤ mid → is_key_from epoch instance mid key ≡ true → is_key_from epoch instance low key ≡ true
-from_more epoch instance low mid key below is =
-    let each = both_true (is_key_in epoch instance key) (nat_le mid key.entry) is in
-    let above = leb-true mid key.entry each.1 in
-    ap₂ (λ (a b : Bool). a && b) each.0 (le-leb low key.entry (omega (arith, below, above)))
-
 -- one step, given by Singles
 pub step_given : (live : List Bool) (epoch instance low high : ℕ) (lists : ℕ → List ToWorker) (given commands : List (Worker × Command))
-    (versions after : Versions) (test : Key → Bool) → AreSoFar live epoch lists given versions → IsBetween epoch instance low high test
+    (versions after : Versions) (test : Key → Bool) → AreSoFar live epoch lists given versions
+    → ((key : Key) → test key ≡ true → is_key_between epoch instance low high key ≡ true)
     → AreSoFar live epoch (longer lists (singles_of epoch instance commands)) (given ++ commands) after
     → LongerIsPaired test live lists (singles_of epoch instance commands) → AreGiven live epoch instance low high lists given commands after
 step_given live epoch instance low high lists given commands versions after test so_far between on pairs = record {
@@ -105,17 +132,8 @@ step_given live epoch instance low high lists given commands versions after test
       keys_received_more epoch instance (lists worker.0) (commands_for worker commands) (so_far.ask.begun worker there) (so_far.ask.epoch worker there)
       ∙ ap (λ (keys : List Key). keys_received (lists worker.0) ++ keys)
       (new_received_by (single_group epoch instance (commands_for worker commands)) (commands_for worker commands));
-  paired = λ all none.
-      pairs.paired all
-      (have_fewer (is_key_from epoch instance low) test live lists
-      (λ key passes. (let least = between.least key passes in
-      ap₂ (λ (a b : Bool). a && b) (between.of key passes) (le-leb low key.entry (omega (arith, least))))) none);
-  behind = λ from above none.
-      pairs.others (is_key_from epoch instance from)
-      (λ key passes. not_true (is_key_from epoch instance from key)
-      (λ is. (let past = leb-true from key.entry (both_true (is_key_in epoch instance key) (nat_le from key.entry) is).1 in
-      let most = between.most key passes in omega (arith, above, past, most)))) none;
-  others = λ other apart none. pairs.others other (λ key passes. apart key (between.of key passes)) none;
+  paired = λ all none. pairs.paired all (have_fewer (is_key_between epoch instance low high) test live lists between none);
+  others = λ other apart none. pairs.others other (λ key passes. apart key (between key passes)) none;
 }
 
 -- one after the other
@@ -146,9 +164,14 @@ given_then live epoch instance low mid past high lists given first second betwee
       ∙ append_assoc olds (new_received group xs) (new_received group ys)
       ∙ ap (λ (keys : List Key). olds ++ keys) (sym (new_received_append group xs ys) ∙ ap (new_received group) (sym (for_append worker first second)));
   paired = λ all none.
-      two.paired (one.paired all none)
-      (one.behind past within (have_fewer (is_key_from epoch instance low) (is_key_from epoch instance past) live lists
-      (λ key is. from_more epoch instance low past key lower is) none));
-  behind = λ from above none. two.behind from above (one.behind from (omega (arith, within, upper, above)) none);
-  others = λ other apart none. two.others other apart (one.others other apart none);
+      two.paired
+      (one.paired all
+      (have_fewer (is_key_between epoch instance low high) (is_key_between epoch instance low mid) live lists
+      (λ key is. between_wider epoch instance low mid low high key (omega arith) (omega (arith, within, upper)) is) none))
+      (one.others (is_key_between epoch instance past high) (λ key is. between_apart epoch instance low mid past high key within is)
+      (have_fewer (is_key_between epoch instance low high) (is_key_between epoch instance past high) live lists
+      (λ key is. between_wider epoch instance past high low high key lower (omega arith) is) none));
+  others = λ other apart none.
+      two.others other (λ key is. apart key (between_wider epoch instance past high low high key lower (omega arith) is))
+      (one.others other (λ key is. apart key (between_wider epoch instance low mid low high key (omega arith) (omega (arith, within, upper)) is)) none);
 }

@@ -1,5 +1,5 @@
 -- The orders that install a template's halves and those of an instance of it: what they keep true of all orders so far.
-use Rattle.std.specs.Prelude.{◌≡◌, ℕ, ◌+◌, ◌^◌, ◌<◌, ◌==◌, Bool, true, false}
+use Rattle.std.specs.Prelude.{◌≡◌, ℕ, ◌+◌, ◌^◌, ◌<◌, ◌==◌, Bool, true, false, not}
 use Rattle.std.specs.Prelude.{◌&&◌, ℤ, List, [], ◌∷◌, ◌++◌, length, map, take, drop}
 use Rattle.std.specs.List.{flat_map}
 use Rattle.nim_base.specs.declared.number.Object.{Object}
@@ -7,6 +7,7 @@ use Rattle.nim_base.specs.declared.number.Worker.{Worker}
 use Rattle.nim_command.specs.declared.command.Command.{Command}
 use Rattle.nim_command.specs.declared.entry.Entry.{Entry}
 use Rattle.nim_command.specs.declared.template.WorkerTemplate.{WorkerTemplate}
+use Rattle.nim_command.specs.Ranks.{is_patch_number}
 use Rattle.nim_message.specs.declared.order.ToWorker.{ToWorker}
 use Rattle.nim_message.specs.declared.order.ToWorker.TheVariants.{InstallTemplate, Instantiate}
 use Rattle.nim_message.specs.Orders.{session_of}
@@ -92,9 +93,9 @@ pub record AreTasksAt (job : Job) (base : ℕ) (args : List ℤ) (template : Wor
   pub whole : is_whole job ≡ true
   pub tasks : take (length template.forms) (drop base (tasks_of job)) ≡ map (task_of args) template.forms
 
--- whether a key is of an instance
+-- whether a key is of an instance of a template; the copies of the patch before it are numbered from 131072 on
 abbrev pub is_key_in : ℕ → ℕ → Key → Bool
-is_key_in epoch instance key = (key.epoch == epoch) && (key.instance == instance)
+is_key_in epoch instance key = (key.epoch == epoch) && (key.instance == instance) && not (is_patch_number key.entry)
 
 -- An instance was asked for behind orders so far.
 pub record IsInstantiated (live : List Bool) (objects : ℕ) (template : WorkerTemplate) (epoch instance base : ℕ)
@@ -108,7 +109,7 @@ pub record IsInstantiated (live : List Bool) (objects : ℕ) (template : WorkerT
   -- its halves are installed still
   pub installed : AreInstalled live template (longer lists (instances_of epoch instance template base args versions))
   pub covered : LongerIsCovered lists (instances_of epoch instance template base args versions)
-  -- each new key is one of this instance
+  -- each new key is one of this instance, and of no patch
   pub paired :
       LongerIsPaired (is_key_in epoch instance) live lists (instances_of epoch instance template base args versions)
   -- where the map is at the base of a job, and the job's tasks from there on are the block's, legal lists stay legal,

@@ -5,6 +5,7 @@ pub mod Closing
 pub mod Fits
 pub mod Given
 pub mod Instance
+pub mod MainSlots
 pub mod MayBuild
 pub mod StaysBefore
 pub mod Tasks

@@ -7,6 +7,7 @@ ghost use Rattle.nim_template.specs.Built as spec;
 ghost use Rattle.nim_template.specs.Fits.{is_fit};
 ghost use Rattle.nim_template.specs.Given.{InstallsExtend, InstancesExtend};
 ghost use Rattle.nim_template.specs.Instance.{LeavesEffect};
+ghost use Rattle.nim_template.specs.MainSlots.{AreMainSlots};
 ghost use Rattle.nim_template.specs.MayBuild.{MayBuild};
 ghost use Rattle.nim_template.specs.Tasks.{DoTasks};
 ghost use Rattle.nim_template.specs.Walk as walks;
@@ -38,6 +39,7 @@ pub fn build_halves(
     requires fit { list_all (is_fit objects) template.now.forms ≡ true }
     ensures built { IfOk result (λ built. built ≡ spec.built place.now objects live.now template.now) }
     ensures ascend { IfOk result (λ built. list_all (does_ascend 0) built.halves ≡ true) }
+    ensures needs { IfOk result (λ built. AreMainSlots live.now objects built.preconditions) }
     ensures tasks { IfOk result (λ built. DoTasks place.now live.now objects built) }
     ensures effect { IfOk result (λ built. HasEffect (length live.now) objects built) }
     ensures again { IfOk result (λ built. HoldAgain (length live.now) objects built) }

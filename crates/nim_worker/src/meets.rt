@@ -1,4 +1,4 @@
-ghost use Rattle.std.specs.Prelude.{◌≡◌, false, ℕ, List, All};
+ghost use Rattle.std.specs.Prelude.{◌≡◌, false, ℕ, List, All, is_some};
 ghost use Rattle.std.specs.List.{list_any};
 ghost use Rattle.nim_command.specs.Slots as slots_spec;
 ghost use Rattle.nim_command.specs.Waits.{Group as group_type};
@@ -71,9 +71,20 @@ fn is_key(one: &Key, other: &Key) -> bool
 pub(crate) fn key_of(admitted: &Admitted, ticket: u64) -> Option<Key>
     ensures { (groups : List group_type) (ran : List ℕ) → IsAdmitted admitted.now groups ran → is_one_of ran ticket ≡ false → result ≡ key_at groups ticket }
 {
-    match (admitted.head(ticket), admitted.command(ticket)) {
-        (Some(head), Some(command)) => key_received(head, command.id, &command.kind),
-        _ => None,
+    let command = admitted.command(ticket)?;
+    if !is_receive(&command.kind) {
+        return None;
+    }
+    key_received(admitted.head(ticket)?, command.id, &command.kind)
+}
+
+// Whether a command receives a frame.
+fn is_receive(kind: &Kind) -> bool
+    ensures { (group : group_type) (number : ℕ) → result ≡ is_some (history.key_received group number kind.now) }
+{
+    match kind {
+        Kind::Receive { .. } => true,
+        _ => false,
     }
 }
 

@@ -1,7 +1,7 @@
 use Rattle.std.proofs.Common.{length}
 use Rattle.nim_job.specs.Objects.{shapes_of}
 use Rattle.nim_place.specs.Orders.{resets_of}
-use Rattle.nim_control.proofs.Directed.{directed_pushed}
+use Rattle.nim_place.proofs.Directed.{directed_pushed}
 use Rattle.nim_control.proofs.begin.push_resets.Goals as goal
 
 pub loop-number-preserved : goal.loop-number-preserved

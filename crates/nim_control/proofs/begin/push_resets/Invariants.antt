@@ -2,7 +2,7 @@
 use Rattle.std.proofs.Common.{◌≡◌, ◌++◌, length}
 use Rattle.nim_job.specs.Objects.{shapes_of}
 use Rattle.nim_place.specs.Orders.{resets_of}
-use Rattle.nim_course.specs.Directed.{directed}
+use Rattle.nim_place.specs.Directed.{directed}
 use Rattle.nim_control.proofs.begin.push_resets.Given as goal
 
 abbrev pub invariant-loop-number : goal.invariant-loop-number

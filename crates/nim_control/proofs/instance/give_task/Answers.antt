@@ -4,7 +4,7 @@ use Rattle.nim_command.specs.declared.command.Command.{Command}
 use Rattle.nim_command.specs.Numbers.{counted_from}
 use Rattle.nim_place.specs.Extends.{singles_of}
 use Rattle.nim_place.specs.Schedule.{scheduled}
-use Rattle.nim_course.specs.Directed.{directed}
+use Rattle.nim_place.specs.Directed.{directed}
 use Rattle.nim_control.proofs.Instances.{writes_first}
 use Rattle.nim_control.proofs.instance.give_task.Goals as goal
 

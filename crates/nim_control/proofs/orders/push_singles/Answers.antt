@@ -3,7 +3,7 @@ use Rattle.nim_command.specs.declared.command.Command.{Command}
 use Rattle.nim_message.specs.declared.order.ToWorker.{ToWorker}
 use Rattle.nim_place.specs.Extends.{single_with, singles_of, worker_of}
 use Rattle.nim_place.specs.Stands.{commands_for}
-use Rattle.nim_control.proofs.Directed.{directed_pushed}
+use Rattle.nim_place.proofs.Directed.{directed_pushed}
 use Rattle.nim_control.proofs.Taken.{others_there}
 use Rattle.nim_control.proofs.orders.push_singles.Goals as goal
 

@@ -3,7 +3,7 @@ use Rattle.std.proofs.Common.{◌≡◌, ◌≤◌, ◌++◌}
 use Rattle.nim_base.specs.declared.number.Worker.{Worker}
 use Rattle.nim_place.specs.Extends.{singles_of}
 use Rattle.nim_place.specs.Stands.{commands_for}
-use Rattle.nim_course.specs.Directed.{directed}
+use Rattle.nim_place.specs.Directed.{directed}
 use Rattle.nim_control.proofs.orders.push_singles.Given as goal
 
 abbrev pub invariant-loop-number : goal.invariant-loop-number

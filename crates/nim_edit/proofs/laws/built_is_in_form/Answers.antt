@@ -1,10 +1,25 @@
-use Rattle.std.proofs.Common.{subst, sym}
-use Rattle.nim_edit.specs.Form.{IsInForm}
+use Rattle.std.proofs.Common.{refl, subst, sym}
+use Rattle.nim_edit.specs.Form.{IsInForm, WasBuilt}
 use Rattle.nim_edit.proofs.Built.{built_form}
 use Rattle.nim_edit.proofs.laws.built_is_in_form.Goals as goal
 
-pub returns : goal.returns
-returns c =
+pub returns-clause-form : goal.returns-clause-form
+returns-clause-form c =
     subst IsInForm (sym c.requires.built)
     (built_form c.args.place.now c.args.objects c.args.live.now c.args.recorded.now c.requires.live c.requires.workers c.requires.objects c.requires.many
     c.requires.fit)
+
+pub returns-clause-built : goal.returns-clause-built
+returns-clause-built c =
+    subst (WasBuilt c.args.place.now c.args.objects c.args.live.now c.args.recorded.now) (sym c.requires.built)
+    (record {
+      form =
+          built_form c.args.place.now c.args.objects c.args.live.now c.args.recorded.now c.requires.live c.requires.workers c.requires.objects
+          c.requires.many c.requires.fit;
+      block = refl;
+      forms = refl;
+      built = refl;
+      preconditions = refl;
+      effect = refl;
+      homes = refl;
+    })

@@ -5,7 +5,8 @@ use Rattle.nim_command.specs.declared.edit.Edit.{Edit}
 use Rattle.nim_edit.specs.Form.{is_edit_below}
 use Rattle.nim_edit.proofs.ByRule.{halves_ascend, halves_ruled}
 use Rattle.nim_edit.proofs.Effects.{kept_effect}
-use Rattle.nim_edit.proofs.Forms.{halves_long, moved_form}
+use Rattle.nim_edit.specs.Moves.{edits_of}
+use Rattle.nim_edit.proofs.Forms.{halves_long, moved_form, moved_unsent}
 use Rattle.nim_edit.proofs.migration.migrate.Goals as goal
 
 pub edited_halves-requires : goal.edited_halves-requires
@@ -18,6 +19,26 @@ returns-clause-form c =
     moved_form c.args.template.now c.args.task c.args.to c.args.live.now c.in_ok-edits.edits.items c.as_slice.result.now c.in_ok-halves.halves
     c.in_ok-owners.owners c.push_edits.new.unsent c.requires.form c.requires.live (search rules) c.in_ok-edits.ensures.value c.as_slice.ensures.value
     c.in_ok-halves.ensures c.in_ok-owners.ensures c.in_ok-push_edits.ensures.ok
+
+pub returns-clause-built : goal.returns-clause-built
+returns-clause-built c =
+    λ place objects living recorded was.
+    record {
+      form = returns-clause-form c;
+      block = was.block;
+      forms = was.forms;
+      built = was.built;
+      preconditions = was.preconditions;
+      effect = was.effect;
+      homes = was.homes;
+    }
+
+pub returns-clause-unsent : goal.returns-clause-unsent
+returns-clause-unsent c =
+    λ sent is.
+    moved_unsent sent c.args.template.now.halves c.args.template.now.unsent (edits_of c.args.template.now c.args.task c.args.to)
+    c.in_ok-edits.edits.items c.as_slice.result.now c.in_ok-halves.halves c.push_edits.new.unsent is
+    c.in_ok-edits.ensures.value c.as_slice.ensures.value c.in_ok-halves.ensures c.in_ok-push_edits.ensures.ok
 
 pub returns-clause-ascend : goal.returns-clause-ascend
 returns-clause-ascend c =

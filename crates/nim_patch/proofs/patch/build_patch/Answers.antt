@@ -2,13 +2,15 @@ use Rattle.std.proofs.Common.{◌≡◌, ℕ, ◌≤◌, false, List, ◌++◌, 
 use Rattle.std.proofs.lemmas.List.{drop_all}
 use Rattle.nim_base.specs.declared.number.Object.{Object}
 use Rattle.nim_base.specs.declared.number.Worker.{Worker}
+use Rattle.nim_patch.specs.Given.{PatchRunsExtend}
 use Rattle.nim_patch.specs.Mends.{AreSourced, Mends}
 use Rattle.nim_patch.specs.Patches.{copies_of, fails, flags_of}
 use Rattle.nim_patch.specs.declared.patch.PatchCopy.{PatchCopy}
 use Rattle.nim_place.specs.Versions.{Versions}
 use Rattle.nim_patch.proofs.Flags.{flag_read}
+use Rattle.nim_patch.proofs.Given.{patch_installs, patch_runs}
 use Rattle.nim_patch.proofs.Mended.{mends_given}
-use Rattle.nim_patch.proofs.Sources.{copies_sourced}
+use Rattle.nim_patch.proofs.Sources.{copies_few, copies_sourced}
 use Rattle.nim_patch.proofs.patch.build_patch.Goals as goal
 
 -- at the end of the loop there are all copies
@@ -34,6 +36,11 @@ returns c =
     c.as_slice-preconditions.ensures c.loop-at.invariant c.loop-at-test.false c.from_vec.ensures in
     record {
       copies = sym are;
+      few = subst (λ (copies : List PatchCopy). length copies ≤ length preconditions) are (copies_few c.args.map.now preconditions);
       sources = subst (AreSourced c.args.map.now) are (copies_sourced c.args.map.now preconditions);
       mends = λ given stands. subst (Mends c.args.map.now preconditions) are (mends_given given c.args.map.now preconditions stands);
+      installs = λ live. patch_installs live c.from_vec.result;
+      runs = λ live objects slots.
+          subst (λ (copies : List PatchCopy). PatchRunsExtend live objects preconditions copies c.args.map.now) are
+          (patch_runs live objects c.args.map.now preconditions slots);
     }

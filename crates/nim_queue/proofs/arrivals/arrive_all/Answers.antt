@@ -5,6 +5,7 @@ use Rattle.std.proofs.Math.Path.{fun_ext}
 use Rattle.std.proofs.lemmas.List.{length-append, map-append}
 use Rattle.nim_command.specs.declared.command.Command.{Command}
 use Rattle.nim_command.specs.Slots.{does_write}
+use Rattle.nim_queue.specs.Used.{used_in}
 use Rattle.nim_queue.specs.Arrived.{HasArrived, HaveArrived, Sight, commands_of, sight_of}
 use Rattle.nim_queue.specs.declared.arrivals.Arrival.{Arrival}
 use Rattle.nim_queue.proofs.Arriving.{arrived_more, named_more, written_more}
@@ -17,7 +18,7 @@ loop-command-preserved c =
     let inv = c.loop-command.invariant in
     let first = c.args.first in
     let kept = get nat_eq c.args.waiting.now in
-    let used = get nat_eq c.args.slots.now in
+    let used = used_in c.args.slots.now.items in
     let before = c.loop-command.arrived.items in
     let a = c.in_ok-arrive.field-0 in
     let sight : (named : ℕ → List ℕ) → (written : ℕ → Bool) → Sight = λ named written. record { kept = kept; used = used; named = named; written = written } in

@@ -7,4 +7,4 @@ use Rattle.nim_queue.proofs.arrivals.push_each.Given as goal
 
 abbrev pub invariant-loop-reader : goal.invariant-loop-reader
 invariant-loop-reader l =
-    (e : ℕ) → is_in e l.tickets.items ≡ (is_in e l.fn.tickets.items || (is_in e (map (λ (x : Bor ℕ). x.now) l.yielded) && is_some (get nat_eq l.waiting e)))
+    (e : ℕ) → is_in e l.tickets ≡ (is_in e l.fn.tickets || (is_in e (map (λ (x : Bor ℕ). x.now) l.yielded) && is_some (get nat_eq l.waiting e)))

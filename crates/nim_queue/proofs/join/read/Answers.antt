@@ -1,8 +1,8 @@
-use Rattle.std.proofs.Common.{◌≡◌, ◌∙◌, ◌∷◌, [], ◌++◌, ◌+◌, ◌==◌, ℕ, List, length, nat_eq, refl, ap, sym, arith, rules, subst}
+use Rattle.std.proofs.Common.{◌≡◌, ◌∙◌, ◌∷◌, [], ◌++◌, ◌+◌, ◌==◌, ℕ, List, length, refl, ap, sym, arith, rules, subst}
 use Rattle.std.specs.Prelude.{if◌then◌else◌}
-use Rattle.std.specs.HashMap.{get}
 use Rattle.std.specs.Option.{option_map}
 use Rattle.std.proofs.lemmas.List.{append-nil, append_assoc, length-append}
+use Rattle.nim_queue.specs.Used.{used_in}
 use Rattle.nim_queue.specs.Arrived.{reading_of}
 use Rattle.nim_queue.specs.Joined.{AreWithin, more_read, gathered_reads}
 use Rattle.nim_queue.specs.declared.arrivals.Reading.{Reading}
@@ -26,9 +26,9 @@ loop-reading-preserved c =
           let total : k + length past + 1 ≡ k + length (past ++ x ∷ []) = omega (arith, length-append past (x ∷ [])) in (
             λ t.
                 step t ∙ ap (option_map (more_read (more t))) (before.0 t)
-                ∙ read_twice (gathered_reads t past) (more t) (gathered_reads t (past ++ x ∷ [])) (get nat_eq c.args.slots.now t) (gathered_more key own t past x),
-            subst (AreWithin (λ (v : SlotUse). v.readers) (get nat_eq c.read_one.new.slots)) total
-                (within_more (λ (v : SlotUse). v.readers) more_read (get nat_eq c.loop-reading.slots) (get nat_eq c.read_one.new.slots) more (k + length past)
+                ∙ read_twice (gathered_reads t past) (more t) (gathered_reads t (past ++ x ∷ [])) (used_in c.args.slots.now.items t) (gathered_more key own t past x),
+            subst (AreWithin (λ (v : SlotUse). v.readers) (used_in c.read_one.new.slots.items)) total
+                (within_more (λ (v : SlotUse). v.readers) more_read (used_in c.loop-reading.slots.items) (used_in c.read_one.new.slots.items) more (k + length past)
                 (λ ms v. refl) step (few_at key own n x here.0) before.1),
           );
       whole = append_assoc past (x ∷ []) c.next.new.self.rest.items ∙ whole;
@@ -40,4 +40,4 @@ returns c k n d short is fits t =
     let none : length c.loop-reading.reading-iterator.rest.items ≡ 0 = search rules in
     let all : past ≡ c.args.reads.items = sym (append-nil past) ∙ ap (λ ys. past ++ ys) (sym (nil_of _ none)) ∙ c.loop-reading.invariant.whole in
     (c.loop-reading.invariant.added k n d short is fits).0 t
-    ∙ ap (λ (xs : List Reading). option_map (more_read (gathered_reads t xs)) (get nat_eq c.args.slots.now t)) all
+    ∙ ap (λ (xs : List Reading). option_map (more_read (gathered_reads t xs)) (used_in c.args.slots.now.items t)) all

@@ -1,6 +1,6 @@
-use Rattle.std.proofs.Common.{is_some, nat_eq, rules, take}
-use Rattle.std.specs.HashMap.{get}
+use Rattle.std.proofs.Common.{is_some, rules, take}
 use Rattle.nim_base.specs.declared.number.Slot.{Slot}
+use Rattle.nim_queue.specs.Used.{used_in}
 use Rattle.nim_queue.proofs.Covering.{all_more, all_stay, one_used, same_again, unchanged}
 use Rattle.nim_queue.proofs.room.cover.Goals as goal
 
@@ -11,9 +11,9 @@ pub loop-slot-preserved : goal.loop-slot-preserved
 loop-slot-preserved c = record {
   same = same_again _ _ _ _ c.loop-slot.invariant.same (one_used _ _ _ _ c.in_ok-cover_one.ensures.uses);
   covered =
-      all_more (λ (slot : Slot). is_some (get nat_eq c.cover_one.new.slots slot.0)) c.args.used.now c.loop-slot.slot-index (record { 0 = 0 })
+      all_more (λ (slot : Slot). is_some (used_in c.cover_one.new.slots.items slot.0)) c.args.used.now c.loop-slot.slot-index (record { 0 = 0 })
       (search rules)
-      (all_stay (λ (slot : Slot). is_some (get nat_eq c.loop-slot.slots slot.0)) (λ (slot : Slot). is_some (get nat_eq c.cover_one.new.slots slot.0)) (take c.loop-slot.slot-index c.args.used.now)
+      (all_stay (λ (slot : Slot). is_some (used_in c.loop-slot.slots.items slot.0)) (λ (slot : Slot). is_some (used_in c.cover_one.new.slots.items slot.0)) (take c.loop-slot.slot-index c.args.used.now)
       (λ slot there. (one_used _ _ _ _ c.in_ok-cover_one.ensures.uses).stays slot.0 there) c.loop-slot.invariant.covered)
       (search rules);
 }

@@ -1,5 +1,5 @@
-use Rattle.std.proofs.Common.{nat_eq, rules, take}
-use Rattle.std.specs.HashMap.{get}
+use Rattle.std.proofs.Common.{rules, take}
+use Rattle.nim_queue.specs.Used.{used_in}
 use Rattle.nim_queue.specs.Joined.{are_covered}
 use Rattle.nim_queue.proofs.Covering.{all_more, all_stay, covered_still, same_again}
 use Rattle.nim_queue.proofs.room.cover_all.Goals as goal
@@ -11,9 +11,9 @@ pub loop-arrival-preserved : goal.loop-arrival-preserved
 loop-arrival-preserved c = record {
   same = same_again _ _ _ _ c.loop-arrival.invariant.same c.cover_arrival.ensures.same;
   covered =
-      all_more (are_covered (get nat_eq c.cover_arrival.new.slots)) c.args.arrived.now c.loop-arrival.arrival-index c.arrival-item.result
+      all_more (are_covered (used_in c.cover_arrival.new.slots.items)) c.args.arrived.now c.loop-arrival.arrival-index c.arrival-item.result
       (search rules)
-      (all_stay (are_covered (get nat_eq c.loop-arrival.slots)) (are_covered (get nat_eq c.cover_arrival.new.slots)) (take c.loop-arrival.arrival-index c.args.arrived.now)
+      (all_stay (are_covered (used_in c.loop-arrival.slots.items)) (are_covered (used_in c.cover_arrival.new.slots.items)) (take c.loop-arrival.arrival-index c.args.arrived.now)
       (λ a there. covered_still _ _ _ a c.cover_arrival.ensures.same there) c.loop-arrival.invariant.covered)
       (search rules);
 }

@@ -7,12 +7,14 @@ use Rattle.nim_template.specs.Ascends.{does_ascend}
 use Rattle.nim_template.specs.Written.{HasEffect}
 use Rattle.nim_template.specs.Given.{InstallsExtend, InstancesExtend}
 use Rattle.nim_template.specs.Instance.{LeavesEffect}
+use Rattle.nim_template.specs.MainSlots.{AreMainSlots}
 use Rattle.nim_template.proofs.Again.{built_again}
 use Rattle.nim_template.proofs.Given.{built_installs, built_instances}
 use Rattle.nim_template.specs.Tasks.{DoTasks}
 use Rattle.nim_template.proofs.Halves.{built_tasks}
 use Rattle.nim_template.proofs.IsSound.{built_sound}
 use Rattle.nim_template.proofs.Left.{built_left}
+use Rattle.nim_template.proofs.MainSlots.{built_needs}
 use Rattle.nim_template.proofs.Numbers.{built_ascend}
 use Rattle.nim_template.proofs.Written.{built_effect}
 use Rattle.nim_template.proofs.build.build_halves.Goals as goal
@@ -21,6 +23,11 @@ pub returns-clause-ascend : goal.returns-clause-ascend
 returns-clause-ascend c =
     ap (λ (t : WorkerTemplate). list_all (does_ascend 0) t.halves) c.in_ok-template.ensures
     ∙ built_ascend c.args.place.now c.args.objects c.args.live.now c.args.template.now c.requires.workers c.requires.objects c.requires.many c.requires.fit
+
+pub returns-clause-needs : goal.returns-clause-needs
+returns-clause-needs c =
+    subst (λ (t : WorkerTemplate). AreMainSlots c.args.live.now c.args.objects t.preconditions) (sym c.in_ok-template.ensures)
+    (built_needs c.args.place.now c.args.objects c.args.live.now c.args.template.now c.requires.live c.requires.objects c.requires.many c.requires.fit)
 
 pub returns-clause-again : goal.returns-clause-again
 returns-clause-again c =

@@ -8,5 +8,5 @@ use Rattle.nim_queue.proofs.arrivals.Arrivals.add_named.Given as goal
 
 abbrev pub invariant-loop-number : goal.invariant-loop-number
 invariant-loop-number l =
-    (e : ℕ) → is_in e l.tickets.items
-    ≡ (is_in e l.fn.tickets.items || list_any (λ number. is_in e (unwrap_or (get nat_eq l.self.numbers number) [])) (take l.number-index l.numbers))
+    (e : ℕ) → is_in e l.tickets
+    ≡ (is_in e l.fn.tickets || list_any (λ number. is_in e (unwrap_or (get nat_eq l.self.numbers number) [])) (take l.number-index l.numbers))

@@ -4,6 +4,7 @@ use Rattle.std.specs.HashMap.{get}
 use Rattle.std.specs.HashSet as bag
 use Rattle.std.specs.List.{list_any}
 use Rattle.nim_base.specs.declared.number.Slot.{Slot}
+use Rattle.nim_queue.specs.Used.{used_in}
 use Rattle.nim_queue.specs.Arrived.{Sight, is_met}
 use Rattle.nim_queue.specs.Counts.{is_in}
 use Rattle.nim_queue.specs.Stands.{is_reader, is_writer}
@@ -13,7 +14,7 @@ pub returns : goal.returns
 returns c e =
     let sight : Sight = record {
       kept = get nat_eq c.args.waiting.now;
-      used = get nat_eq c.args.slots.now;
+      used = used_in c.args.slots.now.items;
       named = λ n. unwrap_or (get nat_eq c.args.self.now.numbers n) [];
       written = bag.contains nat_eq c.args.self.now.written;
     } in
@@ -25,7 +26,7 @@ returns c e =
     (c.in_ok-add_writers.ensures e
     ∙ ap₂ either
     (c.in_ok-add_named.ensures e
-    ∙ ap₂ either (ap (is_in e) c.new-tickets.ensures.items) (ap (list_any (λ number. is_in e (sight.named number))) c.as_slice.ensures))
+    ∙ ap₂ either (ap (is_in e) c.new-tickets.ensures) (ap (list_any (λ number. is_in e (sight.named number))) c.as_slice.ensures))
     (ap (λ (slots : List Slot). is_met sight is_writer slots e) c.reads.ensures))
     (ap (λ (slots : List Slot). is_met sight is_writer slots e) c.writes.ensures))
     (ap (λ (slots : List Slot). is_met sight is_reader slots e) c.writes-2.ensures)

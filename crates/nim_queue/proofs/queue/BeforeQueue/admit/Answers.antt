@@ -1,5 +1,6 @@
 use Rattle.std.proofs.Common.{◌≡◌, ◌∙◌, ◌<◌, ◌^◌, ◌+◌, ◌++◌, ◌∷◌, [], ℕ, List, length, nat_eq, ap, sym, subst}
 use Rattle.std.specs.HashMap.{get}
+use Rattle.nim_queue.specs.Used.{used_in}
 use Rattle.nim_queue.specs.Arrived.{HaveArrived}
 use Rattle.nim_queue.specs.Joined.{counted}
 use Rattle.nim_queue.specs.Midway.{HasRoom}
@@ -17,8 +18,8 @@ returns-clause-ok c groups done next stands same =
     let count : c.in_ok-links.links ≡ old.links + counted arrived =
     c.in_ok-links.ensures.count ∙ ap (λ (xs : List Arrival). old.links + counted xs) c.as_slice.ensures.value in
     let few : old.links + counted arrived < 2 ^ 62 = subst (λ (n : ℕ). n < 2 ^ 62) count c.in_ok-links.ensures.few in
-    let have : HaveArrived (get nat_eq old.waiting) (get nat_eq old.slots) old.given [] c.as_slice-2.result.now =
-    subst (HaveArrived (get nat_eq old.waiting) (get nat_eq old.slots) old.given []) (sym c.as_slice-2.ensures.value) c.in_ok-arrived.ensures.arrived in
+    let have : HaveArrived (get nat_eq old.waiting) (used_in old.slots.items) old.given [] c.as_slice-2.result.now =
+    subst (HaveArrived (get nat_eq old.waiting) (used_in old.slots.items) old.given []) (sym c.as_slice-2.ensures.value) c.in_ok-arrived.ensures.arrived in
     let room : HasRoom start arrived =
     subst (HasRoom start) c.as_slice-2.ensures.value
     (c.in_ok-make_room.ensures.room have (subst (λ (xs : List Arrival). old.links + counted xs < 2 ^ 62) (sym c.as_slice-2.ensures.value) few)) in

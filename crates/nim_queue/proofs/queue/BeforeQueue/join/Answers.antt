@@ -5,6 +5,7 @@ use Rattle.std.specs.Option.{option_map}
 use Rattle.std.proofs.lemmas.List.{length-map}
 use Rattle.nim_base.specs.declared.number.Slot.{Slot}
 use Rattle.nim_command.specs.Slots.{is_among}
+use Rattle.nim_queue.specs.Used.{used_in}
 use Rattle.nim_queue.specs.Arrived.{link_to}
 use Rattle.nim_queue.specs.Joined.{followed, gathered, gathered_reads, more_read, rewritten}
 use Rattle.nim_queue.specs.declared.arrivals.Link.{Link}
@@ -27,8 +28,8 @@ returns-clause-slots c k d brief is fits s =
     let old = c.args.self.now in
     let written = λ (i : ℕ).
     c.write.ensures i
-    ∙ ap (λ (slots : List Slot). if is_among slots (record { 0 = i }) then option_map (rewritten old.given) (get nat_eq old.slots i) else get nat_eq old.slots i)
+    ∙ ap (λ (slots : List Slot). if is_among slots (record { 0 = i }) then option_map (rewritten old.given) (used_in old.slots.items i) else used_in old.slots.items i)
     c.writes.ensures in
     c.read.ensures k old.given d
-    (brief_written (get nat_eq old.slots) (get nat_eq c.write.new.slots) (λ i. is_among c.writes.result.now (record { 0 = i })) old.given k c.write.ensures brief) is fits s
+    (brief_written (used_in old.slots.items) (used_in c.write.new.slots.items) (λ i. is_among c.writes.result.now (record { 0 = i })) old.given k c.write.ensures brief) is fits s
     ∙ ap (option_map (more_read (gathered_reads s c.args.arrival.reads.items))) (written s)

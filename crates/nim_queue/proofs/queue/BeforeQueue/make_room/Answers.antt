@@ -2,6 +2,7 @@ use Rattle.std.proofs.Common.{◌≡◌, ◌≤◌, [], ℕ, Option, nat_eq, ref
 use Rattle.std.specs.HashMap.{get}
 use Rattle.std.specs.VecDeque.{deque_capacity}
 use Rattle.std.proofs.Math.Path.{fun_ext}
+use Rattle.nim_queue.specs.Used.{used_in}
 use Rattle.nim_queue.specs.Arrived.{HaveArrived}
 use Rattle.nim_queue.specs.declared.waiting.Waiting.{Waiting}
 use Rattle.nim_queue.proofs.Making.{arrivals_same, kept_at_most, ok_more, still_stands}
@@ -38,8 +39,8 @@ returns-clause-room c =
     ok_more c.make_room.result c.make_room.ensures.room
     (λ enough have few. record {
       arrived =
-          subst (λ (k : ℕ → Option Waiting). HaveArrived k (get nat_eq new.slots) old.given [] c.args.arrived.now) kept
-          (arrivals_same (get nat_eq old.waiting) (get nat_eq old.slots) (get nat_eq new.slots) old.given [] c.args.arrived.now c.cover_all.ensures.same have);
+          subst (λ (k : ℕ → Option Waiting). HaveArrived k (used_in new.slots.items) old.given [] c.args.arrived.now) kept
+          (arrivals_same (get nat_eq old.waiting) (used_in old.slots.items) (used_in new.slots.items) old.given [] c.args.arrived.now c.cover_all.ensures.same have);
       covered = c.in_ok-cover_all.ensures.covered;
       few = few;
       spare = c.in_ok-reserve.ensures.ok;

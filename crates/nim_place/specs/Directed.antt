@@ -17,8 +17,10 @@ orders_to number given = map (λ (d : Directed). d.1) (filter (λ (d : Directed)
 abbrev pub by_number : List Directed → ℕ → List ToWorker
 by_number given = λ number. orders_to number given
 
+-- the list of one worker
+abbrev pub for_worker : (ℕ → List ToWorker) → ℕ → List Directed
+for_worker lists number = map (λ (order : ToWorker). (worker_of number, order)) (lists number)
+
 -- lists of orders of so many workers, one worker after another
 abbrev pub directed : ℕ → (ℕ → List ToWorker) → List Directed
-directed workers lists =
-    flat_map (λ (number : ℕ). map (λ (order : ToWorker). (worker_of number, order)) (lists number))
-    (range_with_len 0 workers)
+directed workers lists = flat_map (for_worker lists) (range_with_len 0 workers)
