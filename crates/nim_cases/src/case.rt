@@ -73,14 +73,7 @@ fn plain_runs(
     for number in 0..made.count {
         let schedule = made.text(alloc, number)?;
         let before = found.len();
-        made_run(
-            alloc,
-            sections,
-            schedule.as_slice(),
-            faults,
-            &wanted,
-            found,
-        )?;
+        made_run(alloc, sections, schedule.as_slice(), faults, &wanted, found)?;
         if found.len() != before {
             found.push(format!(in alloc; "  with schedule {number}")?)?;
         }
