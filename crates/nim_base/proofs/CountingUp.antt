@@ -8,7 +8,8 @@ pub length-counted : (n : ℕ) (first : ℤ) → length (counted n first) ≡ n
 length-counted zero first = refl
 length-counted (suc n) first = ap suc (length-counted n (int_wrapping_add w64 first (pos 1)))
 
-pub counted-step : (cells : List ℤ) (n i : ℕ) (next : ℤ) → i < n → (cells ++ next ∷ []) ++ counted (n - (i + 1)) (int_wrapping_add w64 next (pos 1)) ≡ cells ++ counted (n - i) next
+pub counted-step : (cells : List ℤ) (n i : ℕ) (next : ℤ) → i < n
+    → (cells ++ next ∷ []) ++ counted (n - (i + 1)) (int_wrapping_add w64 next (pos 1)) ≡ cells ++ counted (n - i) next
 counted-step cells n i next more =
     let left : n - i ≡ suc (n - (i + 1)) = omega arith in
     append_assoc cells (next ∷ []) (counted (n - (i + 1)) (int_wrapping_add w64 next (pos 1)))

@@ -10,13 +10,15 @@ use Rattle.nim_base.specs.declared.number.Shape.{Shape}
 use Rattle.nim_base.proofs.Rows.{length-rows_of, take-rows_of}
 
 -- what is done for each row, at the next row
-pub flat_rows-step : {X : Type 0} (does : List ℤ → List X) (n i width : ℕ) (cells : List ℤ) → i < n → flat_map does (rows_of (n - i) width cells) ≡ does (take width cells) ++ flat_map does (rows_of (n - (i + 1)) width (drop width cells))
+pub flat_rows-step : {X : Type 0} (does : List ℤ → List X) (n i width : ℕ) (cells : List ℤ) → i < n
+    → flat_map does (rows_of (n - i) width cells) ≡ does (take width cells) ++ flat_map does (rows_of (n - (i + 1)) width (drop width cells))
 flat_rows-step does n i width cells more =
     let left : n - i ≡ suc (n - (i + 1)) = omega arith in
     ap (λ k. flat_map does (rows_of k width cells)) left
 
 -- what holds of each row, at the next row and at the end
-pub fit_rows-step : (P : ℤ → Type 0) (n i width : ℕ) (cells : List ℤ) → i < n → All P (take width cells) → All (All P) (rows_of (n - (i + 1)) width (drop width cells)) → All (All P) (rows_of (n - i) width cells)
+pub fit_rows-step : (P : ℤ → Type 0) (n i width : ℕ) (cells : List ℤ) → i < n → All P (take width cells)
+    → All (All P) (rows_of (n - (i + 1)) width (drop width cells)) → All (All P) (rows_of (n - i) width cells)
 fit_rows-step P n i width cells more first others =
     let left : n - i ≡ suc (n - (i + 1)) = omega arith in
     All-same (All P) (rows_of (n - i) width cells) (take width cells ∷ rows_of (n - (i + 1)) width (drop width cells)) (ap (λ k. rows_of k width cells) left)
@@ -27,7 +29,8 @@ fit_rows-end P n i width cells done =
     let left : n - i ≡ 0 = omega arith in
     All-same (All P) (rows_of (n - i) width cells) [] (ap (λ k. rows_of k width cells) left) (All-nil (All P))
 
-pub enough-step : (n i width : ℕ) (cells : List ℤ) → i < n → (n - i) * width ≤ length cells → (width ≤ length cells) × ((n - (i + 1)) * width ≤ length (drop width cells))
+pub enough-step : (n i width : ℕ) (cells : List ℤ) → i < n → (n - i) * width ≤ length cells
+    → (width ≤ length cells) × ((n - (i + 1)) * width ≤ length (drop width cells))
 enough-step n i width cells more enough =
     let left : n - i ≡ suc (n - (i + 1)) = omega arith in
     let all : suc (n - (i + 1)) * width ≤ length cells = rw left at enough in
@@ -55,13 +58,15 @@ fit_same (suc n) width cells enough =
     ∙ ap₂ (λ (front back : List ℤ). front ++ back) (sym front) (fit_same n width (drop width cells) (omega (arith, suc-mul n width, length-drop width cells)))
 
 -- rows of one width, one after another, are cut into these rows again
-pub rows_of-flat : (to : ℕ) (does : List ℤ → List ℤ) → ((row : List ℤ) → length (does row) ≡ to) → (rows : List (List ℤ)) → rows_of (length rows) to (flat_map does rows) ≡ map does rows
+pub rows_of-flat : (to : ℕ) (does : List ℤ → List ℤ) → ((row : List ℤ) → length (does row) ≡ to) → (rows : List (List ℤ))
+    → rows_of (length rows) to (flat_map does rows) ≡ map does rows
 rows_of-flat to does even [] = refl
 rows_of-flat to does even (row ∷ rows) =
     ap₂ (λ (front : List ℤ) (more : List (List ℤ)). front ∷ more) (take_at (does row) (flat_map does rows) to (even row))
     (ap (rows_of (length rows) to) (drop_at (does row) (flat_map does rows) to (even row)) ∙ rows_of-flat to does even rows)
 
-pub fitted_rows : (grid : Grid) (cells made : List ℤ) (n width to count : ℕ) → grid.rows ≡ rows_of (length grid.rows) grid.width cells → width ≡ grid.width → n ≡ min (length grid.rows) count → made ≡ flat_map (fit_row to) (rows_of n width cells) → rows_of n to made ≡ map (fit_row to) (take count grid.rows)
+pub fitted_rows : (grid : Grid) (cells made : List ℤ) (n width to count : ℕ) → grid.rows ≡ rows_of (length grid.rows) grid.width cells → width ≡ grid.width
+    → n ≡ min (length grid.rows) count → made ≡ flat_map (fit_row to) (rows_of n width cells) → rows_of n to made ≡ map (fit_row to) (take count grid.rows)
 fitted_rows grid cells made n width to count seen same few is =
     let less : rows_of n grid.width cells ≡ take n grid.rows = sym (ap (take n) seen ∙ take-rows_of n (length grid.rows) grid.width cells (omega arith)) in
     let first : rows_of n width cells ≡ take count grid.rows =
@@ -70,7 +75,8 @@ fitted_rows grid cells made n width to count seen same few is =
     ap₂ (λ (k : ℕ) (all : List ℤ). rows_of k to all) counted (is ∙ ap (flat_map (fit_row to)) first)
     ∙ rows_of-flat to (fit_row to) (length-fit_row to) (take count grid.rows)
 
-pub length-flat : (to : ℕ) (does : List ℤ → List ℤ) → ((row : List ℤ) → length (does row) ≡ to) → (rows : List (List ℤ)) → length (flat_map does rows) ≡ length rows * to
+pub length-flat : (to : ℕ) (does : List ℤ → List ℤ) → ((row : List ℤ) → length (does row) ≡ to) → (rows : List (List ℤ))
+    → length (flat_map does rows) ≡ length rows * to
 length-flat to does even [] = omega arith
 length-flat to does even (row ∷ rows) =
     omega (arith, length-append (does row) (flat_map does rows), even row, length-flat to does even rows, suc-mul (length rows) to)
@@ -80,7 +86,9 @@ fitted_length n width to cells made is =
     ap length is ∙ length-flat to (fit_row to) (length-fit_row to) (rows_of n width cells) ∙ ap (λ k. k * to) (length-rows_of n width cells)
 
 -- the fitted value, from its cells
-pub fitted_is : (grid : Grid) (shape : Shape) (cells made : List ℤ) (n width : ℕ) (fit : Grid) → grid.rows ≡ rows_of (length grid.rows) grid.width cells → width ≡ grid.width → n ≡ min (length grid.rows) shape.rows → made ≡ flat_map (fit_row shape.width) (rows_of n width cells) → fit ≡ record { width = shape.width; rows = rows_of n shape.width made } → fit ≡ fitted grid shape
+pub fitted_is : (grid : Grid) (shape : Shape) (cells made : List ℤ) (n width : ℕ) (fit : Grid) → grid.rows ≡ rows_of (length grid.rows) grid.width cells
+    → width ≡ grid.width → n ≡ min (length grid.rows) shape.rows → made ≡ flat_map (fit_row shape.width) (rows_of n width cells)
+    → fit ≡ record { width = shape.width; rows = rows_of n shape.width made } → fit ≡ fitted grid shape
 fitted_is grid shape cells made n width fit seen same few is made_of =
     let whole : List (List ℤ) → Grid = λ rows. record { width = shape.width; rows = rows } in
     made_of ∙ ap whole (fitted_rows grid cells made n width shape.width shape.rows seen same few is)

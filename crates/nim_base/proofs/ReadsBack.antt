@@ -87,7 +87,8 @@ abbrev pub IsSmall : ℤ → Type 0
 IsSmall cell = mag cell < 2 ^ 63
 
 number-read : (cell : ℤ) → IsSmall cell → number_of (signed_decimal cell) ≡ Some cell
-number-read (pos n) small = number-digits (decimal n) n (decimal_nonempty n (omega arith)) (digits_decimal own n (omega arith)) (digits_value-decimal own n (omega arith))
+number-read (pos n) small =
+    number-digits (decimal n) n (decimal_nonempty n (omega arith)) (digits_decimal own n (omega arith)) (digits_value-decimal own n (omega arith))
 number-read (negsuc n) small =
     let natural : natural_of (decimal (suc n)) ≡ Some (suc n) = natural-read (suc n) (omega arith) in
     ap (option_map (λ number. neg_ℤ (pos number))) natural
@@ -113,7 +114,8 @@ row-read row width wide whole small =
 abbrev IsEven : ℕ → List ℤ → Type 0
 IsEven width row = length row ≡ width
 
-rows-read : (rows : List (List ℤ)) (width : ℕ) (rest : List ℕ) → 1 ≤ width → All (IsEven width) rows → All (All IsSmall) rows → row_lines (length rows) width (flat_map row_text rows ++ rest) ≡ Some (record { rows = rows; rest = rest })
+rows-read : (rows : List (List ℤ)) (width : ℕ) (rest : List ℕ) → 1 ≤ width → All (IsEven width) rows → All (All IsSmall) rows
+    → row_lines (length rows) width (flat_map row_text rows ++ rest) ≡ Some (record { rows = rows; rest = rest })
 rows-read [] width rest wide even small = refl
 rows-read (row ∷ rows) width rest wide even small =
     let line : List ℕ = join_with_byte 32 (map signed_decimal row) in
@@ -129,19 +131,27 @@ rows-read (row ∷ rows) width rest wide even small =
 abbrev header_words : List ℕ → ℕ → ℕ → ℕ → List (List ℕ)
 header_words name part rows width = name ∷ decimal part ∷ decimal rows ∷ decimal width ∷ []
 
-header-words : (name : List ℕ) (part rows width : ℕ) → IsWord name → part < 2 ^ 64 → rows < 2 ^ 64 → width < 2 ^ 64 → All IsWord (header_words name part rows width)
+header-words : (name : List ℕ) (part rows width : ℕ) → IsWord name → part < 2 ^ 64 → rows < 2 ^ 64 → width < 2 ^ 64
+    → All IsWord (header_words name part rows width)
 header-words name part rows width word p r w =
     All-cons IsWord name (decimal part ∷ decimal rows ∷ decimal width ∷ []) word
     (All-cons IsWord (decimal part) (decimal rows ∷ decimal width ∷ []) (natural-word part p)
     (All-cons IsWord (decimal rows) (decimal width ∷ []) (natural-word rows r)
     (All-cons IsWord (decimal width) [] (natural-word width w) (All-nil IsWord))))
 
-header-read : (name : List ℕ) (part rows width : ℕ) → IsWord name → part < 2 ^ 64 → rows < 2 ^ 64 → width < 2 ^ 64 → header_of (words_of (join_with_byte 32 (header_words name part rows width))) ≡ Some (record { name = name; part = part; rows = rows; width = width })
+header-read : (name : List ℕ) (part rows width : ℕ) → IsWord name → part < 2 ^ 64 → rows < 2 ^ 64 → width < 2 ^ 64
+    → header_of (words_of (join_with_byte 32 (header_words name part rows width))) ≡ Some (record { name = name; part = part; rows = rows; width = width })
 header-read name part rows width word p r w =
-    rw (words-read (header_words name part rows width) (omega arith) (header-words name part rows width word p r w), natural-read part p, natural-read rows r, natural-read width w)
+    rw (
+      words-read (header_words name part rows width) (omega arith) (header-words name part rows width word p r w),
+      natural-read part p,
+      natural-read rows r,
+      natural-read width w,
+    )
 
 -- the whole part
-pub part-read : (name : List ℕ) (part : ℕ) (grid : Grid) (rest : List ℕ) → IsWord name → part < 2 ^ 64 → grid.width < 2 ^ 64 → IsGrid grid → All (All IsSmall) grid.rows → read_part (text_of name part grid ++ rest) ≡ Some (record { name = name; part = part; value = grid; rest = rest })
+pub part-read : (name : List ℕ) (part : ℕ) (grid : Grid) (rest : List ℕ) → IsWord name → part < 2 ^ 64 → grid.width < 2 ^ 64 → IsGrid grid
+    → All (All IsSmall) grid.rows → read_part (text_of name part grid ++ rest) ≡ Some (record { name = name; part = part; value = grid; rest = rest })
 unfolding read_part
 part-read name part grid rest word p w shaped small =
     let r : length grid.rows < 2 ^ 64 = omega (arith, shaped.few) in
@@ -149,11 +159,15 @@ part-read name part grid rest word p w shaped small =
     let after : List ℕ = flat_map row_text grid.rows ++ rest in
     let begins : text_of name part grid ++ rest ≡ line ++ 10 ∷ after = simp append_assoc in
     let first : line_of (line ++ 10 ∷ after) ≡ Some (record { line = line; rest = after }) =
-    line-read line after (words-line (header_words name part (length grid.rows) grid.width) (header-words name part (length grid.rows) grid.width word p r w)) in
+    line-read line after (words-line (header_words name part (length grid.rows) grid.width) (header-words name part (length grid.rows) grid.width word p r w))
+    in
     rw (begins, first, header-read name part (length grid.rows) grid.width word p r w, rows-read grid.rows grid.width rest shaped.wide shaped.even small)
 
 -- behind what was written before
-pub written-read : (before after name : List ℕ) (part : ℕ) (grid : Grid) → after ≡ before ++ text_of name part grid → part < 2 ^ 64 → grid.width < 2 ^ 64 → IsGrid grid → All (All IsSmall) grid.rows → (rest : List ℕ) → IsWord name → read_part (drop (length before) after ++ rest) ≡ Some (record { name = name; part = part; value = grid; rest = rest })
+pub written-read : (before after name : List ℕ) (part : ℕ) (grid : Grid) → after ≡ before ++ text_of name part grid → part < 2 ^ 64 → grid.width < 2 ^ 64
+    → IsGrid grid → All (All IsSmall) grid.rows → (rest : List ℕ) → IsWord name
+    → read_part (drop (length before) after ++ rest) ≡ Some (record { name = name; part = part; value = grid; rest = rest })
 written-read before after name part grid is p w shaped small rest word =
-    let text : drop (length before) after ≡ text_of name part grid = ap (drop (length before)) is ∙ drop_at before (text_of name part grid) (length before) refl in
+    let text : drop (length before) after ≡ text_of name part grid =
+    ap (drop (length before)) is ∙ drop_at before (text_of name part grid) (length before) refl in
     ap (λ (bytes : List ℕ). read_part (bytes ++ rest)) text ∙ part-read name part grid rest word p w shaped small

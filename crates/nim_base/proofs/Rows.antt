@@ -32,7 +32,8 @@ even-rows_of (suc n) width cells whole =
 pub rows_of-replicate : (n width : ℕ) (cell : ℤ) → rows_of n width (replicate (n * width) cell) ≡ replicate n (replicate width cell)
 rows_of-replicate zero width cell = refl
 rows_of-replicate (suc n) width cell =
-    let front : take width (replicate (suc n * width) cell) ≡ replicate width cell = take-replicate width (suc n * width) cell (omega (arith, suc-mul n width)) in
+    let front : take width (replicate (suc n * width) cell) ≡ replicate width cell =
+    take-replicate width (suc n * width) cell (omega (arith, suc-mul n width)) in
     let back : drop width (replicate (suc n * width) cell) ≡ replicate (n * width) cell =
     drop-replicate width (suc n * width) cell ∙ ap (λ k. replicate k cell) (omega (arith, suc-mul n width)) in
     ap₂ (λ (row : List ℤ) (more : List (List ℤ)). row ∷ more) front (ap (rows_of n width) back ∙ rows_of-replicate n width cell)
@@ -47,7 +48,8 @@ cells_seen width rows cells grid seen whole = subst (λ (g : Grid). cells ≡ ce
 pub count_seen : (width rows : ℕ) (cells : List ℤ) (grid : Grid) → Seen width rows cells grid → rows ≡ length grid.rows
 count_seen width rows cells grid seen = subst (λ (g : Grid). rows ≡ length g.rows) seen (sym (length-rows_of rows width cells))
 
-pub length_seen : (width rows : ℕ) (cells : List ℤ) (grid : Grid) → Seen width rows cells grid → length cells ≡ rows * width → length cells ≡ length grid.rows * grid.width
+pub length_seen : (width rows : ℕ) (cells : List ℤ) (grid : Grid) → Seen width rows cells grid → length cells ≡ rows * width
+    → length cells ≡ length grid.rows * grid.width
 length_seen width rows cells grid seen whole =
     subst (λ (g : Grid). length cells ≡ length g.rows * g.width) seen (whole ∙ ap (λ n. n * width) (sym (length-rows_of rows width cells)))
 
@@ -55,7 +57,8 @@ pub rows_seen : (width rows : ℕ) (cells : List ℤ) (grid : Grid) → Seen wid
 rows_seen width rows cells grid seen =
     subst (λ (g : Grid). g.rows ≡ rows_of (length g.rows) g.width cells) seen (ap (λ n. rows_of n width cells) (sym (length-rows_of rows width cells)))
 
-pub shaped_seen : (width rows : ℕ) (cells : List ℤ) (grid : Grid) → Seen width rows cells grid → 1 ≤ width → length cells ≡ rows * width → rows < 2 ^ 32 → IsGrid grid
+pub shaped_seen : (width rows : ℕ) (cells : List ℤ) (grid : Grid) → Seen width rows cells grid → 1 ≤ width → length cells ≡ rows * width → rows < 2 ^ 32
+    → IsGrid grid
 shaped_seen width rows cells grid seen wide whole few = subst IsGrid seen (record {
   wide = wide;
   even = even-rows_of rows width cells whole;
@@ -63,7 +66,8 @@ shaped_seen width rows cells grid seen wide whole few = subst IsGrid seen (recor
 })
 
 -- one more row
-pub rows_of-push : (n width : ℕ) (cells row : List ℤ) → length cells ≡ n * width → length row ≡ width → rows_of (suc n) width (cells ++ row) ≡ rows_of n width cells ++ row ∷ []
+pub rows_of-push : (n width : ℕ) (cells row : List ℤ) → length cells ≡ n * width → length row ≡ width
+    → rows_of (suc n) width (cells ++ row) ≡ rows_of n width cells ++ row ∷ []
 rows_of-push zero width cells row whole wide =
     let none : cells ≡ [] = nil_from_length cells (omega (arith, whole)) in
     let front : take width (cells ++ row) ≡ take width row = ap (λ (front : List ℤ). take width (front ++ row)) none in
@@ -80,7 +84,8 @@ take-rows_of (suc n) zero width cells few = absurd (omega arith)
 take-rows_of (suc n) (suc m) width cells few = ap (λ (more : List (List ℤ)). take width cells ∷ more) (take-rows_of n m width (drop width cells) (omega arith))
 
 -- the cell of a row and a column in the buffer
-pub cell-rows_of : (n width : ℕ) (cells : List ℤ) (row column : ℕ) → row < n → column < width → get_or (get_or (rows_of n width cells) row []) column (pos 0) ≡ get_or cells (row * width + column) (pos 0)
+pub cell-rows_of : (n width : ℕ) (cells : List ℤ) (row column : ℕ) → row < n → column < width
+    → get_or (get_or (rows_of n width cells) row []) column (pos 0) ≡ get_or cells (row * width + column) (pos 0)
 cell-rows_of zero width cells row column low narrow = absurd (omega arith)
 cell-rows_of (suc n) width cells zero column low narrow = get_or-take width cells column (pos 0) narrow ∙ ap (λ k. get_or cells k (pos 0)) (omega arith)
 cell-rows_of (suc n) width cells (suc row) column low narrow =
@@ -97,7 +102,8 @@ cell-past_columns zero width cells row column wide = refl
 cell-past_columns (suc n) width cells zero column wide = get_or_past (take width cells) column (pos 0) (omega (arith, length-take width cells))
 cell-past_columns (suc n) width cells (suc row) column wide = cell-past_columns n width (drop width cells) row column wide
 
-pub pushed_seen : (width rows : ℕ) (cells row made : List ℤ) (grid : Grid) → Seen width rows cells grid → length cells ≡ rows * width → length row ≡ grid.width → made ≡ cells ++ row → Seen width (rows + 1) made (record grid { rows = grid.rows ++ row ∷ [] })
+pub pushed_seen : (width rows : ℕ) (cells row made : List ℤ) (grid : Grid) → Seen width rows cells grid → length cells ≡ rows * width → length row ≡ grid.width
+    → made ≡ cells ++ row → Seen width (rows + 1) made (record grid { rows = grid.rows ++ row ∷ [] })
 pushed_seen width rows cells row made grid seen whole =
     let Pushed : Grid → Type 0 = λ g. length row ≡ g.width → made ≡ cells ++ row → Seen width (rows + 1) made (record g { rows = g.rows ++ row ∷ [] }) in
     let all : List (List ℤ) → Grid = λ rows. record { width = width; rows = rows } in
@@ -105,7 +111,8 @@ pushed_seen width rows cells row made grid seen whole =
     let next : rows + 1 ≡ suc rows = omega arith in
     ap all (ap₂ (λ (k : ℕ) (after : List ℤ). rows_of k width after) next is ∙ rows_of-push rows width cells row whole wide))
 
-pub cell_seen : (width rows : ℕ) (cells : List ℤ) (grid : Grid) → Seen width rows cells grid → length cells ≡ rows * width → (row column : ℕ) → row < rows → column < width → (x : ℤ) → x ≡ get_or cells (row * width + column) x → x ≡ cell_of grid row column
+pub cell_seen : (width rows : ℕ) (cells : List ℤ) (grid : Grid) → Seen width rows cells grid → length cells ≡ rows * width → (row column : ℕ) → row < rows
+    → column < width → (x : ℤ) → x ≡ get_or cells (row * width + column) x → x ≡ cell_of grid row column
 cell_seen width rows cells grid seen whole row column low narrow x is =
     let most : width * suc row ≤ width * rows = mul-le-mul_left width low in
     let within : row * width + column < length cells = omega (arith, most, suc-mul row width) in
@@ -116,6 +123,7 @@ pub no_row_seen : (width rows : ℕ) (cells : List ℤ) (grid : Grid) → Seen w
 no_row_seen width rows cells grid seen row column high =
     subst (λ (g : Grid). pos 0 ≡ cell_of g row column) seen (sym (cell-past_rows rows width cells row column high))
 
-pub no_column_seen : (width rows : ℕ) (cells : List ℤ) (grid : Grid) → Seen width rows cells grid → (row column : ℕ) → width ≤ column → pos 0 ≡ cell_of grid row column
+pub no_column_seen : (width rows : ℕ) (cells : List ℤ) (grid : Grid) → Seen width rows cells grid → (row column : ℕ) → width ≤ column
+    → pos 0 ≡ cell_of grid row column
 no_column_seen width rows cells grid seen row column wide =
     subst (λ (g : Grid). pos 0 ≡ cell_of g row column) seen (sym (cell-past_columns rows width cells row column wide))

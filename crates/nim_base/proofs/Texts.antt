@@ -13,9 +13,11 @@ pub joined : (cell : ℤ) (cells : List ℤ) → join_with_byte 32 (map signed_d
 joined cell [] = sym (append-nil (signed_decimal cell))
 joined cell (next ∷ cells) = ap (λ (more : List ℕ). signed_decimal cell ++ 32 ∷ more) (joined next cells)
 
-pub later-step : (text : List ℕ) (cells : List ℤ) (i : ℕ) → i < length cells → text ++ flat_map later (drop i cells) ≡ ((text ++ 32 ∷ []) ++ signed_decimal (get_or cells i (pos 0))) ++ flat_map later (drop (i + 1) cells)
+pub later-step : (text : List ℕ) (cells : List ℤ) (i : ℕ) → i < length cells
+    → text ++ flat_map later (drop i cells) ≡ ((text ++ 32 ∷ []) ++ signed_decimal (get_or cells i (pos 0))) ++ flat_map later (drop (i + 1) cells)
 later-step text cells i more =
-    let next : flat_map later (drop i cells) ≡ later (get_or cells i (pos 0)) ++ flat_map later (drop (i + 1) cells) = at_drop_more (flat_map later) cells i (pos 0) more in
+    let next : flat_map later (drop i cells) ≡ later (get_or cells i (pos 0)) ++ flat_map later (drop (i + 1) cells) =
+    at_drop_more (flat_map later) cells i (pos 0) more in
     ap (λ (after : List ℕ). text ++ after) next
     ∙ sym (append_assoc (text ++ 32 ∷ []) (signed_decimal (get_or cells i (pos 0))) (flat_map later (drop (i + 1) cells))
     ∙ append_assoc text (32 ∷ []) (signed_decimal (get_or cells i (pos 0)) ++ flat_map later (drop (i + 1) cells)))

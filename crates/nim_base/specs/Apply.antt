@@ -45,16 +45,18 @@ writes_of Split = 2
 writes_of _ = 1
 
 -- the numbers of parameters, reads and results are the function's
-pub record HasCounts {A B C : Type 0} (func : Func) (numbers : List A) (sources : List B) (results : List C) : Type 0 where
-  pub params : length numbers ≡ params_of func
-  pub fewest : fewest_reads func ≤ length sources
-  pub most : length sources ≤ most_reads func
-  pub writes : length results ≡ writes_of func
+pub record HasCounts {A B C : Type 0} (func : Func) (numbers : List A) (sources : List B) (results : List C) : Type 0
+  where
+    pub params : length numbers ≡ params_of func
+    pub fewest : fewest_reads func ≤ length sources
+    pub most : length sources ≤ most_reads func
+    pub writes : length results ≡ writes_of func
 
 -- the same as a test, of how many there are
 abbrev pub has_counts : Func → ℕ → ℕ → ℕ → Bool
 has_counts func params reads writes =
-    (params == params_of func) && nat_le (fewest_reads func) reads && nat_le reads (most_reads func) && (writes == writes_of func)
+    (params == params_of func) && nat_le (fewest_reads func) reads && nat_le reads (most_reads func)
+    && (writes == writes_of func)
 
 -- What a function gives for its parameters and the values that it reads, before each result is fitted. The
 -- shape is the first that it writes.
@@ -71,11 +73,13 @@ results_of Total params reads shape = total_of reads ∷ []
 results_of Count params reads shape = count_of reads ∷ []
 results_of Stencil params reads shape =
     stencil_of (param_of params 0) (param_of params 1) (read_of reads 0) (read_of reads 1) (read_of reads 2) ∷ []
-results_of Keep params reads shape = keep_of (param_of params 0) (param_of params 1) (param_of params 2) (read_of reads 0) ∷ []
+results_of Keep params reads shape =
+    keep_of (param_of params 0) (param_of params 1) (param_of params 2) (read_of reads 0) ∷ []
 results_of Group params reads shape = group_of (param_of params 0) (param_of params 1) (read_of reads 0) ∷ []
 results_of Merge params reads shape = merge_of reads ∷ []
 results_of Split params reads shape =
-    below_of (param_of params 0) (param_of params 1) (read_of reads 0) ∷ rest_of (param_of params 0) (param_of params 1) (read_of reads 0) ∷ []
+    below_of (param_of params 0) (param_of params 1) (read_of reads 0)
+    ∷ rest_of (param_of params 0) (param_of params 1) (read_of reads 0) ∷ []
 
 -- each result fitted to the shape that it is written into
 abbrev pub fit_all : List Grid → List Shape → List Grid

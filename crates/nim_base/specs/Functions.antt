@@ -52,7 +52,8 @@ row_by width cell = map cell (range_with_len 0 width)
 
 -- the value of a height and a width that has a given cell in each row and column
 abbrev pub grid_by : ℕ → ℕ → (ℕ → ℕ → ℤ) → Grid
-grid_by height width cell = record { width = width; rows = map (λ row. row_by width (cell row)) (range_with_len 0 height) }
+grid_by height width cell =
+    record { width = width; rows = map (λ row. row_by width (cell row)) (range_with_len 0 height) }
 
 -- one value from two, by the cells of the same place; rows and width are the greater of the two
 abbrev pub pairwise : (ℤ → ℤ → ℤ) → Grid → Grid → Grid
@@ -87,7 +88,8 @@ width_of reads = greatest (map (λ grid. grid.width) reads)
 -- sum: the sums of the cells of the same place; rows and width are the greatest of all
 abbrev pub sum_of : List Grid → Grid
 sum_of reads =
-    grid_by (height_of reads) (width_of reads) (λ row column. sum_of_cells (map (λ grid. cell_of grid row column) reads))
+    grid_by (height_of reads) (width_of reads) (λ row column. sum_of_cells
+    (map (λ grid. cell_of grid row column) reads))
 
 -- a value of one row of one cell
 abbrev pub single : ℤ → Grid
@@ -121,7 +123,8 @@ left_of row column = if column == 0 then pos 0 else cell_at row (column - 1)
 abbrev pub stencil_cell : ℤ → ℤ → List ℤ → List ℤ → List ℤ → ℕ → ℤ
 stencil_cell factor divisor up row down column =
     let here = int_wrapping_mul w64 factor (cell_at row column) in
-    quotient (plus (plus (plus (plus here (cell_at up column)) (cell_at down column)) (left_of row column)) (cell_at row (column + 1))) divisor
+    quotient (plus (plus (plus (plus here (cell_at up column)) (cell_at down column)) (left_of row column))
+    (cell_at row (column + 1))) divisor
 
 -- stencil: in the shape of the middle value
 abbrev pub stencil_of : ℤ → ℤ → Grid → Grid → Grid → Grid
@@ -140,7 +143,8 @@ kept test grid = record grid { rows = filter test grid.rows }
 
 -- keep: the rows whose cell at the column is at least low and at most high
 abbrev pub keep_of : ℤ → ℤ → ℤ → Grid → Grid
-keep_of column low high grid = kept (λ row. int_le low (at_column column row) && int_le (at_column column row) high) grid
+keep_of column low high grid =
+    kept (λ row. int_le low (at_column column row) && int_le (at_column column row) high) grid
 
 -- the first result of split: the rows whose cell at the column is less than the pivot
 abbrev pub below_of : ℤ → ℤ → Grid → Grid
@@ -169,7 +173,11 @@ sum_at column summed rows number =
 -- rows of two cells: each different number of the column, ascending, and the sum of another over its rows
 abbrev pub grouped : ℤ → ℤ → List (List ℤ) → Grid
 grouped column summed rows =
-    record { width = 2; rows = map (λ number. number ∷ (sum_at column summed rows number ∷ [])) (different (map (at_column column) rows)) }
+    record {
+      width = 2;
+      rows = map (λ number. number ∷ (sum_at column summed rows number ∷ []))
+          (different (map (at_column column) rows));
+    }
 
 -- group
 abbrev pub group_of : ℤ → ℤ → Grid → Grid

@@ -20,7 +20,8 @@ pub record Line : Type 0 where
 -- there is none where there is no newline
 abbrev pub line_of : List ℕ → Option Line
 line_of [] = None
-line_of (byte ∷ bytes) = if byte == 10 then Some (record { line = []; rest = bytes }) else option_map (λ (found : Line). record found { line = byte ∷ found.line }) (line_of bytes)
+line_of (byte ∷ bytes) = if byte == 10 then Some (record { line = []; rest = bytes })
+    else option_map (λ (found : Line). record found { line = byte ∷ found.line }) (line_of bytes)
 
 -- a byte before the first word
 abbrev pub in_front : ℕ → List (List ℕ) → List (List ℕ)
@@ -45,16 +46,19 @@ natural_of (digit ∷ digits) = if all_ascii_digits (digit ∷ digits) then Some
 -- with `-` before it, a number below 0
 abbrev pub number_of : List ℕ → Option ℤ
 number_of [] = None
-number_of (byte ∷ bytes) = if byte == 45 then option_map (λ number. neg_ℤ (pos number)) (natural_of bytes) else option_map pos (natural_of (byte ∷ bytes))
+number_of (byte ∷ bytes) = if byte == 45 then option_map (λ number. neg_ℤ (pos number)) (natural_of bytes)
+    else option_map pos (natural_of (byte ∷ bytes))
 
 -- every word a number
 abbrev pub numbers_of : List (List ℕ) → Option (List ℤ)
 numbers_of [] = Some []
-numbers_of (word ∷ words) = option_and_then (λ number. option_map (λ numbers. number ∷ numbers) (numbers_of words)) (number_of word)
+numbers_of (word ∷ words) =
+    option_and_then (λ number. option_map (λ numbers. number ∷ numbers) (numbers_of words)) (number_of word)
 
 -- a line of just so many numbers
 abbrev pub row_of : ℕ → List ℕ → Option (List ℤ)
-row_of width line = option_and_then (λ numbers. if length numbers == width then Some numbers else None) (numbers_of (words_of line))
+row_of width line =
+    option_and_then (λ numbers. if length numbers == width then Some numbers else None) (numbers_of (words_of line))
 
 -- rows, and the bytes behind them
 pub record RowLines : Type 0 where
@@ -66,7 +70,8 @@ abbrev pub row_lines : ℕ → ℕ → List ℕ → Option RowLines
 row_lines zero width bytes = Some (record { rows = []; rest = bytes })
 row_lines (suc n) width bytes =
     option_and_then
-    (λ first. option_and_then (λ row. option_map (λ (more : RowLines). record more { rows = row ∷ more.rows }) (row_lines n width first.rest)) (row_of width first.line))
+    (λ first. option_and_then (λ row. option_map (λ (more : RowLines). record more { rows = row ∷ more.rows })
+    (row_lines n width first.rest)) (row_of width first.line))
     (line_of bytes)
 
 -- what the first line of a part says: the variable's name, the part's number, and how many rows of how many cells
@@ -80,7 +85,8 @@ pub record Header : Type 0 where
 abbrev pub header_of : List (List ℕ) → Option Header
 header_of (name ∷ part ∷ rows ∷ width ∷ []) =
     option_and_then
-    (λ p. option_and_then (λ r. option_map (λ w. record { name = name; part = p; rows = r; width = w }) (natural_of width)) (natural_of rows))
+    (λ p. option_and_then (λ r. option_map (λ w. record { name = name; part = p; rows = r; width = w })
+    (natural_of width)) (natural_of rows))
     (natural_of part)
 header_of _ = None
 
@@ -97,7 +103,13 @@ read_part bytes =
     option_and_then
     (λ first. option_and_then
     (λ header. option_map
-    (λ read. record { name = header.name; part = header.part; value = record { width = header.width; rows = read.rows }; rest = read.rest })
+    (λ read. record {
+      name = header.name;
+      part = header.part;
+      value =
+          record { width = header.width; rows = read.rows };
+      rest = read.rest;
+    })
     (row_lines header.rows header.width first.rest))
     (header_of (words_of first.line)))
     (line_of bytes)

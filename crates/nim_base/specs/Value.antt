@@ -51,4 +51,5 @@ counted (suc n) first = first ∷ counted n (int_wrapping_add w64 first (pos 1))
 
 -- as many rows as the shape has, whose cells count up from the first, row by row
 abbrev pub iota_of : Shape → ℤ → Grid
-iota_of shape first = record { width = shape.width; rows = rows_of shape.rows shape.width (counted (shape.rows * shape.width) first) }
+iota_of shape first =
+    record { width = shape.width; rows = rows_of shape.rows shape.width (counted (shape.rows * shape.width) first) }

@@ -77,7 +77,8 @@ sound tree past line h =
 shallow : (depth d n : ℕ) → depth ≡ n → d ≡ n → nat_le 16 depth ≡ false → nat_lt d 16 ≡ true
 shallow depth d n is there not_deep = grind (arith, nat_tests)
 
-args_of : (vars : List Word) (n : ℕ) (o : Option Block) → option_map_or (λ (b : job_block). n == b.args) (option_map (block_of vars) o) false ≡ option_map_or (λ (b : Block). n == length b.arguments) o false
+args_of : (vars : List Word) (n : ℕ) (o : Option Block) → option_map_or (λ (b : job_block). n == b.args) (option_map (block_of vars) o) false
+    ≡ option_map_or (λ (b : Block). n == length b.arguments) o false
 args_of vars n None = refl
 args_of vars n (Some b) = refl
 
@@ -87,7 +88,8 @@ called_there tree job names block atoms ties is =
     let p = place_in (block_names tree.blocks) block in
     ap (λ n. is_call job p n) (length-map atoms (atom_of names))
     ∙ ap (λ (bs : List job_block). option_map_or (λ (b : job_block). length atoms == b.args) (slice_get bs p) false) ties.blocks
-    ∙ ap (λ (o : Option job_block). option_map_or (λ (b : job_block). length atoms == b.args) o false) (slice_get-map (block_of (var_names tree.vars)) tree.blocks p)
+    ∙ ap (λ (o : Option job_block). option_map_or (λ (b : job_block). length atoms == b.args) o false)
+    (slice_get-map (block_of (var_names tree.vars)) tree.blocks p)
     ∙ args_of (var_names tree.vars) (length atoms) (slice_get tree.blocks p)
     ∙ is
 
@@ -98,7 +100,8 @@ var_there tree job w ties is = ap (λ n. nat_lt (place_in (var_names tree.vars) 
 step_fits : (names : Names) (os : List Open) (s : Statement) (bs : List Body) → may_stand os s ≡ true → Fits (nested s os) bs → Fits os (with_line names s bs)
 step_fits names os (Do block arguments) bs may f = put_fits (stmt.Do (place_in names.blocks block) (map (atom_of names) arguments)) os bs f
 step_fits names os (Let name value) bs may f = put_fits (stmt.Let (place_in names.scalars name) (first_of names value) (rest_of names value)) os bs f
-step_fits names os (Get name variable part row column) bs may f = put_fits (stmt.Get (place_in names.scalars name) (place_in names.vars variable) part row column) os bs f
+step_fits names os (Get name variable part row column) bs may f =
+    put_fits (stmt.Get (place_in names.scalars name) (place_in names.vars variable) part row column) os bs f
 step_fits names os (Loop turns) bs may f = opened_fits (λ (b : Body). stmt.Loop (atom_of names turns) b.first) opening.Turns os bs f
 step_fits names os (While condition) bs may f = opened_fits (λ (b : Body). stmt.While (cond_of names condition) b.first) opening.Turns os bs f
 step_fits names os (If condition) bs may f = opened_fits (λ (b : Body). stmt.If (cond_of names condition) b.first b.second) opening.If os bs f
@@ -123,26 +126,32 @@ step_scan tree job all past os (Do block arguments) bs ties sound begins deep ma
     (called_there tree job names block arguments ties sound.called) (known_atoms names past.scalars arguments begins sound.set)))
 step_scan tree job all past os (Let name value) bs ties sound begins deep may f =
     let names = names_for tree all in
-    put_scan job (stmt.Let (place_in all name) (first_of names value) (rest_of names value)) os bs (length past.scalars) (length (past_with past (Let name value)).scalars) f
+    put_scan job (stmt.Let (place_in all name) (first_of names value) (rest_of names value)) os bs (length past.scalars)
+    (length (past_with past (Let name value)).scalars) f
     (λ d. let_scan job (place_in all name) (first_of names value) (rest_of names value) d (length past.scalars)
     (known_value names past.scalars value (read_begins past (Let name value) all begins) sound.set)
     ∙ sets past.scalars all name begins sound.few)
 step_scan tree job all past os (Get name variable part row column) bs ties sound begins deep may f =
-    put_scan job (stmt.Get (place_in all name) (place_in (var_names tree.vars) variable) part row column) os bs (length past.scalars) (length (past_with past (Get name variable part row column)).scalars) f
-    (λ d. get_scan job (place_in all name) (place_in (var_names tree.vars) variable) part row column d (length past.scalars) (var_there tree job variable ties sound.named)
+    put_scan job (stmt.Get (place_in all name) (place_in (var_names tree.vars) variable) part row column) os bs (length past.scalars)
+    (length (past_with past (Get name variable part row column)).scalars) f
+    (λ d. get_scan job (place_in all name) (place_in (var_names tree.vars) variable) part row column d (length past.scalars)
+    (var_there tree job variable ties sound.named)
     ∙ sets past.scalars all name begins sound.few)
 step_scan tree job all past os (Loop turns) bs ties sound begins deep may f =
     let names = names_for tree all in
     turns_scan job (λ (b : Body). stmt.Loop (atom_of names turns) b.first) os bs (length past.scalars) f
-    (λ b d there. loop_scan job (atom_of names turns) b.first d (length past.scalars) (one_known names past.scalars turns begins sound.set) (shallow past.depth d (length os) deep there sound.deep))
+    (λ b d there. loop_scan job (atom_of names turns) b.first d (length past.scalars) (one_known names past.scalars turns begins sound.set)
+    (shallow past.depth d (length os) deep there sound.deep))
 step_scan tree job all past os (While condition) bs ties sound begins deep may f =
     let names = names_for tree all in
     turns_scan job (λ (b : Body). stmt.While (cond_of names condition) b.first) os bs (length past.scalars) f
-    (λ b d there. while_scan job (cond_of names condition) b.first d (length past.scalars) (known_cond names past.scalars condition begins sound.set) (shallow past.depth d (length os) deep there sound.deep))
+    (λ b d there. while_scan job (cond_of names condition) b.first d (length past.scalars) (known_cond names past.scalars condition begins sound.set)
+    (shallow past.depth d (length os) deep there sound.deep))
 step_scan tree job all past os (If condition) bs ties sound begins deep may f =
     let names = names_for tree all in
     if_bodies job (λ (b : Body). stmt.If (cond_of names condition) b.first b.second) os bs (length past.scalars) f
-    (λ b d there. if_scan job (cond_of names condition) b.first b.second d (length past.scalars) (known_cond names past.scalars condition begins sound.set) (shallow past.depth d (length os) deep there sound.deep))
+    (λ b d there. if_scan job (cond_of names condition) b.first b.second d (length past.scalars) (known_cond names past.scalars condition begins sound.set)
+    (shallow past.depth d (length os) deep there sound.deep))
 step_scan tree job all past [] Else bs ties sound begins deep may f = cc
 step_scan tree job all past (opening.Turns ∷ os) Else bs ties sound begins deep may f = cc
 step_scan tree job all past (opening.If ∷ os) Else bs ties sound begins deep may f = else_scan job os bs (length past.scalars) f
@@ -170,7 +179,8 @@ step_depth past (Output variable) os is may = is
 
 -- ---- all lines
 
-no_rule : (line : ℕ) (rule : Option ℕ) (rest : Option Refusal) → option_or (option_map (λ (r : ℕ). record { line = line; rule = r }) rule) rest ≡ None → (rule ≡ None) × (rest ≡ None)
+no_rule : (line : ℕ) (rule : Option ℕ) (rest : Option Refusal) → option_or (option_map (λ (r : ℕ). record { line = line; rule = r }) rule) rest ≡ None
+    → (rule ≡ None) × (rest ≡ None)
 no_rule line None rest h = (refl, h)
 no_rule line (Some r) rest h = cc
 
@@ -178,7 +188,8 @@ stands : (b : Bool) (rest : Option (List Open)) → cond b rest None ≡ Some []
 stands true rest h = (refl, h)
 stands false rest h = cc
 
-all_lines : (tree : Sections) (job : Job) (all : List Word) (lines : List Line) (past : Past) (os : List Open) → Ties tree job → all ≡ (past_of past lines).scalars
+all_lines : (tree : Sections) (job : Job) (all : List Word) (lines : List Line) (past : Past) (os : List Open) → Ties tree job
+    → all ≡ (past_of past lines).scalars
     → past.depth ≡ length os → first_refusal (statement_sites tree past lines) ≡ None → open_after os lines ≡ Some []
     → Fits os (bodies_of (names_for tree all) lines) × (scan_bodies job (bodies_of (names_for tree all) lines) (length past.scalars) ≡ Some (length all))
 all_lines tree job all [] past os ties ends deep none nests =
@@ -190,7 +201,8 @@ all_lines tree job all (line ∷ lines) past os ties ends deep none nests =
     let may = stands (may_stand os s) (open_after (nested s os) lines) nests in
     let rest = all_lines tree job all lines (past_with past s) (nested s os) ties ends (step_depth past s os deep may.0) first.1 may.1 in (
       step_fits (names_for tree all) os s (bodies_of (names_for tree all) lines) may.0 rest.0,
-      step_scan tree job all past os s (bodies_of (names_for tree all) lines) ties (sound tree past line first.0) (set_begins past line lines all ends) deep may.0 rest.0 ∙ rest.1,
+      step_scan tree job all past os s (bodies_of (names_for tree all) lines) ties (sound tree past line first.0) (set_begins past line lines all ends) deep
+          may.0 rest.0 ∙ rest.1,
     )
 
 and_some : (job : Job) (o : Option ℕ) → option_and_then (scan_bodies job []) o ≡ o
@@ -223,8 +235,10 @@ few : (n : ℕ) → n ≤ 32 → nat_le n 32 ≡ true
 few n is = grind (arith, nat_tests)
 
 -- the parts of a whole job
-pub job_whole : (job : Job) → 1 ≤ job.steps → job.steps ≤ 1000000 → are_vars job.vars ≡ true → length job.blocks ≤ 32 → list_all (is_block job.vars) job.blocks ≡ true
+pub job_whole : (job : Job) → 1 ≤ job.steps → job.steps ≤ 1000000 → are_vars job.vars ≡ true → length job.blocks ≤ 32
+    → list_all (is_block job.vars) job.blocks ≡ true
     → is_some (scalars_of job) ≡ true → is_checked job ≡ true
 job_whole job low high vars blocks each body =
-    chain (is_between 1 1000000 job.steps) (are_vars job.vars) (nat_le (length job.blocks) 32) (list_all (is_block job.vars) job.blocks) (is_some (scalars_of job))
+    chain (is_between 1 1000000 job.steps) (are_vars job.vars) (nat_le (length job.blocks) 32) (list_all (is_block job.vars) job.blocks)
+    (is_some (scalars_of job))
     (between job.steps low high) vars (few (length job.blocks) blocks) each body

@@ -61,7 +61,8 @@ pub begins_self : (xs : List Word) → Begins xs xs
 begins_self xs = record { more = []; is = sym (append-nil xs) }
 
 with_begins : (xs : List Word) (w : Word) → Begins xs (with_scalar xs w)
-with_begins xs w = elim (is_in xs w) as (λ (b : Bool). Begins xs (cond b xs (xs ++ w ∷ []))) [ true ↦ begins_self xs | false ↦ record { more = w ∷ []; is = refl } ]
+with_begins xs w =
+    elim (is_in xs w) as (λ (b : Bool). Begins xs (cond b xs (xs ++ w ∷ []))) [ true ↦ begins_self xs | false ↦ record { more = w ∷ []; is = refl } ]
 
 begins_trans : (xs ys zs : List Word) → Begins xs ys → Begins ys zs → Begins xs zs
 begins_trans xs ys zs a b = record { more = a.more ++ b.more; is = b.is ∙ ap (λ (l : List Word). l ++ b.more) a.is ∙ append_assoc xs a.more b.more }
@@ -84,8 +85,10 @@ all_begins past (line ∷ lines) =
     begins_trans past.scalars (past_with past line.statement).scalars (past_of (past_with past line.statement) lines).scalars
     (one_begins past line.statement) (all_begins (past_with past line.statement) lines)
 
-pub set_begins : (past : Past) (line : Line) (lines : List Line) (all : List Word) → all ≡ (past_of past (line ∷ lines)).scalars → Begins (past_with past line.statement).scalars all
-set_begins past line lines all is = subst (λ (l : List Word). Begins (past_with past line.statement).scalars l) (sym is) (all_begins (past_with past line.statement) lines)
+pub set_begins : (past : Past) (line : Line) (lines : List Line) (all : List Word) → all ≡ (past_of past (line ∷ lines)).scalars
+    → Begins (past_with past line.statement).scalars all
+set_begins past line lines all is =
+    subst (λ (l : List Word). Begins (past_with past line.statement).scalars l) (sym is) (all_begins (past_with past line.statement) lines)
 
 pub read_begins : (past : Past) (stmt : Statement) (all : List Word) → Begins (past_with past stmt).scalars all → Begins past.scalars all
 read_begins past stmt all b = begins_trans past.scalars (past_with past stmt).scalars all (one_begins past stmt) b
@@ -95,7 +98,8 @@ read_begins past stmt all b = begins_trans past.scalars (past_with past stmt).sc
 known_word : (xs all : List Word) (w : Word) → Begins xs all → is_in xs w ≡ true → nat_lt (place_in all w) (length xs) ≡ true
 known_word xs all w b is = ap (λ n. nat_lt n (length xs)) (ap (λ (l : List Word). place_in l w) b.is ∙ place_front xs b.more w is) ∙ is
 
-pub known_atom : (names : Names) (xs : List Word) (atom : Atom) → Begins xs names.scalars → is_known xs atom ≡ true → is_atom (length xs) (atom_of names atom) ≡ true
+pub known_atom : (names : Names) (xs : List Word) (atom : Atom) → Begins xs names.scalars → is_known xs atom ≡ true
+    → is_atom (length xs) (atom_of names atom) ≡ true
 known_atom names xs (Number n) b is = refl
 known_atom names xs (Name w) b is = known_word xs names.scalars w b is
 
@@ -111,7 +115,8 @@ and_true : (b : Bool) → (b && true) ≡ true → b ≡ true
 and_true true h = refl
 and_true false h = h
 
-pub one_known : (names : Names) (xs : List Word) (atom : Atom) → Begins xs names.scalars → list_all (is_known xs) (atom ∷ []) ≡ true → is_atom (length xs) (atom_of names atom) ≡ true
+pub one_known : (names : Names) (xs : List Word) (atom : Atom) → Begins xs names.scalars → list_all (is_known xs) (atom ∷ []) ≡ true
+    → is_atom (length xs) (atom_of names atom) ≡ true
 one_known names xs atom b all = known_atom names xs atom b (and_true (is_known xs atom) all)
 
 pub two_known : (names : Names) (xs : List Word) (left right : Atom) → Begins xs names.scalars → list_all (is_known xs) (left ∷ right ∷ []) ≡ true

@@ -61,12 +61,14 @@ fills end v Iota ws parts sound = record { filled = refl; left = refl; later = s
 fills end v (Loaded values) ws parts sound =
     let taken = takes end v 0 v.parts ws parts sound in
     record {
-      filled = and_from (length (take v.parts (values_of parts)) == v.parts) (list_all (is_loaded v.shape) (take v.parts (values_of parts))) (eq-eqb (length (take v.parts (values_of parts))) v.parts taken.count) taken.whole;
+      filled = and_from (length (take v.parts (values_of parts)) == v.parts) (list_all (is_loaded v.shape) (take v.parts (values_of parts)))
+          (eq-eqb (length (take v.parts (values_of parts))) v.parts taken.count) taken.whole;
       left = values-drop v.parts parts;
       later = taken.later;
     }
 
-all_filled : (end : ℕ) (vars : List Var) (parts : List Part) → first_fault end (wanted vars) parts ≡ None → list_all is_filled (filled vars (values_of parts)) ≡ true
+all_filled : (end : ℕ) (vars : List Var) (parts : List Part) → first_fault end (wanted vars) parts ≡ None
+    → list_all is_filled (filled vars (values_of parts)) ≡ true
 all_filled end [] parts sound = refl
 all_filled end (v ∷ vars) parts sound =
     let here = fills end v v.init (wanted vars) parts sound in

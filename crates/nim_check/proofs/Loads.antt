@@ -26,11 +26,13 @@ holding_gifts [] values = refl
 holding_gifts (v ∷ vars) values = ap (λ (later : List Var). holding v (given_by v values) ∷ later) (holding_gifts vars (left_by v values))
 
 -- a file that no rule refuses has parts that none refuses
-pub parts_sound : (end : ℕ) (ws : List Wanted) (outcome : Result (List Part) Refusal) → refusal_by end ws outcome ≡ None → first_fault end ws (parts_in outcome) ≡ None
+pub parts_sound : (end : ℕ) (ws : List Wanted) (outcome : Result (List Part) Refusal) → refusal_by end ws outcome ≡ None
+    → first_fault end ws (parts_in outcome) ≡ None
 parts_sound end ws (Ok parts) sound = sound
 parts_sound end ws (Err refusal) sound = cc
 
-next_taken : (n : ℕ) (values rest : List Grid) (value : Grid) → drop n values ≡ value ∷ rest → (take (suc n) values ≡ take n values ++ value ∷ []) × (drop (suc n) values ≡ rest)
+next_taken : (n : ℕ) (values rest : List Grid) (value : Grid) → drop n values ≡ value ∷ rest
+    → (take (suc n) values ≡ take n values ++ value ∷ []) × (drop (suc n) values ≡ rest)
 next_taken zero [] rest value is = cc
 next_taken zero (v ∷ values) rest value is = (let same : v ≡ value = cc in ap (λ (g : Grid). g ∷ []) same, let left : values ≡ rest = cc in left)
 next_taken (suc n) [] rest value is = cc
@@ -43,7 +45,8 @@ none_taken (suc n) [] is = (refl, refl)
 none_taken (suc n) (v ∷ values) is = let more = none_taken n values is in (ap (λ (vs : List Grid). v ∷ vs) more.0, more.1)
 
 -- one more value, or none any more
-pub take_next : (n : ℕ) (values rest : List Grid) (value : Grid) → drop n values ≡ value ∷ rest → (take (n + 1) values ≡ take n values ++ value ∷ []) × (drop (n + 1) values ≡ rest)
+pub take_next : (n : ℕ) (values rest : List Grid) (value : Grid) → drop n values ≡ value ∷ rest
+    → (take (n + 1) values ≡ take n values ++ value ∷ []) × (drop (n + 1) values ≡ rest)
 take_next n values rest value is = rw (add-one n) (next_taken n values rest value is)
 
 pub take_none : (n : ℕ) (values : List Grid) → drop n values ≡ [] → (take (n + 1) values ≡ take n values) × (drop (n + 1) values ≡ [])

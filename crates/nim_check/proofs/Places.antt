@@ -18,7 +18,8 @@ lt_zero n = grind (arith, nat_tests)
 pub is_in_any : (words : List Word) (word : Word) → is_in words word ≡ list_any (λ w. bytes_eq w word) words
 is_in_any [] word = refl
 is_in_any (w ∷ words) word =
-    elim (bytes_eq w word) as (λ (b : Bool). nat_lt (cond (not b) (1 + place_in words word) 0) (suc (length words)) ≡ (b || list_any (λ v. bytes_eq v word) words)) [
+    elim (bytes_eq w word) as (λ (b : Bool). nat_lt (cond (not b) (1 + place_in words word) 0) (suc (length words))
+    ≡ (b || list_any (λ v. bytes_eq v word) words)) [
       | true ↦ lt_zero (length words)
       | false ↦ lt_suc (place_in words word) (length words) ∙ is_in_any words word
     ]
@@ -41,10 +42,12 @@ twice_back words zero h = h
 twice_back [] (suc n) h = h
 twice_back (w ∷ words) (suc n) h = or_last (is_in words w) (has_twice words) (twice_back words n h)
 
-pub twice_more : (words : List Word) (n : ℕ) (d : Word) → n < length words → has_twice (drop n words) ≡ (is_in (drop (n + 1) words) (get_or words n d) || has_twice (drop (n + 1) words))
+pub twice_more : (words : List Word) (n : ℕ) (d : Word) → n < length words
+    → has_twice (drop n words) ≡ (is_in (drop (n + 1) words) (get_or words n d) || has_twice (drop (n + 1) words))
 twice_more words n d within = at_drop_more has_twice words n d within
 
-pub in_more : (words : List Word) (n : ℕ) (d q : Word) → n < length words → is_in (drop n words) q ≡ (bytes_eq (get_or words n d) q || is_in (drop (n + 1) words) q)
+pub in_more : (words : List Word) (n : ℕ) (d q : Word) → n < length words
+    → is_in (drop n words) q ≡ (bytes_eq (get_or words n d) q || is_in (drop (n + 1) words) q)
 in_more words n d q within =
     at_drop_more (λ ws. is_in ws q) words n d within
     ∙ is_in_any (get_or words n d ∷ drop (n + 1) words) q

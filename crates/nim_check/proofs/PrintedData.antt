@@ -83,7 +83,8 @@ rows_read : (end n at : ℕ) (parts : List Part) (wanted line : ℕ) (name : Lis
 rows_read end n at parts wanted line name part width done [] rest all wide even small = (
   at,
   ap (λ (rows : List (List ℤ)). data_from end (reading parts wanted line name part width rows) (numbered n at (cut rest))) (sym (append-nil done))
-      ∙ ap (λ (k : ℕ). data_from end (reading parts wanted line name part width (done ++ [])) (numbered k at (cut rest))) (let none : n ≡ n + 0 = omega arith in none),
+      ∙ ap (λ (k : ℕ). data_from end (reading parts wanted line name part width (done ++ [])) (numbered k at (cut rest)))
+      (let none : n ≡ n + 0 = omega arith in none),
 )
 rows_read end n at parts wanted line name part width done (cells ∷ rows) rest all wide even small =
     let text : List ℕ = join_with_byte 32 (map signed_decimal cells) in
@@ -95,7 +96,8 @@ rows_read end n at parts wanted line name part width done (cells ∷ rows) rest 
     let read : row width text ≡ Some cells = rw (← fits) (row_read cells (omega arith) cells_small) in
     let taken = row_taken parts wanted line name part width done text cells n (omega arith) (row_some cells (omega arith) cells_small) read in
     let st : Loaded = reading parts wanted line name part width done in
-    let more = rows_read end (n + 1) (at + length text + 1) parts wanted line name part width (done ++ cells ∷ []) rows rest (omega (arith, length-append done (cells ∷ []))) wide
+    let more = rows_read end (n + 1) (at + length text + 1) parts wanted line name part width (done ++ cells ∷ []) rows rest
+    (omega (arith, length-append done (cells ∷ []))) wide
     (All-tail (IsEven width) cells rows even) (All-tail (All IsSmall) cells rows small) in
     let count : n + 1 + length rows ≡ n + length (cells ∷ rows) = omega arith in (
       more.0,
@@ -103,7 +105,8 @@ rows_read end n at parts wanted line name part width done (cells ∷ rows) rest 
           ∙ refused_later end st (line_at n at text) (numbered (n + 1) (at + length text + 1) (cut after)) taken.0
           ∙ ap (λ (next : Loaded). data_from end next (numbered (n + 1) (at + length text + 1) (cut after))) taken.1
           ∙ more.1
-          ∙ ap (λ (all_rows : List (List ℤ)). data_from end (reading parts wanted line name part width all_rows) (numbered (n + 1 + length rows) more.0 (cut rest))) (append_assoc done (cells ∷ []) rows)
+          ∙ ap (λ (all_rows : List (List ℤ)). data_from end (reading parts wanted line name part width all_rows)
+          (numbered (n + 1 + length rows) more.0 (cut rest))) (append_assoc done (cells ∷ []) rows)
           ∙ ap (λ (k : ℕ). data_from end (reading parts wanted line name part width (done ++ (cells ∷ rows))) (numbered k more.0 (cut rest))) count,
     )
 
@@ -140,11 +143,13 @@ part_read end n at st name part grid rest closed short p is =
     let few = is.few in
     let narrow = is.narrow in
     let begins : text_of name part grid ++ rest ≡ line ++ 10 ∷ after = simp append_assoc in
-    let inner : list_all is_inner line ≡ true = header_inner name part rows grid.width (name_plain name short) (decimal_plain part (omega arith)) (decimal_plain rows (omega arith)) (decimal_plain grid.width (omega arith)) in
+    let inner : list_all is_inner line ≡ true = header_inner name part rows grid.width (name_plain name short) (decimal_plain part (omega arith))
+    (decimal_plain rows (omega arith)) (decimal_plain grid.width (omega arith)) in
     let lines : cut (text_of name part grid ++ rest) ≡ line ∷ cut after = ap cut begins ∙ cut_line line after inner in
     let some : is_bare line ≡ false = not_bare name (32 ∷ (decimal part ++ 32 ∷ (decimal rows ++ 32 ∷ (decimal grid.width ++ [])))) (name_plain name short) in
     let taken = header_taken st line h n closed some (heading_read name part rows grid.width short p few is.wide narrow) in
-    let more = rows_read end (n + 1) (at + length line + 1) (parts_of st) rows n name part grid.width [] grid.rows rest (omega arith) is.wide is.even is.small in (
+    let more =
+    rows_read end (n + 1) (at + length line + 1) (parts_of st) rows n name part grid.width [] grid.rows rest (omega arith) is.wide is.even is.small in (
       more.0,
       ap (λ (ls : List (List ℕ)). data_from end st (numbered n at ls)) lines
           ∙ refused_later end st (line_at n at line) (numbered (n + 1) (at + length line + 1) (cut after)) taken.0
@@ -180,7 +185,8 @@ values_read end n at st name k (grid ∷ values) rest closed short few are =
     let first = part_read end n at st name k grid after closed short (omega arith) (All-head IsPrintable grid values are) in
     let next : Loaded = with_part st n name k grid in
     let full : nat_lt (length grid.rows) (length grid.rows) ≡ false = grind (arith, nat_tests) in
-    let later_parts = values_read end (n + 1 + length grid.rows) first.0 next name (k + 1) values rest full short (omega arith) (All-tail IsPrintable grid values are) in
+    let later_parts =
+    values_read end (n + 1 + length grid.rows) first.0 next name (k + 1) values rest full short (omega arith) (All-tail IsPrintable grid values are) in
     record {
       number = later_parts.number;
       place = later_parts.place;
@@ -189,5 +195,6 @@ values_read end n at st name k (grid ∷ values) rest closed short few are =
       closed = later_parts.closed;
       parts = later_parts.parts ∙ append_assoc (parts_of st) (part_at n name k grid ∷ []) later_parts.new;
       made = (refl, refl, refl, later_parts.made);
-      read = ap (λ (text : List ℕ). data_from end st (numbered n at (cut text))) (append_assoc (text_of name k grid) (parts_text name (k + 1) values) rest) ∙ first.1 ∙ later_parts.read;
+      read = ap (λ (text : List ℕ). data_from end st (numbered n at (cut text))) (append_assoc (text_of name k grid) (parts_text name (k + 1) values) rest)
+          ∙ first.1 ∙ later_parts.read;
     }

@@ -44,11 +44,13 @@ printable shape grid w r fits is =
       small = All-weaker (All IsCell) (All IsSmall) (All-weaker IsCell IsSmall small_cell) grid.rows is.cells;
     }
 
-pub all_printable : (shape : Shape) (values : List Grid) → shape.width ≤ 65536 → shape.rows ≤ 65536 → list_all (is_loaded shape) values ≡ true → All IsValue values → All IsPrintable values
+pub all_printable : (shape : Shape) (values : List Grid) → shape.width ≤ 65536 → shape.rows ≤ 65536 → list_all (is_loaded shape) values ≡ true
+    → All IsValue values → All IsPrintable values
 all_printable shape [] w r fit are = All-nil IsPrintable
 all_printable shape (grid ∷ values) w r fit are =
     let parts = and_parts (is_loaded shape grid) (list_all (is_loaded shape) values) fit in
-    All-cons IsPrintable grid values (printable shape grid w r parts.0 (All-head IsValue grid values are)) (all_printable shape values w r parts.1 (All-tail IsValue grid values are))
+    All-cons IsPrintable grid values (printable shape grid w r parts.0 (All-head IsValue grid values are))
+    (all_printable shape values w r parts.1 (All-tail IsValue grid values are))
 
 -- ---- parts that were made of a variable's values
 
@@ -58,7 +60,8 @@ made_values name k (grid ∷ values) (part ∷ parts) made = ap₂ (λ (g : Grid
 made_values name k [] (part ∷ parts) made = absurd made
 made_values name k (grid ∷ values) [] made = absurd made
 
-no_rule : (v : Var) (k : ℕ) (part : Part) (grid : Grid) → part.name ≡ v.name → part.part ≡ k → part.value ≡ grid → is_loaded v.shape grid ≡ true → header_rule (want v k) (header_of part) ≡ None
+no_rule : (v : Var) (k : ℕ) (part : Part) (grid : Grid) → part.name ≡ v.name → part.part ≡ k → part.value ≡ grid → is_loaded v.shape grid ≡ true
+    → header_rule (want v k) (header_of part) ≡ None
 unfolding header_rule
 no_rule v k part grid name number value fits =
     let parts = and_parts (grid.width == v.shape.width) (nat_le (length grid.rows) v.shape.rows) fits in
@@ -105,20 +108,42 @@ with_loaded v values vars parts more count fit made is =
     let given : take v.parts (values ++ values_of more) ≡ values = take_at values (values_of more) v.parts count in
     let left : drop v.parts (values ++ values_of more) ≡ values_of more = drop_at values (values_of more) v.parts count in
     record {
-      sound = λ end. ap (λ (k : ℕ). first_fault end (wants v' 0 k ++ wanted vars) (parts ++ more)) (sym count) ∙ sound_parts end v' 0 values parts (wanted vars) more fit made ∙ is.sound end;
+      sound = λ end. ap (λ (k : ℕ). first_fault end (wants v' 0 k ++ wanted vars) (parts ++ more)) (sym count)
+          ∙ sound_parts end v' 0 values parts (wanted vars) more fit made ∙ is.sound end;
       same = ap (filled (v' ∷ vars)) all_values
           ∙ ap₂ (λ (taken rest : List Grid). record v { init = Loads taken } ∷ filled vars rest) given left
           ∙ ap (λ (later : List Var). v' ∷ later) is.same;
     }
 
-var_read : (end : ℕ) (v : Var) (init : Init) (vars : List Var) → is_short_name v.name ≡ true → is_var (record v { init = init }) ≡ true → is_filled (record v { init = init }) ≡ true → HasValues init
+var_read : (end : ℕ) (v : Var) (init : Init) (vars : List Var) → is_short_name v.name ≡ true → is_var (record v { init = init }) ≡ true
+    → is_filled (record v { init = init }) ≡ true → HasValues init
     → ReadsVars end vars → ReadsVars end (record v { init = init } ∷ vars)
 var_read end v (Fill number) vars short is full has later n at st closed =
     let r = later n at st closed in
-    record { number = r.number; place = r.place; state = r.state; new = r.new; closed = r.closed; parts = r.parts; made = with_var v (Fill number) vars r.new refl (λ values. refl) r.made; read = r.read }
+    record {
+      number = r.number;
+      place = r.place;
+      state = r.state;
+      new = r.new;
+      closed = r.closed;
+      parts = r.parts;
+      made =
+          with_var v (Fill number) vars r.new refl (λ values. refl) r.made;
+      read = r.read;
+    }
 var_read end v Iota vars short is full has later n at st closed =
     let r = later n at st closed in
-    record { number = r.number; place = r.place; state = r.state; new = r.new; closed = r.closed; parts = r.parts; made = with_var v Iota vars r.new refl (λ values. refl) r.made; read = r.read }
+    record {
+      number = r.number;
+      place = r.place;
+      state = r.state;
+      new = r.new;
+      closed = r.closed;
+      parts = r.parts;
+      made =
+          with_var v Iota vars r.new refl (λ values. refl) r.made;
+      read = r.read;
+    }
 var_read end v (Loads values) vars short is full has later n at st closed =
     let fits = and_parts (length values == v.parts) (list_all (is_loaded v.shape) values) full in
     let count : length values ≡ v.parts = grind (arith, nat_tests) in
@@ -135,12 +160,24 @@ var_read end v (Loads values) vars short is full has later n at st closed =
       closed = r.closed;
       parts = r.parts ∙ ap (λ (before : List Part). before ++ r.new) first.parts ∙ append_assoc (parts_of st) first.new r.new;
       made = with_loaded v values vars first.new r.new count fits.1 first.made r.made;
-      read = ap (λ (text : List ℕ). data_from end st (numbered n at (cut text))) (append_assoc (parts_text v.name 0 values) (printed vars) []) ∙ first.read ∙ r.read;
+      read = ap (λ (text : List ℕ). data_from end st (numbered n at (cut text))) (append_assoc (parts_text v.name 0 values) (printed vars) []) ∙ first.read
+          ∙ r.read;
     }
 
-vars_read : (end : ℕ) (vars : List Var) → list_all has_name vars ≡ true → list_all is_var vars ≡ true → list_all is_filled vars ≡ true → All (λ (v : Var). HasValues v.init) vars → ReadsVars end vars
+vars_read : (end : ℕ) (vars : List Var) → list_all has_name vars ≡ true → list_all is_var vars ≡ true → list_all is_filled vars ≡ true
+    → All (λ (v : Var). HasValues v.init) vars → ReadsVars end vars
 vars_read end [] names are full have = λ n at st closed.
-    record { number = n; place = at; state = st; new = []; closed = closed; parts = sym (append-nil (parts_of st)); made = record { sound = λ last. refl; same = refl }; read = refl }
+    record {
+      number = n;
+      place = at;
+      state = st;
+      new = [];
+      closed = closed;
+      parts = sym (append-nil (parts_of st));
+      made =
+          record { sound = λ last. refl; same = refl };
+      read = refl;
+    }
 vars_read end (v ∷ vars) names are full have =
     let n = and_parts (has_name v) (list_all has_name vars) names in
     let a = and_parts (is_var v) (list_all is_var vars) are in
@@ -150,12 +187,14 @@ vars_read end (v ∷ vars) names are full have =
 
 -- ---- jobs
 
-whole_data : (bytes : List ℕ) (parts : List Part) → length bytes ≤ 33554432 → data_from (line_count bytes + 1) none_loaded (lines_of bytes) ≡ Ok parts → data_of bytes ≡ Ok parts
+whole_data : (bytes : List ℕ) (parts : List Part) → length bytes ≤ 33554432 → data_from (line_count bytes + 1) none_loaded (lines_of bytes) ≡ Ok parts
+    → data_of bytes ≡ Ok parts
 whole_data bytes parts few read =
     let short : nat_lt 33554432 (length bytes) ≡ false = grind (arith, nat_tests) in
     rw short read
 
-pub printed_loaded : (job : Job) → is_whole job ≡ true → list_all has_name job.vars ≡ true → All (λ (v : Var). HasValues v.init) job.vars → length (printed job.vars) ≤ 33554432
+pub printed_loaded : (job : Job) → is_whole job ≡ true → list_all has_name job.vars ≡ true → All (λ (v : Var). HasValues v.init) job.vars
+    → length (printed job.vars) ≤ 33554432
     → (data_refusal job (printed job.vars) ≡ None) × (loaded job (printed job.vars) ≡ job)
 printed_loaded job whole names have few =
     let bytes = printed job.vars in

@@ -27,7 +27,11 @@ cells_next found [] small = ap Some (sym (append-nil found))
 cells_next found (x ∷ cells) small =
     let here : IsSmall x = All-head IsSmall x cells small in
     let rest = flat_map later cells in
-    rw (word_next (signed_decimal x) rest (cell_plain x here) (ends_later cells), behind_next (signed_decimal x) rest (cell_plain x here) (ends_later cells), cell_read x here)
+    rw (
+      word_next (signed_decimal x) rest (cell_plain x here) (ends_later cells),
+      behind_next (signed_decimal x) rest (cell_plain x here) (ends_later cells),
+      cell_read x here,
+    )
     (cells_next (found ++ x ∷ []) cells (All-tail IsSmall x cells small) ∙ ap Some (append_assoc found (x ∷ []) cells))
 
 pub row_read : (cells : List ℤ) → 1 ≤ length cells → All IsSmall cells → row (length cells) (join_with_byte 32 (map signed_decimal cells)) ≡ Some cells
@@ -37,12 +41,18 @@ row_read (x ∷ cells) wide small =
     let here : IsSmall x = All-head IsSmall x cells small in
     let rest = flat_map later cells in
     ap (row (length (x ∷ cells))) (joined x cells)
-    ∙ (rw (word_first (signed_decimal x) rest (cell_plain x here) (ends_later cells), behind_first (signed_decimal x) rest (cell_plain x here) (ends_later cells), cell_read x here)
+    ∙ (rw (
+      word_first (signed_decimal x) rest (cell_plain x here) (ends_later cells),
+      behind_first (signed_decimal x) rest (cell_plain x here)
+          (ends_later cells),
+      cell_read x here,
+    )
     (cells_next (x ∷ []) cells (All-tail IsSmall x cells small)))
 
 pub row_some : (cells : List ℤ) → 1 ≤ length cells → All IsSmall cells → is_bare (join_with_byte 32 (map signed_decimal cells)) ≡ false
 row_some [] wide small = absurd (omega arith)
-row_some (x ∷ cells) wide small = ap is_bare (joined x cells) ∙ not_bare (signed_decimal x) (flat_map later cells) (cell_plain x (All-head IsSmall x cells small))
+row_some (x ∷ cells) wide small =
+    ap is_bare (joined x cells) ∙ not_bare (signed_decimal x) (flat_map later cells) (cell_plain x (All-head IsSmall x cells small))
 
 -- ---- headers
 

@@ -49,7 +49,15 @@ row_size (x ∷ cells) wide small =
     let here = cell_size x (All-head IsSmall x cells small) in
     let rest = later_size cells (All-tail IsSmall x cells small) in
     let line = ap (λ (text : List ℕ). length text) (joined x cells) in
-    omega (arith, here, rest, line, length-append (signed_decimal x) (flat_map later cells), length-append (join_with_byte 32 (map signed_decimal (x ∷ cells))) (10 ∷ []))
+    omega (
+      arith,
+      here,
+      rest,
+      line,
+      length-append (signed_decimal x) (flat_map later cells),
+      length-append (join_with_byte 32 (map signed_decimal (x ∷ cells)))
+          (10 ∷ []),
+    )
 
 rows_size : (width : ℕ) (rows : List (List ℤ)) → 1 ≤ width → All (λ (cells : List ℤ). length cells ≡ width) rows → All (All IsSmall) rows
     → length (flat_map row_text rows) ≤ 21 * (width * length rows)
@@ -102,7 +110,8 @@ part_size name part grid shape short p is fits =
       length-append (decimal grid.width) (10 ∷ []),
     )
 
-values_size : (name : Word) (k : ℕ) (values : List Grid) (shape : Shape) → is_short_name name ≡ true → k + length values ≤ 64 → All IsPrintable values → list_all (is_loaded shape) values ≡ true
+values_size : (name : Word) (k : ℕ) (values : List Grid) (shape : Shape) → is_short_name name ≡ true → k + length values ≤ 64 → All IsPrintable values
+    → list_all (is_loaded shape) values ≡ true
     → length (parts_text name k values) ≤ length values * 32 + 21 * (length values * (shape.width * shape.rows))
 values_size name k [] shape short few are fit = omega arith
 values_size name k (grid ∷ values) shape short few are fit =
@@ -113,7 +122,8 @@ values_size name k (grid ∷ values) shape short few are fit =
 
 -- ---- variables
 
-var_size : (v : Var) (init : Init) → is_short_name v.name ≡ true → is_var (record v { init = init }) ≡ true → is_filled (record v { init = init }) ≡ true → HasValues init
+var_size : (v : Var) (init : Init) → is_short_name v.name ≡ true → is_var (record v { init = init }) ≡ true → is_filled (record v { init = init }) ≡ true
+    → HasValues init
     → length (printed_by v.name init) ≤ v.parts * 32 + 21 * cells_in v
 var_size v (Fill number) short is full has = omega arith
 var_size v Iota short is full has = omega arith
@@ -125,7 +135,8 @@ var_size v (Loaded values) short is full has =
     let rows : v.shape.rows ≤ 65536 = grind (arith, nat_tests) in
     rw (← count) (values_size v.name 0 values v.shape short (omega arith) (all_printable v.shape values width rows fits.1 has) fits.1)
 
-vars_size : (vars : List Var) → list_all has_name vars ≡ true → list_all is_var vars ≡ true → list_all is_filled vars ≡ true → All (λ (v : Var). HasValues v.init) vars
+vars_size : (vars : List Var) → list_all has_name vars ≡ true → list_all is_var vars ≡ true → list_all is_filled vars ≡ true
+    → All (λ (v : Var). HasValues v.init) vars
     → length (printed vars) ≤ objects_of vars * 32 + 21 * sum_by cells_in vars
 vars_size [] names are full have = omega arith
 vars_size (v ∷ vars) names are full have =
@@ -136,7 +147,8 @@ vars_size (v ∷ vars) names are full have =
     let rest = vars_size vars n.1 a.1 f.1 (All-tail (λ (w : Var). HasValues w.init) v vars have) in
     omega (arith, here, rest, sum_by-cons (λ (w : Var). w.parts) v vars, sum_by-cons cells_in v vars, length-append (printed_by v.name v.init) (printed vars))
 
-pub printed_short : (job : Job) → is_whole job ≡ true → list_all has_name job.vars ≡ true → All (λ (v : Var). HasValues v.init) job.vars → length (printed job.vars) ≤ 33554432
+pub printed_short : (job : Job) → is_whole job ≡ true → list_all has_name job.vars ≡ true → All (λ (v : Var). HasValues v.init) job.vars
+    → length (printed job.vars) ≤ 33554432
 printed_short job whole names have =
     let are : are_vars job.vars ≡ true = whole_vars job whole in
     let sizes = vars_sizes job.vars are in

@@ -33,11 +33,13 @@ refusal_first o p (Some refusal) is = rw is refl
 
 pub blocks_step : (vars : List Var) (blocks : List Block) (at : ℕ) (d : Block) → at < length blocks
     → first_refusal (block_sites vars (take at blocks) (drop at blocks))
-    ≡ option_or (first_refusal (block_site vars (take at blocks) (get_or blocks at d))) (first_refusal (block_sites vars (take (at + 1) blocks) (drop (at + 1) blocks)))
+    ≡ option_or (first_refusal (block_site vars (take at blocks) (get_or blocks at d)))
+    (first_refusal (block_sites vars (take (at + 1) blocks) (drop (at + 1) blocks)))
 blocks_step vars blocks at d within =
     at_drop_more (λ rest. first_refusal (block_sites vars (take at blocks) rest)) blocks at d within
     ∙ joined (block_site vars (take at blocks) (get_or blocks at d)) (block_sites vars (take at blocks ++ get_or blocks at d ∷ []) (drop (at + 1) blocks))
-    ∙ ap (λ before. option_or (first_refusal (block_site vars (take at blocks) (get_or blocks at d))) (first_refusal (block_sites vars before (drop (at + 1) blocks)))) (sym (take_more blocks at d within))
+    ∙ ap (λ before. option_or (first_refusal (block_site vars (take at blocks) (get_or blocks at d)))
+    (first_refusal (block_sites vars before (drop (at + 1) blocks)))) (sym (take_more blocks at d within))
 
 pub statements_step : (tree : Sections) (past : Past) (lines : List Line) (at : ℕ) (d : Line) → at < length lines
     → first_refusal (statement_sites tree past (drop at lines))
@@ -48,16 +50,19 @@ pub blocks_here : (vars : List Var) (blocks : List Block) (at : ℕ) (block : Bl
     → Tells (first_refusal (block_site vars (take at blocks) block)) one → Tells (first_refusal (block_sites vars (take at blocks) (drop at blocks))) one
 blocks_here vars blocks at block one within is refused =
     subst (λ o. Tells o one)
-    (ap (λ b. option_or (first_refusal (block_site vars (take at blocks) b)) (first_refusal (block_sites vars (take (at + 1) blocks) (drop (at + 1) blocks)))) is
+    (ap (λ b. option_or (first_refusal (block_site vars (take at blocks) b)) (first_refusal (block_sites vars (take (at + 1) blocks) (drop (at + 1) blocks))))
+    is
     ∙ sym (blocks_step vars blocks at block within))
-    (refusal_first (first_refusal (block_site vars (take at blocks) block)) (first_refusal (block_sites vars (take (at + 1) blocks) (drop (at + 1) blocks))) one refused)
+    (refusal_first (first_refusal (block_site vars (take at blocks) block)) (first_refusal (block_sites vars (take (at + 1) blocks) (drop (at + 1) blocks))) one
+    refused)
 
 pub blocks_later : (vars : List Var) (blocks : List Block) (at : ℕ) (block : Block) → at < length blocks → block ≡ get_or blocks at block
     → first_refusal (block_site vars (take at blocks) block) ≡ None
     → first_refusal (block_sites vars (take at blocks) (drop at blocks)) ≡ first_refusal (block_sites vars (take (at + 1) blocks) (drop (at + 1) blocks))
 blocks_later vars blocks at block within is sound =
     blocks_step vars blocks at block within
-    ∙ ap (λ b. option_or (first_refusal (block_site vars (take at blocks) b)) (first_refusal (block_sites vars (take (at + 1) blocks) (drop (at + 1) blocks)))) (sym is)
+    ∙ ap (λ b. option_or (first_refusal (block_site vars (take at blocks) b)) (first_refusal (block_sites vars (take (at + 1) blocks) (drop (at + 1) blocks))))
+    (sym is)
     ∙ ap (λ o. option_or o (first_refusal (block_sites vars (take (at + 1) blocks) (drop (at + 1) blocks)))) sound
 
 pub statements_later : (tree : Sections) (past : Past) (lines : List Line) (at : ℕ) (line : Line) → at < length lines → line ≡ get_or lines at line
@@ -87,10 +92,12 @@ kinds tree =
 pub refused_second : (o p q : Option Refusal) (one : Option Refusal) → o ≡ None → Tells p one → Tells (option_or o (option_or p q)) one
 refused_second o p q one none is = rw none (refusal_first p q one is)
 
-pub refused_third : (o p q r : Option Refusal) (one : Option Refusal) → o ≡ None → p ≡ None → Tells q one → Tells (option_or o (option_or p (option_or q r))) one
+pub refused_third : (o p q r : Option Refusal) (one : Option Refusal) → o ≡ None → p ≡ None → Tells q one
+    → Tells (option_or o (option_or p (option_or q r))) one
 refused_third o p q r one none no_more is = rw (none, no_more) (refusal_first q r one is)
 
-pub refused_fourth : (o p q r : Option Refusal) (one : Option Refusal) → o ≡ None → p ≡ None → q ≡ None → Tells r one → Tells (option_or o (option_or p (option_or q r))) one
+pub refused_fourth : (o p q r : Option Refusal) (one : Option Refusal) → o ≡ None → p ≡ None → q ≡ None → Tells r one
+    → Tells (option_or o (option_or p (option_or q r))) one
 refused_fourth o p q r one none no_more nor is = rw (none, no_more, nor) is
 
 pub none_refused : (o p q r : Option Refusal) → o ≡ None → p ≡ None → q ≡ None → r ≡ None → option_or o (option_or p (option_or q r)) ≡ None

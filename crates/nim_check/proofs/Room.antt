@@ -21,8 +21,11 @@ sum_more : (f : job_var → ℕ) (vars : List Var) (v : Var) → sum_by f (map v
 sum_more f vars v = ap (sum_by f) (map_push var_of vars v) ∙ sum_push f (map var_of vars) (var_of v)
 
 pub few_more : (vars : List Var) (v : Var) → are_few (map var_of (vars ++ v ∷ []))
-    ≡ (nat_le (length vars + 1) 32 && nat_le (objects_of (map var_of vars) + v.parts) 512 && nat_le (sum_by cells_in (map var_of vars) + v.parts * (v.width * v.rows)) 1048576)
+    ≡ (nat_le (length vars + 1) 32 && nat_le (objects_of (map var_of vars) + v.parts) 512
+    && nat_le (sum_by cells_in (map var_of vars) + v.parts * (v.width * v.rows)) 1048576)
 few_more vars v =
-    ap (λ n. nat_le n 32 && nat_le (objects_of (map var_of (vars ++ v ∷ []))) 512 && nat_le (sum_by cells_in (map var_of (vars ++ v ∷ []))) 1048576) (length_more vars v)
-    ∙ ap (λ n. nat_le (length vars + 1) 32 && nat_le n 512 && nat_le (sum_by cells_in (map var_of (vars ++ v ∷ []))) 1048576) (sum_more (λ (w : job_var). w.parts) vars v)
+    ap (λ n. nat_le n 32 && nat_le (objects_of (map var_of (vars ++ v ∷ []))) 512 && nat_le (sum_by cells_in (map var_of (vars ++ v ∷ []))) 1048576)
+    (length_more vars v)
+    ∙ ap (λ n. nat_le (length vars + 1) 32 && nat_le n 512 && nat_le (sum_by cells_in (map var_of (vars ++ v ∷ []))) 1048576)
+    (sum_more (λ (w : job_var). w.parts) vars v)
     ∙ ap (λ n. nat_le (length vars + 1) 32 && nat_le (objects_of (map var_of vars) + v.parts) 512 && nat_le n 1048576) (sum_more cells_in vars v)

@@ -73,8 +73,10 @@ vars_by count objects cells all = nat_le count 32 && nat_le objects 512 && nat_l
 
 same_vars : (vars : List Var) (values : List Grid) → are_vars (filled vars values) ≡ are_vars vars
 same_vars vars values =
-    ap (λ (n : ℕ). vars_by n (objects_of (filled vars values)) (sum_by cells_in (filled vars values)) (list_all is_var (filled vars values))) (same_length vars values)
-    ∙ ap (λ (n : ℕ). vars_by (length vars) n (sum_by cells_in (filled vars values)) (list_all is_var (filled vars values))) (same_sum (λ (v : Var). v.parts) keeps_parts vars values)
+    ap (λ (n : ℕ). vars_by n (objects_of (filled vars values)) (sum_by cells_in (filled vars values)) (list_all is_var (filled vars values)))
+    (same_length vars values)
+    ∙ ap (λ (n : ℕ). vars_by (length vars) n (sum_by cells_in (filled vars values)) (list_all is_var (filled vars values)))
+    (same_sum (λ (v : Var). v.parts) keeps_parts vars values)
     ∙ ap (λ (n : ℕ). vars_by (length vars) (objects_of vars) n (list_all is_var (filled vars values))) (same_sum cells_in keeps_cells vars values)
     ∙ ap (λ (all : Bool). vars_by (length vars) (objects_of vars) (sum_by cells_in vars) all) (same_all is_var keeps_var vars values)
 
@@ -82,7 +84,8 @@ same_vars vars values =
 
 same_object : (vars : List Var) (values : List Grid) → object_meant (filled vars values) ≡ object_meant vars
 same_object vars values = fun_ext (λ i. fun_ext (λ ref.
-    ap₂ (λ (first parts : ℕ). record { 0 = first + part_of ref.place i parts }) (same_sum_before (λ (v : Var). v.parts) keeps_parts vars values ref.var) (same_parts vars values ref.var)))
+    ap₂ (λ (first parts : ℕ). record { 0 = first + part_of ref.place i parts }) (same_sum_before (λ (v : Var). v.parts) keeps_parts vars values ref.var)
+    (same_parts vars values ref.var)))
 
 same_turns : (vars : List Var) (values : List Grid) → task_count (filled vars values) ≡ task_count vars
 same_turns vars values = fun_ext (λ stage.
@@ -135,6 +138,8 @@ checked_by job are is scalars = is_between 1 1000000 job.steps && are && nat_le 
 
 pub same_checked : (job : Job) (values : List Grid) → is_checked (record job { vars = filled job.vars values }) ≡ is_checked job
 same_checked job values =
-    ap (λ (are : Bool). checked_by job are (is_block (filled job.vars values)) (scalars_of (record job { vars = filled job.vars values }))) (same_vars job.vars values)
+    ap (λ (are : Bool). checked_by job are (is_block (filled job.vars values)) (scalars_of (record job { vars = filled job.vars values })))
+    (same_vars job.vars values)
     ∙ ap (λ (is : Block → Bool). checked_by job (are_vars job.vars) is (scalars_of (record job { vars = filled job.vars values }))) (same_block job.vars values)
-    ∙ ap (λ (scalars : Option ℕ). checked_by job (are_vars job.vars) (is_block job.vars) scalars) (same_scalars job (filled job.vars values) (same_length job.vars values))
+    ∙ ap (λ (scalars : Option ℕ). checked_by job (are_vars job.vars) (is_block job.vars) scalars)
+    (same_scalars job (filled job.vars values) (same_length job.vars values))

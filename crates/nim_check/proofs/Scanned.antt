@@ -19,13 +19,15 @@ use Rattle.nim_check.specs.Rules.{opens}
 
 -- ---- one statement's scan
 
-pub do_scan : (job : Job) (block : ℕ) (args : List job_atom) (d n : ℕ) → (is_call job block (length args) && list_all (is_atom n) args) ≡ true → scan_of job (stmt.Do block args) d n ≡ Some n
+pub do_scan : (job : Job) (block : ℕ) (args : List job_atom) (d n : ℕ) → (is_call job block (length args) && list_all (is_atom n) args) ≡ true
+    → scan_of job (stmt.Do block args) d n ≡ Some n
 do_scan job block args d n is =
     ap (λ (s : Stmt). scan_of job s d n) (sym (stmt.rolls-Do block args))
     ∙ ap (λ (scan : Scan). scan d n) (fold-roll-Stmt Scan (scan_stmt job) (Stmt-F.Do block args))
     ∙ cond-true _ (Some n) None is
 
-pub let_scan : (job : Job) (s : ℕ) (first : job_atom) (rest : Option (Arith × job_atom)) (d n : ℕ) → (is_atom n first && is_rest n rest) ≡ true → scan_of job (stmt.Let s first rest) d n ≡ set_at n s
+pub let_scan : (job : Job) (s : ℕ) (first : job_atom) (rest : Option (Arith × job_atom)) (d n : ℕ) → (is_atom n first && is_rest n rest) ≡ true
+    → scan_of job (stmt.Let s first rest) d n ≡ set_at n s
 let_scan job s first rest d n is =
     ap (λ (t : Stmt). scan_of job t d n) (sym (stmt.rolls-Let s first rest))
     ∙ ap (λ (scan : Scan). scan d n) (fold-roll-Stmt Scan (scan_stmt job) (Stmt-F.Let s first rest))
@@ -50,7 +52,8 @@ output_scan job var d n is =
 
 -- what a body's scan is where it isn't too deep
 body_scan : (job : Job) (body : List Stmt) (d n : ℕ) → nat_lt d 16 ≡ true → scan_body (map (scan_of job) body) d n ≡ scan_all (map (scan_of job) body) (suc d) n
-body_scan job body d n few = cond-true (nat_lt d 16) (scan_all (map (scan_of job) body) (d + 1) n) None few ∙ ap (λ e. scan_all (map (scan_of job) body) e n) (add-one d)
+body_scan job body d n few =
+    cond-true (nat_lt d 16) (scan_all (map (scan_of job) body) (d + 1) n) None few ∙ ap (λ e. scan_all (map (scan_of job) body) e n) (add-one d)
 
 pub loop_scan : (job : Job) (turns : job_atom) (body : List Stmt) (d n : ℕ) → is_atom n turns ≡ true → nat_lt d 16 ≡ true
     → scan_of job (stmt.Loop turns body) d n ≡ scan_all (map (scan_of job) body) (suc d) n
@@ -75,7 +78,8 @@ two_scans job first second d n few =
     ap (option_and_then (λ m. scan_body (map (scan_of job) second) d m)) (body_scan job first d n few)
     ∙ each (scan_all (map (scan_of job) first) (suc d) n)
   where
-    each : (o : Option ℕ) → option_and_then (λ m. scan_body (map (scan_of job) second) d m) o ≡ option_and_then (λ m. scan_all (map (scan_of job) second) (suc d) m) o
+    each : (o : Option ℕ) → option_and_then (λ m. scan_body (map (scan_of job) second) d m) o
+        ≡ option_and_then (λ m. scan_all (map (scan_of job) second) (suc d) m) o
     each None = refl
     each (Some m) = body_scan job second d m few
 
@@ -94,7 +98,8 @@ if_scan job test first second d n is few =
 abbrev pub scan_bodies : Job → List Body → ℕ → Option ℕ
 scan_bodies job [] n = Some n
 scan_bodies job (b ∷ bs) n =
-    option_and_then (λ m. option_and_then (scan_bodies job bs) (scan_all (map (scan_of job) b.second) (length bs) m)) (scan_all (map (scan_of job) b.first) (length bs) n)
+    option_and_then (λ m. option_and_then (scan_bodies job bs) (scan_all (map (scan_of job) b.second) (length bs) m))
+    (scan_all (map (scan_of job) b.first) (length bs) n)
 
 -- a body for each that is open, and the driver's own; a second part only where an `if` without its `else` is open
 abbrev pub Fits : List Open → List Body → Type 0

@@ -20,11 +20,13 @@ use Rattle.nim_check.specs.Rules.{is_known, is_own, refs_of}
 
 pub all_refs : {X : Type 0} (p : X → Bool) (xs ys : List X) → list_all p (xs ++ ys) ≡ (list_all p xs && list_all p ys)
 all_refs p [] ys = refl
-all_refs p (x ∷ xs) ys = elim (p x) as (λ (b : Bool). (b && list_all p (xs ++ ys)) ≡ ((b && list_all p xs) && list_all p ys)) [ true ↦ all_refs p xs ys | false ↦ refl ]
+all_refs p (x ∷ xs) ys =
+    elim (p x) as (λ (b : Bool). (b && list_all p (xs ++ ys)) ≡ ((b && list_all p xs) && list_all p ys)) [ true ↦ all_refs p xs ys | false ↦ refl ]
 
 pub any_refs : {X : Type 0} (p : X → Bool) (xs ys : List X) → list_any p (xs ++ ys) ≡ (list_any p xs || list_any p ys)
 any_refs p [] ys = refl
-any_refs p (x ∷ xs) ys = elim (p x) as (λ (b : Bool). (b || list_any p (xs ++ ys)) ≡ ((b || list_any p xs) || list_any p ys)) [ true ↦ refl | false ↦ any_refs p xs ys ]
+any_refs p (x ∷ xs) ys =
+    elim (p x) as (λ (b : Bool). (b || list_any p (xs ++ ys)) ≡ ((b || list_any p xs) || list_any p ys)) [ true ↦ refl | false ↦ any_refs p xs ys ]
 
 -- a test that isn't needed, of one or of another
 or_parts : (a b : Bool) → (a || b) ≡ false → (a ≡ false) × (b ≡ false)
@@ -51,13 +53,15 @@ name_whole vars word is =
     ap (λ n. nat_lt (place_in (var_names vars) word) n) (length-map vars var_of ∙ sym (length-map vars (λ (v : Var). v.name))) ∙ is
 
 refs_whole : (vars : List Var) (each : Bool) (refs : List Ref) → list_all (λ (ref : Ref). is_in (var_names vars) ref.name) refs ≡ true
-    → (not each && list_any (λ (ref : Ref). is_own ref.index) refs) ≡ false → list_all (is_ref (map var_of vars) each) (map (ref_of (var_names vars)) refs) ≡ true
+    → (not each && list_any (λ (ref : Ref). is_own ref.index) refs) ≡ false
+    → list_all (is_ref (map var_of vars) each) (map (ref_of (var_names vars)) refs) ≡ true
 refs_whole vars each [] named own = refl
 refs_whole vars each (ref ∷ refs) named own =
     let names = and_parts (is_in (var_names vars) ref.name) (list_all (λ (r : Ref). is_in (var_names vars) r.name) refs) named in
     let owns = own_parts each (is_own ref.index) (list_any (λ (r : Ref). is_own r.index) refs) own in
     and_from (is_ref (map var_of vars) each (ref_of (var_names vars) ref)) (list_all (is_ref (map var_of vars) each) (map (ref_of (var_names vars)) refs))
-    (and_from (nat_lt (place_in (var_names vars) ref.name) (length (map var_of vars))) (is_place each (place_of ref.index)) (name_whole vars ref.name names.0) (own_whole each ref.index owns.0))
+    (and_from (nat_lt (place_in (var_names vars) ref.name) (length (map var_of vars))) (is_place each (place_of ref.index)) (name_whole vars ref.name names.0)
+    (own_whole each ref.index owns.0))
     (refs_whole vars each refs names.1 owns.1)
 
 -- what rules 47 and 48 ask of a stage
@@ -69,7 +73,8 @@ owned stage refs = not stage.each && list_any (λ (ref : Ref). is_own ref.index)
 
 both_named : (vars : List Var) (stage : Stage) → named vars (refs_of stage) ≡ true → (named vars stage.reads ≡ true) × (named vars stage.writes ≡ true)
 both_named vars stage all =
-    and_parts (named vars stage.reads) (named vars stage.writes) (sym (all_refs (λ (ref : Ref). is_in (var_names vars) ref.name) stage.reads stage.writes) ∙ all)
+    and_parts (named vars stage.reads) (named vars stage.writes) (sym (all_refs (λ (ref : Ref). is_in (var_names vars) ref.name) stage.reads stage.writes)
+    ∙ all)
 
 both_owned : (stage : Stage) → owned stage (refs_of stage) ≡ false → (owned stage stage.reads ≡ false) × (owned stage stage.writes ≡ false)
 both_owned stage none =
@@ -84,16 +89,20 @@ reads_whole : (vars : List Var) (stage : Stage) → named vars (refs_of stage) �
     → list_all (is_ref (map var_of vars) stage.each) (map (ref_of (var_names vars)) stage.reads) ≡ true
 reads_whole vars stage all none = refs_whole vars stage.each stage.reads (both_named vars stage all).0 (both_owned stage none).0
 
-params_whole : (args : List Word) (atoms : List Atom) → list_all (is_known args) atoms ≡ true → list_all (is_param (length args)) (map (param_of args) atoms) ≡ true
+params_whole : (args : List Word) (atoms : List Atom) → list_all (is_known args) atoms ≡ true
+    → list_all (is_param (length args)) (map (param_of args) atoms) ≡ true
 params_whole args [] all = refl
 params_whole args (Number n ∷ atoms) all = params_whole args atoms all
 params_whole args (Name w ∷ atoms) all =
     let parts = and_parts (is_in args w) (list_all (is_known args) atoms) all in
     and_from (nat_lt (place_in args w) (length args)) (list_all (is_param (length args)) (map (param_of args) atoms)) parts.0 (params_whole args atoms parts.1)
 
-counts_whole : (vars args : List Word) (stage : Stage) → has_counts (unwrap_or (func_of stage.function) func.Set) (length stage.parameters) (length stage.reads) (length stage.writes) ≡ true
-    → has_counts (stage_of vars args stage).func (length (map (param_of args) stage.parameters)) (length (map (ref_of vars) stage.reads)) (length (map (ref_of vars) stage.writes)) ≡ true
-counts_whole vars args stage counts = rw (length-map stage.parameters (param_of args), length-map stage.reads (ref_of vars), length-map stage.writes (ref_of vars)) counts
+counts_whole : (vars args : List Word) (stage : Stage) → has_counts (unwrap_or (func_of stage.function) func.Set) (length stage.parameters) (length stage.reads)
+    (length stage.writes) ≡ true
+    → has_counts (stage_of vars args stage).func (length (map (param_of args) stage.parameters)) (length (map (ref_of vars) stage.reads))
+    (length (map (ref_of vars) stage.writes)) ≡ true
+counts_whole vars args stage counts =
+    rw (length-map stage.parameters (param_of args), length-map stage.reads (ref_of vars), length-map stage.writes (ref_of vars)) counts
 
 -- a stage that no rule refuses is whole
 pub stage_whole : (vars : List Var) (args : List Word) (stage : Stage)

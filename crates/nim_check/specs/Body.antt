@@ -1,4 +1,5 @@
--- The statements of a job, from the lines that they stand on. They are put together from the last line on: an `end` then
+-- The statements of a job, from the lines that they stand on. They are put together from the last line on: an `end`
+-- then
 -- begins a body, and the line that opened it takes the body in.
 use Rattle.std.specs.Prelude.{◌≤◌, pos, length, reverse, List, [], ◌∷◌, map, Option, None, Some}
 use Rattle.nim_job.specs.declared.stmt.Arith.{Arith}
@@ -58,7 +59,8 @@ cmp_of AtLeast = cmp.AtLeast
 -- an atom alone holds where it isn't 0
 abbrev pub cond_of : Names → Condition → Cond
 cond_of names (NotZero atom) = record { left = atom_of names atom; cmp = cmp.Differs; right = Const (pos 0) }
-cond_of names (Holds left relation right) = record { left = atom_of names left; cmp = cmp_of relation; right = atom_of names right }
+cond_of names (Holds left relation right) =
+    record { left = atom_of names left; cmp = cmp_of relation; right = atom_of names right }
 
 -- the atom that the value of a `let` begins with
 abbrev pub first_of : Names → Expression → job_atom
@@ -96,8 +98,10 @@ parted (body ∷ bodies) = record { first = []; second = body.first } ∷ bodies
 
 -- the bodies with one more line before them
 abbrev pub with_line : Names → Statement → List Body → List Body
-with_line names (Do block arguments) bodies = onto (stmt.Do (place_in names.blocks block) (map (atom_of names) arguments)) bodies
-with_line names (Let name value) bodies = onto (stmt.Let (place_in names.scalars name) (first_of names value) (rest_of names value)) bodies
+with_line names (Do block arguments) bodies =
+    onto (stmt.Do (place_in names.blocks block) (map (atom_of names) arguments)) bodies
+with_line names (Let name value) bodies =
+    onto (stmt.Let (place_in names.scalars name) (first_of names value) (rest_of names value)) bodies
 with_line names (Get name variable part row column) bodies =
     onto (stmt.Get (place_in names.scalars name) (place_in names.vars variable) part row column) bodies
 with_line names (Loop turns) bodies = opened (λ body. stmt.Loop (atom_of names turns) body.first) bodies

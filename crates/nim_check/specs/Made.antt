@@ -47,7 +47,13 @@ init_of Load = init.Loaded []
 
 -- a declared variable: its name, how many parts it has, their shape, and what they hold at first
 abbrev pub var_of : Var → job_var
-var_of v = record { name = text_of v.name; parts = v.parts; shape = record { width = v.width; rows = v.rows }; init = init_of v.init }
+var_of v = record {
+  name = text_of v.name;
+  parts = v.parts;
+  shape = record { width = v.width; rows = v.rows };
+  init =
+      init_of v.init;
+}
 
 -- the names of variables, in order of declaration
 abbrev pub var_names : List Var → List Word
@@ -85,11 +91,17 @@ stage_of vars args stage = record {
 
 -- a block by its name, how many arguments it has, and its stages
 abbrev pub block_of : List Word → Block → job_block
-block_of vars block = record { name = text_of block.name; args = length block.arguments; stages = map (stage_of vars block.arguments) block.stages }
+block_of vars block = record {
+  name = text_of block.name;
+  args = length block.arguments;
+  stages =
+      map (stage_of vars block.arguments) block.stages;
+}
 
 -- the names that statements may use, each at the place of its number
 abbrev pub names_of : Sections → Names
-names_of tree = record { vars = var_names tree.vars; blocks = block_names tree.blocks; scalars = scalars_of tree.statements }
+names_of tree =
+    record { vars = var_names tree.vars; blocks = block_names tree.blocks; scalars = scalars_of tree.statements }
 
 -- the most statements that are counted: what the `steps` line says, or the usual number without one
 abbrev pub steps_of : Option Steps → ℕ

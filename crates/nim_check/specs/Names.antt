@@ -24,15 +24,20 @@ has_twice (word ∷ words) = is_in words word || has_twice words
 -- the words of the language, which nothing that is declared or set may be called
 unfoldable pub reserved : List Word
 reserved =
-    codes "nimbus" ∷ codes "steps" ∷ codes "var" ∷ codes "block" ∷ codes "end" ∷ codes "else" ∷ codes "do" ∷ codes "let" ∷ codes "get"
-    ∷ codes "loop" ∷ codes "while" ∷ codes "if" ∷ codes "checkpoint" ∷ codes "output" ∷ codes "with" ∷ codes "each" ∷ codes "i" ∷ []
+    codes "nimbus" ∷ codes "steps" ∷ codes "var" ∷ codes "block" ∷ codes "end" ∷ codes "else" ∷ codes "do" ∷ codes "let"
+    ∷ codes "get"
+    ∷ codes "loop" ∷ codes "while" ∷ codes "if" ∷ codes "checkpoint" ∷ codes "output" ∷ codes "with" ∷ codes "each"
+    ∷ codes "i" ∷ []
 
 -- the functions by their names
 unfoldable pub functions : List (Word × Func)
 functions =
-    (codes "set", func.Set) ∷ (codes "copy", func.Copy) ∷ (codes "addc", func.Addc) ∷ (codes "mulc", func.Mulc) ∷ (codes "add", func.Add)
-    ∷ (codes "sub", func.Sub) ∷ (codes "max", func.Max) ∷ (codes "sum", func.Sum) ∷ (codes "total", func.Total) ∷ (codes "count", func.Count)
-    ∷ (codes "stencil", func.Stencil) ∷ (codes "keep", func.Keep) ∷ (codes "group", func.Group) ∷ (codes "merge", func.Merge) ∷ (codes "split", func.Split) ∷ []
+    (codes "set", func.Set) ∷ (codes "copy", func.Copy) ∷ (codes "addc", func.Addc) ∷ (codes "mulc", func.Mulc)
+    ∷ (codes "add", func.Add)
+    ∷ (codes "sub", func.Sub) ∷ (codes "max", func.Max) ∷ (codes "sum", func.Sum) ∷ (codes "total", func.Total)
+    ∷ (codes "count", func.Count)
+    ∷ (codes "stencil", func.Stencil) ∷ (codes "keep", func.Keep) ∷ (codes "group", func.Group)
+    ∷ (codes "merge", func.Merge) ∷ (codes "split", func.Split) ∷ []
 
 -- the function behind this name in a list, if the name stands there
 abbrev pub func_among : List (Word × Func) → Word → Option Func

@@ -46,7 +46,8 @@ in_file input refusal = record { input = input; refusal = refusal }
 -- why a driver and its data are refused, if they are: all phases of the driver come first
 abbrev pub refused : List ℕ → List ℕ → Option FileRefusal
 refused driver file =
-    option_or (option_map (in_file Driver) (driver_refusal driver)) (option_map (in_file Data) (data_refusal (job_of (tree_of driver)) file))
+    option_or (option_map (in_file Driver) (driver_refusal driver))
+    (option_map (in_file Data) (data_refusal (job_of (tree_of driver)) file))
 
 -- the job that a driver and its data stand for
 abbrev pub job_from : List ℕ → List ℕ → Job

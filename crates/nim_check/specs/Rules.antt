@@ -1,4 +1,5 @@
--- The rules on what a driver's lines say, by number. Each tells whether it refuses a line, which it knows with what stands
+-- The rules on what a driver's lines say, by number. Each tells whether it refuses a line, which it knows with what
+-- stands
 -- before it.
 use Rattle.std.specs.Prelude.{ℕ, ◌+◌, ◌==◌, Bool, true, false, not, ◌&&◌, ◌||◌, nat_le, nat_lt, if◌then◌else◌, is_none, List, [], ◌∷◌, ◌++◌, length, map, slice_get, Option, None, Some, unwrap_or}
 use Rattle.std.specs.List.{list_all, list_any, sum_by}
@@ -67,7 +68,8 @@ has_variable vars _ = true
 
 -- whether the block that a statement names is there, and takes so many arguments
 abbrev pub has_block : List Block → Statement → Bool
-has_block blocks (Do block arguments) = option_map_or (λ b. length arguments == length b.arguments) (slice_get blocks (place_in (block_names blocks) block)) false
+has_block blocks (Do block arguments) = option_map_or (λ b. length arguments == length b.arguments)
+    (slice_get blocks (place_in (block_names blocks) block)) false
 has_block blocks _ = true
 
 -- the atoms of the value of a `let`, one or two
@@ -110,7 +112,8 @@ rule_41 site = list_any (is_in reserved) (declared_by site)
 -- a variable or block whose name a variable or block has; an argument twice in one block
 abbrev pub rule_42 : Site → Bool
 rule_42 (at_var before v) = is_in (var_names before) v.name
-rule_42 (at_block vars before block) = is_in (var_names vars) block.name || is_in (block_names before) block.name || has_twice block.arguments
+rule_42 (at_block vars before block) =
+    is_in (var_names vars) block.name || is_in (block_names before) block.name || has_twice block.arguments
 rule_42 _ = false
 
 -- parts not 1 to 64; width or rows not 1 to 65,536; width times rows more than 65,536
@@ -133,23 +136,27 @@ rule_45 _ = false
 -- counts of reads, writes or parameters other than the function's
 abbrev pub rule_46 : Site → Bool
 rule_46 (at_stage vars block before stage) =
-    not (has_counts (unwrap_or (func_of stage.function) func.Set) (length stage.parameters) (length stage.reads) (length stage.writes))
+    not (has_counts (unwrap_or (func_of stage.function) func.Set) (length stage.parameters) (length stage.reads)
+    (length stage.writes))
 rule_46 _ = false
 
 -- a name that isn't a variable, in a reference, `get` or `output`
 abbrev pub rule_47 : Site → Bool
-rule_47 (at_stage vars block before stage) = not (list_all (λ (ref : Ref). is_in (var_names vars) ref.name) (refs_of stage))
+rule_47 (at_stage vars block before stage) =
+    not (list_all (λ (ref : Ref). is_in (var_names vars) ref.name) (refs_of stage))
 rule_47 (at_statement tree past line) = not (has_variable (var_names tree.vars) line.statement)
 rule_47 _ = false
 
 -- `i` in a reference of a stage without `each i`
 abbrev pub rule_48 : Site → Bool
-rule_48 (at_stage vars block before stage) = not stage.each && list_any (λ (ref : Ref). is_own ref.index) (refs_of stage)
+rule_48 (at_stage vars block before stage) =
+    not stage.each && list_any (λ (ref : Ref). is_own ref.index) (refs_of stage)
 rule_48 _ = false
 
 -- a task that writes one object twice
 abbrev pub rule_49 : Site → Bool
-rule_49 (at_stage vars block before stage) = not (has_distinct (map var_of vars) (stage_of (var_names vars) block.arguments stage))
+rule_49 (at_stage vars block before stage) =
+    not (has_distinct (map var_of vars) (stage_of (var_names vars) block.arguments stage))
 rule_49 _ = false
 
 -- a name after `with` that isn't an argument of the block
@@ -160,7 +167,8 @@ rule_50 _ = false
 -- with this line more than 1,024 tasks in the block
 abbrev pub rule_51 : Site → Bool
 rule_51 (at_stage vars block before stage) =
-    nat_lt 1024 (sum_by (task_count (map var_of vars)) (map (stage_of (var_names vars) block.arguments) (before ++ stage ∷ [])))
+    nat_lt 1024 (sum_by (task_count (map var_of vars))
+    (map (stage_of (var_names vars) block.arguments) (before ++ stage ∷ [])))
 rule_51 _ = false
 
 -- `do` of an unknown block or with another number of arguments

@@ -69,7 +69,8 @@ var_sites before (v ∷ vars) = at_var before v ∷ var_sites (before ++ v ∷ [
 -- the lines of a block's stages behind others, each with all those before it
 abbrev pub stage_sites : List Var → Block → List Stage → List Stage → List Site
 stage_sites vars block before [] = []
-stage_sites vars block before (stage ∷ stages) = at_stage vars block before stage ∷ stage_sites vars block (before ++ stage ∷ []) stages
+stage_sites vars block before (stage ∷ stages) =
+    at_stage vars block before stage ∷ stage_sites vars block (before ++ stage ∷ []) stages
 
 -- a block's head, and its stages
 abbrev pub block_site : List Var → List Block → Block → List Site
@@ -78,13 +79,16 @@ block_site vars before block = at_block vars before block ∷ stage_sites vars b
 -- the lines of blocks behind others, each block's own line with all blocks before it
 abbrev pub block_sites : List Var → List Block → List Block → List Site
 block_sites vars before [] = []
-block_sites vars before (block ∷ blocks) = block_site vars before block ++ block_sites vars (before ++ block ∷ []) blocks
+block_sites vars before (block ∷ blocks) =
+    block_site vars before block ++ block_sites vars (before ++ block ∷ []) blocks
 
 -- the lines of statements behind others, each with what those before it did
 abbrev pub statement_sites : Sections → Past → List Line → List Site
 statement_sites tree past [] = []
-statement_sites tree past (line ∷ lines) = at_statement tree past line ∷ statement_sites tree (past_with past line.statement) lines
+statement_sites tree past (line ∷ lines) =
+    at_statement tree past line ∷ statement_sites tree (past_with past line.statement) lines
 
 -- all lines of a tree
 abbrev pub sites_of : Sections → List Site
-sites_of tree = steps_sites tree.steps ++ (var_sites [] tree.vars ++ (block_sites tree.vars [] tree.blocks ++ statement_sites tree no_past tree.statements))
+sites_of tree = steps_sites tree.steps ++ (var_sites [] tree.vars
+    ++ (block_sites tree.vars [] tree.blocks ++ statement_sites tree no_past tree.statements))

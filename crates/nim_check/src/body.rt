@@ -164,7 +164,8 @@ fn put(bodies: &mut Vec<Held>, made: Stmt) -> Result<(), NoMemory>
 
 fn do_of(alloc: Global, names: &Names, block: &[u8], arguments: &[Atom]) -> Result<Stmt, NoMemory>
     requires { AreFew names.now }
-    ensures { IfOk result (λ made. made ≡ stmt.Do (spec_place names.now.blocks block.now) (map (spec.atom_of names.now) arguments.now)) }
+    ensures { IfOk result (λ made. made ≡ stmt.Do (spec_place names.now.blocks block.now)
+        (map (spec.atom_of names.now) arguments.now)) }
 {
     Ok(Stmt::Do {
         block: place_in(names.blocks.as_slice(), block) as u8,
@@ -174,7 +175,8 @@ fn do_of(alloc: Global, names: &Names, block: &[u8], arguments: &[Atom]) -> Resu
 
 fn let_of(names: &Names, name: &[u8], value: &Expression) -> Stmt
     requires { AreFew names.now }
-    ensures { result ≡ stmt.Let (spec_place names.now.scalars name.now) (spec.first_of names.now value.now) (spec.rest_of names.now value.now) }
+    ensures { result ≡ stmt.Let (spec_place names.now.scalars name.now) (spec.first_of names.now value.now)
+        (spec.rest_of names.now value.now) }
 {
     Stmt::Let {
         scalar: place_in(names.scalars.as_slice(), name) as u8,
@@ -186,7 +188,8 @@ fn let_of(names: &Names, name: &[u8], value: &Expression) -> Stmt
 /// A loop takes the innermost body in.
 fn open_loop(names: &Names, turns: &Atom, bodies: &mut Vec<Held>) -> Result<(), NoMemory>
     requires { AreFew names.now }
-    ensures { OnOk result (bodies_in bodies.new.items ≡ opened (λ body. stmt.Loop (spec.atom_of names.now turns.now) body.first) (bodies_in bodies.old.items)) }
+    ensures { OnOk result (bodies_in bodies.new.items
+        ≡ opened (λ body. stmt.Loop (spec.atom_of names.now turns.now) body.first) (bodies_in bodies.old.items)) }
 {
     match bodies.pop() {
         Some(Held { first, .. }) => {
@@ -203,7 +206,8 @@ fn open_loop(names: &Names, turns: &Atom, bodies: &mut Vec<Held>) -> Result<(), 
 /// A while takes the innermost body in.
 fn open_while(names: &Names, condition: &Condition, bodies: &mut Vec<Held>) -> Result<(), NoMemory>
     requires { AreFew names.now }
-    ensures { OnOk result (bodies_in bodies.new.items ≡ opened (λ body. stmt.While (spec.cond_of names.now condition.now) body.first) (bodies_in bodies.old.items)) }
+    ensures { OnOk result (bodies_in bodies.new.items
+        ≡ opened (λ body. stmt.While (spec.cond_of names.now condition.now) body.first) (bodies_in bodies.old.items)) }
 {
     match bodies.pop() {
         Some(Held { first, .. }) => {
@@ -220,7 +224,9 @@ fn open_while(names: &Names, condition: &Condition, bodies: &mut Vec<Held>) -> R
 /// An if takes both parts of the innermost body in.
 fn open_if(names: &Names, condition: &Condition, bodies: &mut Vec<Held>) -> Result<(), NoMemory>
     requires { AreFew names.now }
-    ensures { OnOk result (bodies_in bodies.new.items ≡ opened (λ body. stmt.If (spec.cond_of names.now condition.now) body.first body.second) (bodies_in bodies.old.items)) }
+    ensures { OnOk result (bodies_in bodies.new.items
+        ≡ opened (λ body. stmt.If (spec.cond_of names.now condition.now) body.first body.second)
+        (bodies_in bodies.old.items)) }
 {
     match bodies.pop() {
         Some(Held { first, second }) => {

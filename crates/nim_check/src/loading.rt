@@ -36,7 +36,8 @@ pub fn load(alloc: Global, job: &mut Job, bytes: &[u8]) -> Result<(), CheckFault
 fn gifts_in(alloc: Global, job: &Job, bytes: &[u8]) -> Result<Seq<Option<Seq<Value>>>, CheckFault>
     requires checked { IsTrue (is_checked job.now) }
     ensures answers { Answers told (data_refusal job.now bytes.now) result }
-    ensures given { IfOk result (λ given. record job.now { vars = holding_all job.now.vars given } ≡ loaded job.now bytes.now) }
+    ensures given { IfOk result (λ given. record job.now { vars = holding_all job.now.vars given }
+        ≡ loaded job.now bytes.now) }
     ensures whole { OnOk result (IsTrue (is_whole (loaded job.now bytes.now))) }
 {
     let vars = job.vars.as_slice();
@@ -150,7 +151,8 @@ fn give_all(vars: &mut [Var], given: Vec<Option<Seq<Value>>>)
 
 #[tactic(auto, using(crate::proofs::Loads::holding_none))]
 fn give_next(v: &mut Var, given: &mut IntoIter<Option<Seq<Value>>>)
-    ensures { (vars : List Var) → holding_all (v.old ∷ vars) (into_iter_items given.old) ≡ v.new ∷ holding_all vars (into_iter_items given.new) }
+    ensures { (vars : List Var) → holding_all (v.old ∷ vars) (into_iter_items given.old) ≡ v.new
+        ∷ holding_all vars (into_iter_items given.new) }
 {
     if let Some(gift) = given.next() {
         give(v, gift);

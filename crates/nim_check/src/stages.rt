@@ -231,7 +231,8 @@ fn has_stray_own(stage: &Stage) -> bool
 
 /// Whether a stage has its function's counts.
 fn has_counts(stage: &Stage) -> bool
-    ensures { result ≡ has_counts (unwrap_or (func_of stage.now.function) func.Set) (length stage.now.parameters) (length stage.now.reads) (length stage.now.writes) }
+    ensures { result ≡ has_counts (unwrap_or (func_of stage.now.function) func.Set) (length stage.now.parameters)
+        (length stage.now.reads) (length stage.now.writes) }
 {
     function_of(stage.function.as_slice()).has_counts(
         stage.parameters.len(),
@@ -254,7 +255,8 @@ fn stage_rule(
     requires vars { job_vars.now ≡ map var_of vars.now }
     requires whole { IsTrue (are_vars job_vars.now) }
     requires made { made.now ≡ stage_of (var_names vars.now) block.now.arguments stage.now }
-    requires tasks { tasks ≡ sum_by (task_count job_vars.now) (map (stage_of (var_names vars.now) block.now.arguments) before.now) }
+    requires tasks { tasks ≡ sum_by (task_count job_vars.now)
+        (map (stage_of (var_names vars.now) block.now.arguments) before.now) }
     requires few { tasks ≤ 1024 }
     ensures rule { result ≡ rule_of (at_stage vars.now block.now before.now stage.now) }
     ensures whole { result ≡ None → is_stage job_vars.now (length block.now.arguments) made.now ≡ true }

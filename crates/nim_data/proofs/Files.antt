@@ -30,6 +30,7 @@ gave_answers o values (Ok all) gave = (taken_by o values all gave).0
 gave_answers o values (Err (At refusal)) gave = refused_by o values refusal gave
 gave_answers o values (Err NoMemory) gave = tt
 
-pub gave_values : (o : Option Refusal) (values : List Grid) (result : Result (List Grid) DataFault) → Gave (judge o values) result → IfOk result (λ all. all ≡ values)
+pub gave_values : (o : Option Refusal) (values : List Grid) (result : Result (List Grid) DataFault) → Gave (judge o values) result
+    → IfOk result (λ all. all ≡ values)
 gave_values o values (Ok all) gave = (taken_by o values all gave).1
 gave_values o values (Err fault) gave = tt

@@ -106,7 +106,8 @@ same_width (Some f) parts l = refl
 
 -- ---- the rule of a line
 
-tests : (b l h r : Bool) → cond {A = Option ℕ} b None (cond l (cond r (Some 72) None) (cond h (Some 71) None)) ≡ cond b None (cond (not l && h) (Some 71) (cond (l && r) (Some 72) None))
+tests : (b l h r : Bool) → cond {A = Option ℕ} b None (cond l (cond r (Some 72) None) (cond h (Some 71) None))
+    ≡ cond b None (cond (not l && h) (Some 71) (cond (l && r) (Some 72) None))
 tests true l h r = refl
 tests false true h r = refl
 tests false false true r = refl
@@ -127,11 +128,13 @@ row_kept : (f : Option Refusal) (parts : List Part) (l : Loading) (cells : List 
     → after_row (kept_by f parts (Some l)) (Some cells) ≡ kept_by f parts (Some (longer l cells))
 row_kept None parts l cells = refl
 row_kept (Some f) parts l cells =
-    let less : (l.wanted - length l.part.value.rows) - 1 ≡ l.wanted - length (l.part.value.rows ++ cells ∷ []) = omega (arith, length-append l.part.value.rows (cells ∷ [])) in
+    let less : (l.wanted - length l.part.value.rows) - 1 ≡ l.wanted - length (l.part.value.rows ++ cells ∷ []) =
+    omega (arith, length-append l.part.value.rows (cells ∷ [])) in
     ap (λ (n : ℕ). record { values = []; last = Passed n l.part.value.width; refused = Some f }) less
 
 -- the parts that are closed, all of whose rows have come
-full : (parts : List Part) (last : Option Loading) → part.lacks last ≡ false → Within last → map planned_of (parts_of (record { parts = parts; last = last })) ≡ planned parts last
+full : (parts : List Part) (last : Option Loading) → part.lacks last ≡ false → Within last
+    → map planned_of (parts_of (record { parts = parts; last = last })) ≡ planned parts last
 full parts None closed within = sym (append-nil (map planned_of parts))
 full parts (Some l) closed within =
     let all : length l.part.value.rows ≡ l.wanted = grind (arith, nat_tests) in
@@ -145,7 +148,8 @@ closed_kept parts None = refl
 closed_kept parts (Some l) =
     ap (λ (values : List Grid). record { values = values; last = no_part; refused = None }) (sym (map-append (λ (p : Part). p.value) parts (l.part ∷ [])))
 
-closed_passed : (f : Refusal) (parts : List Part) (last : Option Loading) → closed (kept_by (Some f) parts last) ≡ record { values = []; last = no_part; refused = Some f }
+closed_passed : (f : Refusal) (parts : List Part) (last : Option Loading)
+    → closed (kept_by (Some f) parts last) ≡ record { values = []; last = no_part; refused = Some f }
 closed_passed f parts None = refl
 closed_passed f parts (Some l) = refl
 
@@ -162,12 +166,15 @@ begins ps number h (Some rule) = ap (passing (record { line = number; rule = rul
 
 begun_kept : (f : Option Refusal) (ws : List Wanted) (parts : List Part) (last : Option Loading) (number : ℕ) (h : Heading)
     → begun ws (closed (kept_by f parts last)) number h
-    ≡ kept_by (option_or f (refused number (rule_at (next_of (drop (length (parts_of (record { parts = parts; last = last }))) ws)) h))) (parts_of (record { parts = parts; last = last })) (Some (part.begun number h))
+    ≡ kept_by (option_or f (refused number (rule_at (next_of (drop (length (parts_of (record { parts = parts; last = last }))) ws)) h)))
+    (parts_of (record { parts = parts; last = last })) (Some (part.begun number h))
 begun_kept None ws parts last number h =
     let ps : List Part = parts_of (record { parts = parts; last = last }) in
     ap (λ (r : Reading). begun ws r number h) (closed_kept parts last)
-    ∙ ap (λ (n : ℕ). begun_by (rule_at (slice_get ws n) h) (record { values = values_of ps; last = no_part; refused = None }) number h) (length-map ps (λ (p : Part). p.value))
-    ∙ ap (λ (w : Option Wanted). begun_by (rule_at w h) (record { values = values_of ps; last = no_part; refused = None }) number h) (sym (next_at ws (length ps)))
+    ∙ ap (λ (n : ℕ). begun_by (rule_at (slice_get ws n) h) (record { values = values_of ps; last = no_part; refused = None }) number h)
+    (length-map ps (λ (p : Part). p.value))
+    ∙ ap (λ (w : Option Wanted). begun_by (rule_at w h) (record { values = values_of ps; last = no_part; refused = None }) number h)
+    (sym (next_at ws (length ps)))
     ∙ begins ps number h (rule_at (next_of (drop (length ps) ws)) h)
 begun_kept (Some f) ws parts last number h =
     ap (λ (r : Reading). begun ws r number h) (closed_passed f parts last) ∙ ap (passing f h) (sym (no_less h.rows))
@@ -179,7 +186,8 @@ heading_kept ws parts last number h closed_all within =
     let ps : List Part = parts_of (record { parts = parts; last = last }) in
     let before : map planned_of ps ≡ planned parts last = full parts last closed_all within in
     let count : length (planned parts last) ≡ length ps = sym (ap (λ (xs : List (ℕ × Heading)). length xs) before) ∙ length-map ps planned_of in
-    let now : fault_in ws (map planned_of ps ++ (number, h) ∷ []) ≡ option_or (fault_in ws (planned parts last)) (refused number (rule_at (next_of (drop (length ps) ws)) h)) =
+    let now : fault_in ws (map planned_of ps ++ (number, h) ∷ []) ≡ option_or (fault_in ws (planned parts last))
+    (refused number (rule_at (next_of (drop (length ps) ws)) h)) =
     ap (λ (xs : List (ℕ × Heading)). fault_in ws (xs ++ (number, h) ∷ [])) before
     ∙ fault_snoc ws (planned parts last) (number, h)
     ∙ ap (λ (n : ℕ). option_or (fault_in ws (planned parts last)) (refused number (rule_at (next_of (drop n ws)) h))) count in
@@ -212,7 +220,8 @@ follows_heading : (ws : List Wanted) (parts : List Part) (last : Option Loading)
     → (h : Option Heading) → heading text ≡ h → data_rule (record { parts = parts; last = last }) text ≡ None → Within last
     → Follows ws (record { parts = parts; last = last }) number text
 unfolding data_rule data_after after
-follows_heading ws parts last number text some closed_all None read sound within = absurd (let no : Some 71 ≡ None = (rw (some, closed_all, read) at sound) in cc)
+follows_heading ws parts last number text some closed_all None read sound within =
+    absurd (let no : Some 71 ≡ None = (rw (some, closed_all, read) at sound) in cc)
 follows_heading ws parts last number text some closed_all (Some h) read sound within =
     record {
       same = rw (some, same_lacks (fault_in ws (planned parts last)) parts last, closed_all, read) (heading_kept ws parts last number h closed_all within);
@@ -223,19 +232,21 @@ follows_bare : (ws : List Wanted) (st : Loaded) (number : ℕ) (text : List ℕ)
 unfolding data_after after
 follows_bare ws st number text bare within = record { same = rw bare refl; within = rw bare within }
 
-follows : (ws : List Wanted) (parts : List Part) (last : Option Loading) (number : ℕ) (text : List ℕ) → data_rule (record { parts = parts; last = last }) text ≡ None → Within last
+follows : (ws : List Wanted) (parts : List Part) (last : Option Loading) (number : ℕ) (text : List ℕ)
+    → data_rule (record { parts = parts; last = last }) text ≡ None → Within last
     → Follows ws (record { parts = parts; last = last }) number text
 follows ws parts last number text sound within =
     let st : Loaded = record { parts = parts; last = last } in
     elim (is_bare text) as (λ t. is_bare text ≡ t → Follows ws st number text) [
       | true ↦ λ bare. follows_bare ws st number text bare within
-      | false ↦ λ some. elim last as (λ (o : Option Loading). data_rule (record { parts = parts; last = o }) text ≡ None → Within o → Follows ws (record { parts = parts; last = o }) number text) [
-        | None ↦ λ s w. follows_heading ws parts None number text some refl (heading text) refl s w
-        | Some l ↦ λ s w. elim (part.lacks (Some l)) as (λ t. part.lacks (Some l) ≡ t → Follows ws (record { parts = parts; last = Some l }) number text) [
-          | true ↦ λ lacking. follows_row ws parts l number text some lacking (row l.part.value.width text) refl s w
-          | false ↦ λ closed_all. follows_heading ws parts (Some l) number text some closed_all (heading text) refl s w
-        ] refl
-      ] sound within
+      | false ↦ λ some. elim last as (λ (o : Option Loading). data_rule (record { parts = parts; last = o }) text ≡ None → Within o
+          → Follows ws (record { parts = parts; last = o }) number text) [
+            | None ↦ λ s w. follows_heading ws parts None number text some refl (heading text) refl s w
+            | Some l ↦ λ s w. elim (part.lacks (Some l)) as (λ t. part.lacks (Some l) ≡ t → Follows ws (record { parts = parts; last = Some l }) number text) [
+              | true ↦ λ lacking. follows_row ws parts l number text some lacking (row l.part.value.width text) refl s w
+              | false ↦ λ closed_all. follows_heading ws parts (Some l) number text some closed_all (heading text) refl s w
+            ] refl
+          ] sound within
     ] refl
 
 -- ---- the end of a file
@@ -265,22 +276,26 @@ less_one [] n =
     here ∙ sym next
 less_one (w ∷ ws) n = lt_suc n (length ws)
 
-first_is : (end : ℕ) (ws : List Wanted) (parts : List Part) → first_fault end ws parts ≡ option_or (fault_in ws (map planned_of parts)) (missing end ws (length parts))
+first_is : (end : ℕ) (ws : List Wanted) (parts : List Part) → first_fault end ws parts
+    ≡ option_or (fault_in ws (map planned_of parts)) (missing end ws (length parts))
 first_is end [] [] = refl
 first_is end (w ∷ ws) [] = let some : nat_lt 0 (length (w ∷ ws)) ≡ true = grind (arith, nat_tests) in rw some refl
 first_is end ws (p ∷ parts) =
     let first = refused p.line (rule_at (next_of ws) (header_of p)) in
     ap (option_or first) (first_is end (drop 1 ws) parts)
     ∙ or_assoc first (fault_in (drop 1 ws) (map planned_of parts)) (missing end (drop 1 ws) (length parts))
-    ∙ ap (λ (t : Bool). option_or (option_or first (fault_in (drop 1 ws) (map planned_of parts))) (cond t (Some (record { line = end; rule = 73 })) None)) (less_one ws (length parts))
+    ∙ ap (λ (t : Bool). option_or (option_or first (fault_in (drop 1 ws) (map planned_of parts))) (cond t (Some (record { line = end; rule = 73 })) None))
+    (less_one ws (length parts))
 
-given_is : (t : Bool) (end : ℕ) (values : List Grid) → cond t (Err (record { line = end; rule = 73 })) (Ok values) ≡ judge (cond t (Some (record { line = end; rule = 73 })) None) values
+given_is : (t : Bool) (end : ℕ) (values : List Grid) → cond t (Err (record { line = end; rule = 73 })) (Ok values)
+    ≡ judge (cond t (Some (record { line = end; rule = 73 })) None) values
 given_is true end values = refl
 given_is false end values = refl
 
 gives : (f : Option Refusal) (end : ℕ) (ws : List Wanted) (parts : List Part) (last : Option Loading)
     → given end ws (closed (kept_by f parts last))
-    ≡ judge (option_or f (missing end ws (length (parts_of (record { parts = parts; last = last }))))) (values_of (parts_of (record { parts = parts; last = last })))
+    ≡ judge (option_or f (missing end ws (length (parts_of (record { parts = parts; last = last })))))
+    (values_of (parts_of (record { parts = parts; last = last })))
 gives None end ws parts last =
     let ps : List Part = parts_of (record { parts = parts; last = last }) in
     ap (given end ws) (closed_kept parts last)
@@ -293,7 +308,8 @@ ended_is : (end : ℕ) (ws : List Wanted) (parts : List Part) (last : Option Loa
 ended_is end ws parts last within =
     let f : Option Refusal = fault_in ws (planned parts last) in
     let ps : List Part = parts_of (record { parts = parts; last = last }) in
-    elim (part.lacks last) as (λ t. part.lacks last ≡ t → ended end ws (kept ws (record { parts = parts; last = last })) ≡ judged end ws (data_from end (record { parts = parts; last = last }) [])) [
+    elim (part.lacks last) as (λ t. part.lacks last ≡ t → ended end ws (kept ws (record { parts = parts; last = last }))
+    ≡ judged end ws (data_from end (record { parts = parts; last = last }) [])) [
       | true ↦ λ lacking. rw (same_lacks f parts last, lacking) refl
       | false ↦ λ closed_all.
           let whole : first_fault end ws ps ≡ option_or f (missing end ws (length ps)) = first_is end ws ps

@@ -41,7 +41,8 @@ bounded most digits = if is_numeral digits && nat_le (number_of digits) most the
 
 -- digits behind a sign, of a number in the range
 unfoldable pub whole : Bool → List ℕ → Option ℤ
-whole negative digits = if is_numeral digits && in_range negative (number_of digits) then Some (signed negative (number_of digits)) else None
+whole negative digits = if is_numeral digits && in_range negative (number_of digits)
+    then Some (signed negative (number_of digits)) else None
 
 -- an optional `-` directly followed by digits
 unfoldable pub cell : List ℕ → Option ℤ
@@ -64,7 +65,8 @@ is_short_name text = (nat_le (length text) 16 && is_ascii_alphabetic (slice_inde
 -- a header of these words and numbers, where the name is one, the width is 1 or more, and no word is left
 abbrev pub heading_of : List ℕ → List ℕ → ℕ → ℕ → ℕ → Option Heading
 heading_of name rest part rows width =
-    if is_short_name name && (nat_lt 0 width && is_bare rest) then Some (record { name = name; part = part; rows = rows; width = width }) else None
+    if is_short_name name && (nat_lt 0 width && is_bare rest)
+    then Some (record { name = name; part = part; rows = rows; width = width }) else None
 
 -- NAME PART ROWS WIDTH, and no word behind them
 unfoldable pub heading : List ℕ → Option Heading

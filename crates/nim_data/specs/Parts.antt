@@ -51,7 +51,8 @@ begun line h = record {
 
 -- a part with one more row
 abbrev pub longer : Loading → List ℤ → Loading
-longer l cells = record l { part = record l.part { value = record l.part.value { rows = l.part.value.rows ++ cells ∷ [] } } }
+longer l cells =
+    record l { part = record l.part { value = record l.part.value { rows = l.part.value.rows ++ cells ∷ [] } } }
 
 -- a part with the row that was read, if one was
 abbrev pub longer_by : Loading → Option (List ℤ) → Option Loading

@@ -73,7 +73,8 @@ passed h = Passed h.rows h.width
 -- a part that is kept where no rule refuses its header
 abbrev pub begun_by : Option ℕ → Reading → ℕ → Heading → Reading
 begun_by None r line h = record r { last = Kept h.rows (record { width = h.width; rows = [] }) }
-begun_by (Some rule) r line h = record { values = []; last = passed h; refused = Some (record { line = line; rule = rule }) }
+begun_by (Some rule) r line h =
+    record { values = []; last = passed h; refused = Some (record { line = line; rule = rule }) }
 
 -- a part begins behind those that are closed
 abbrev pub begun : List Wanted → Reading → ℕ → Heading → Reading

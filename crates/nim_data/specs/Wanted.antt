@@ -25,7 +25,8 @@ rule_75 w h = not (h.width == w.shape.width)
 
 -- the smallest rule that refuses a header, where this part is to be loaded
 unfoldable pub header_rule : Wanted → Heading → Option ℕ
-header_rule w h = if rule_73 w h then Some 73 else (if rule_74 w h then Some 74 else (if rule_75 w h then Some 75 else None))
+header_rule w h =
+    if rule_73 w h then Some 73 else (if rule_74 w h then Some 74 else (if rule_75 w h then Some 75 else None))
 
 -- where this part is to be loaded, or none any more: one too many isn't the next one either
 abbrev pub rule_at : Option Wanted → Heading → Option ℕ
@@ -48,7 +49,8 @@ next_of (w ∷ ws) = Some w
 abbrev pub first_fault : ℕ → List Wanted → List Part → Option Refusal
 first_fault end [] [] = None
 first_fault end (w ∷ ws) [] = Some (record { line = end; rule = 73 })
-first_fault end ws (part ∷ parts) = option_or (refused part.line (rule_at (next_of ws) (header_of part))) (first_fault end (drop 1 ws) parts)
+first_fault end ws (part ∷ parts) =
+    option_or (refused part.line (rule_at (next_of ws) (header_of part))) (first_fault end (drop 1 ws) parts)
 
 -- the lines of the file come first, then its parts
 abbrev pub refusal_by : ℕ → List Wanted → Result (List Part) Refusal → Option Refusal

@@ -132,7 +132,8 @@ impl Reading {
     fn take_row(&mut self, line: &[u8], buffer: &mut Vec<i64>) -> Result<Option<u8>, NoMemory>
         requires { spec.lacks self.old.last ≡ true }
         ensures rule { IfOk result (λ rule. rule ≡ spec.row_rule (row (spec.width_of self.old.last) line.now)) }
-        ensures next { IfOk result (λ rule. rule ≡ None → self.new ≡ spec.after_row self.old (row (spec.width_of self.old.last) line.now)) }
+        ensures next { IfOk result (λ rule. rule ≡ None
+            → self.new ≡ spec.after_row self.old (row (spec.width_of self.old.last) line.now)) }
     {
         match read_row(self.last.width(), line, buffer) {
             Ok(()) => {
@@ -152,7 +153,8 @@ impl Reading {
         line: &[u8],
     ) -> Result<Option<u8>, NoMemory>
         ensures rule { IfOk result (λ rule. rule ≡ spec.heading_rule (heading line.now)) }
-        ensures next { IfOk result (λ rule. rule ≡ None → self.new ≡ spec.after_heading wanted.now self.old number (heading line.now)) }
+        ensures next { IfOk result (λ rule. rule ≡ None
+            → self.new ≡ spec.after_heading wanted.now self.old number (heading line.now)) }
     {
         match read_heading(alloc, line) {
             Ok(heading) => {

@@ -33,7 +33,9 @@ or_none true = refl
 or_none false = refl
 
 -- one number more is among them
-among_by : (order : Ordering) (asked number least : ℤ) (more later : List ℤ) → int_cmp number least ≡ order → among asked later ≡ (int_eq asked number || among asked more) → among asked (match_ordering order (number ∷ least ∷ more) (least ∷ more) (least ∷ later)) ≡ (int_eq asked number || among asked (least ∷ more))
+among_by : (order : Ordering) (asked number least : ℤ) (more later : List ℤ) → int_cmp number least ≡ order
+    → among asked later ≡ (int_eq asked number || among asked more)
+    → among asked (match_ordering order (number ∷ least ∷ more) (least ∷ more) (least ∷ later)) ≡ (int_eq asked number || among asked (least ∷ more))
 among_by Less asked number least more later is found = refl
 among_by Equal asked number least more later is found =
     let same : number ≡ least = same_number number least (ap is_eq is) in
@@ -48,7 +50,8 @@ among-with_number asked number (least ∷ more) =
     ap (among asked) (with_number_is number least more)
     ∙ among_by (int_cmp number least) asked number least more (with_number number more) refl (among-with_number asked number more)
 
-among_from : (asked : ℤ) (so_far numbers : List ℤ) → among asked (fold (λ some number. with_number number some) so_far numbers) ≡ (among asked so_far || among asked numbers)
+among_from : (asked : ℤ) (so_far numbers : List ℤ) → among asked (fold (λ some number. with_number number some) so_far numbers)
+    ≡ (among asked so_far || among asked numbers)
 among_from asked so_far [] = or_none (among asked so_far)
 among_from asked so_far (number ∷ numbers) =
     among_from asked (with_number number so_far) numbers
@@ -59,7 +62,8 @@ among_from asked so_far (number ∷ numbers) =
 pub among-different : (asked : ℤ) (numbers : List ℤ) → among asked (different numbers) ≡ among asked numbers
 among-different asked numbers = among_from asked [] numbers
 
-ascends_from : (so_far numbers : List ℤ) → IsStrictlySortedBy int_cmp so_far → IsStrictlySortedBy int_cmp (fold (λ some number. with_number number some) so_far numbers)
+ascends_from : (so_far numbers : List ℤ) → IsStrictlySortedBy int_cmp so_far
+    → IsStrictlySortedBy int_cmp (fold (λ some number. with_number number some) so_far numbers)
 ascends_from so_far [] ascends = ascends
 ascends_from so_far (number ∷ numbers) ascends = ascends_from (with_number number so_far) numbers (ascends-with_number number so_far ascends)
 
@@ -72,7 +76,8 @@ pub below_all : (least : ℤ) (numbers : List ℤ) → AllByRecursion (λ n. int
 below_all least [] below = refl
 below_all least (number ∷ numbers) below = ap₂ (λ a b. a || b) (ap is_eq below.0) (below_all least numbers below.1)
 
-below_first : (least first : ℤ) (numbers : List ℤ) → int_cmp least first ≡ Less → IsStrictlySortedBy int_cmp (first ∷ numbers) → among least (first ∷ numbers) ≡ false
+below_first : (least first : ℤ) (numbers : List ℤ) → int_cmp least first ≡ Less → IsStrictlySortedBy int_cmp (first ∷ numbers)
+    → among least (first ∷ numbers) ≡ false
 below_first least first numbers is ascends =
     below_all least (first ∷ numbers) (is, below-trans least first numbers is (sorted_head int_cmp first numbers ascends))
 
@@ -80,13 +85,15 @@ among-first : (first : ℤ) (numbers : List ℤ) → among first (first ∷ numb
 among-first first numbers = ap (λ b. b || among first numbers) (int_eq-refl first)
 
 -- the same numbers, of which the first are the same
-among_rest : (first asked : ℤ) (here : Bool) (xs ys : List ℤ) → int_eq asked first ≡ here → among first xs ≡ false → among first ys ≡ false → (here || among asked xs) ≡ (here || among asked ys) → among asked xs ≡ among asked ys
+among_rest : (first asked : ℤ) (here : Bool) (xs ys : List ℤ) → int_eq asked first ≡ here → among first xs ≡ false → among first ys ≡ false
+    → (here || among asked xs) ≡ (here || among asked ys) → among asked xs ≡ among asked ys
 among_rest first asked true xs ys is absent never same =
     let at_first : asked ≡ first = same_number asked first is in
     ap (λ n. among n xs) at_first ∙ absent ∙ sym (ap (λ n. among n ys) at_first ∙ never)
 among_rest first asked false xs ys is absent never same = same
 
-firsts_same : (order : Ordering) (x y : ℤ) (xs ys : List ℤ) → int_cmp x y ≡ order → IsStrictlySortedBy int_cmp (x ∷ xs) → IsStrictlySortedBy int_cmp (y ∷ ys) → ((n : ℤ) → among n (x ∷ xs) ≡ among n (y ∷ ys)) → x ≡ y
+firsts_same : (order : Ordering) (x y : ℤ) (xs ys : List ℤ) → int_cmp x y ≡ order → IsStrictlySortedBy int_cmp (x ∷ xs) → IsStrictlySortedBy int_cmp (y ∷ ys)
+    → ((n : ℤ) → among n (x ∷ xs) ≡ among n (y ∷ ys)) → x ≡ y
 firsts_same Less x y xs ys is up rising same = absurd (true≢false (sym (among-first x xs) ∙ same x ∙ below_first x y ys is rising))
 firsts_same Equal x y xs ys is up rising same = same_number x y (ap is_eq is)
 firsts_same Greater x y xs ys is up rising same =

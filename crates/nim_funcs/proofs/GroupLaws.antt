@@ -34,16 +34,21 @@ firsts sum (number ∷ numbers) = ap (λ (ns : List ℤ). number ∷ ns) (firsts
 numbers-group : (column summed : ℤ) (rows : List (List ℤ)) → numbers_of (grouped column summed rows) ≡ different (map (at_column column) rows)
 numbers-group column summed rows = firsts (sum_at column summed rows) (different (map (at_column column) rows))
 
-none_by : (column number : ℤ) (row : List ℤ) (rows : List (List ℤ)) (here : Bool) → (here || among number (map (at_column column) rows)) ≡ false → (among number (map (at_column column) rows) ≡ false → filter (λ r. int_eq number (at_column column r)) rows ≡ []) → cond here (row ∷ filter (λ r. int_eq number (at_column column r)) rows) (filter (λ r. int_eq number (at_column column r)) rows) ≡ []
+none_by : (column number : ℤ) (row : List ℤ) (rows : List (List ℤ)) (here : Bool) → (here || among number (map (at_column column) rows)) ≡ false
+    → (among number (map (at_column column) rows) ≡ false → filter (λ r. int_eq number (at_column column r)) rows ≡ [])
+    → cond here (row ∷ filter (λ r. int_eq number (at_column column r)) rows) (filter (λ r. int_eq number (at_column column r)) rows) ≡ []
 none_by column number row rows true absent none = absurd (true≢false absent)
 none_by column number row rows false absent none = none absent
 
 -- no row has a number that is not among the column's
-none_pass : (column number : ℤ) (rows : List (List ℤ)) → among number (map (at_column column) rows) ≡ false → filter (λ row. int_eq number (at_column column row)) rows ≡ []
+none_pass : (column number : ℤ) (rows : List (List ℤ)) → among number (map (at_column column) rows) ≡ false
+    → filter (λ row. int_eq number (at_column column row)) rows ≡ []
 none_pass column number [] absent = refl
 none_pass column number (row ∷ rows) absent = none_by column number row rows (int_eq number (at_column column row)) absent (none_pass column number rows)
 
-one_by : (sum : ℤ → ℤ) (number least : ℤ) (numbers : List ℤ) (here : Bool) (some : List (List ℤ)) → int_eq number least ≡ here → among least numbers ≡ false → some ≡ cond (among number numbers) ((number ∷ (sum number ∷ [])) ∷ []) [] → cond here ((least ∷ (sum least ∷ [])) ∷ some) some ≡ cond (here || among number numbers) ((number ∷ (sum number ∷ [])) ∷ []) []
+one_by : (sum : ℤ → ℤ) (number least : ℤ) (numbers : List ℤ) (here : Bool) (some : List (List ℤ)) → int_eq number least ≡ here → among least numbers ≡ false
+    → some ≡ cond (among number numbers) ((number ∷ (sum number ∷ [])) ∷ []) []
+    → cond here ((least ∷ (sum least ∷ [])) ∷ some) some ≡ cond (here || among number numbers) ((number ∷ (sum number ∷ [])) ∷ []) []
 one_by sum number least numbers true some is absent found =
     let same : number ≡ least = same_number number least is in
     let none : among number numbers ≡ false = ap (λ n. among n numbers) same ∙ absent in
@@ -51,49 +56,60 @@ one_by sum number least numbers true some is absent found =
 one_by sum number least numbers false some is absent found = found
 
 -- the rows of a number in a group: its own, where it has one
-one_row : (sum : ℤ → ℤ) (number : ℤ) (numbers : List ℤ) → IsStrictlySortedBy int_cmp numbers → filter (λ row. int_eq number (at_column (pos 0) row)) (map (λ n. n ∷ (sum n ∷ [])) numbers) ≡ cond (among number numbers) ((number ∷ (sum number ∷ [])) ∷ []) []
+one_row : (sum : ℤ → ℤ) (number : ℤ) (numbers : List ℤ) → IsStrictlySortedBy int_cmp numbers
+    → filter (λ row. int_eq number (at_column (pos 0) row)) (map (λ n. n ∷ (sum n ∷ [])) numbers)
+    ≡ cond (among number numbers) ((number ∷ (sum number ∷ [])) ∷ []) []
 one_row sum number [] ascends = refl
 one_row sum number (least ∷ numbers) ascends =
     one_by sum number least numbers (int_eq number least)
-    (filter (λ (row : List ℤ). int_eq number (at_column (pos 0) row)) (map (λ n. n ∷ (sum n ∷ [])) numbers)) refl (below_all least numbers (sorted_head int_cmp least numbers ascends))
+    (filter (λ (row : List ℤ). int_eq number (at_column (pos 0) row)) (map (λ n. n ∷ (sum n ∷ [])) numbers)) refl
+    (below_all least numbers (sorted_head int_cmp least numbers ascends))
     (one_row sum number numbers (sorted_tail int_cmp least numbers ascends))
 
 -- the bits of the summands of a number
 abbrev bits_at : ℤ → ℤ → List (List ℤ) → ℤ → ℕ
 bits_at column summed rows number = bits (map (at_column summed) (filter (λ row. int_eq number (at_column column row)) rows))
 
-bits_at-append : (column summed number : ℤ) (xs ys : List (List ℤ)) → bits_at column summed (xs ++ ys) number ≡ bits_at column summed xs number + bits_at column summed ys number
+bits_at-append : (column summed number : ℤ) (xs ys : List (List ℤ))
+    → bits_at column summed (xs ++ ys) number ≡ bits_at column summed xs number + bits_at column summed ys number
 bits_at-append column summed number xs ys =
     let test = λ (row : List ℤ). int_eq number (at_column column row) in
     ap (λ (rows : List (List ℤ)). bits (map (at_column summed) rows)) (filter-append test xs ys)
     ∙ ap bits (map-append (at_column summed) (filter test xs) (filter test ys))
     ∙ sum_by-append (of_z w64) (map (at_column summed) (filter test xs)) (map (at_column summed) (filter test ys))
 
-sum_at-bits : (column summed number : ℤ) (rows : List (List ℤ)) → sum_at column summed rows number ≡ to_z w64 (bits_at column summed rows number % 18446744073709551616)
+sum_at-bits : (column summed number : ℤ) (rows : List (List ℤ)) → sum_at column summed rows number
+    ≡ to_z w64 (bits_at column summed rows number % 18446744073709551616)
 sum_at-bits column summed number rows = sum_is (map (at_column summed) (filter (λ row. int_eq number (at_column column row)) rows))
 
-bits_by : (column summed number : ℤ) (rows : List (List ℤ)) (found : Bool) → among number (map (at_column column) rows) ≡ found → bits (map (at_column (pos 1)) (cond found ((number ∷ (sum_at column summed rows number ∷ [])) ∷ []) [])) % 18446744073709551616 ≡ bits_at column summed rows number % 18446744073709551616
+bits_by : (column summed number : ℤ) (rows : List (List ℤ)) (found : Bool) → among number (map (at_column column) rows) ≡ found
+    → bits (map (at_column (pos 1)) (cond found ((number ∷ (sum_at column summed rows number ∷ [])) ∷ []) [])) % 18446744073709551616
+    ≡ bits_at column summed rows number % 18446744073709551616
 bits_by column summed number rows true is =
     let sum = sum_at column summed rows number in
     let whole = bits_at column summed rows number in
-    let here : of_z w64 sum ≡ whole % 18446744073709551616 = ap (of_z w64) (sum_at-bits column summed number rows) ∙ of_z-to_z w64 (whole % 18446744073709551616) (omega arith) in
+    let here : of_z w64 sum ≡ whole % 18446744073709551616 =
+    ap (of_z w64) (sum_at-bits column summed number rows) ∙ of_z-to_z w64 (whole % 18446744073709551616) (omega arith) in
     omega (arith, sum_by-cons (of_z w64) sum [], here)
 bits_by column summed number rows false is =
     sym (ap (λ (some : List (List ℤ)). bits (map (at_column summed) some) % 18446744073709551616) (none_pass column number rows is))
 
 -- a group has the same sum under a number as its rows
-bits_one : (column summed number : ℤ) (rows : List (List ℤ)) (found : Bool) → among number (different (map (at_column column) rows)) ≡ found → bits_at (pos 0) (pos 1) (grouped column summed rows).rows number % 18446744073709551616 ≡ bits_at column summed rows number % 18446744073709551616
+bits_one : (column summed number : ℤ) (rows : List (List ℤ)) (found : Bool) → among number (different (map (at_column column) rows)) ≡ found
+    → bits_at (pos 0) (pos 1) (grouped column summed rows).rows number % 18446744073709551616 ≡ bits_at column summed rows number % 18446744073709551616
 bits_one column summed number rows found is =
     ap (λ (some : List (List ℤ)). bits (map (at_column (pos 1)) some) % 18446744073709551616)
     (one_row (sum_at column summed rows) number (different (map (at_column column) rows)) (ascends-different (map (at_column column) rows))
     ∙ ap (λ b. cond b ((number ∷ (sum_at column summed rows number ∷ [])) ∷ []) []) is)
     ∙ bits_by column summed number rows found (sym (among-different number (map (at_column column) rows)) ∙ is)
 
-both_mod : (a b c d : ℕ) → a % 18446744073709551616 ≡ c % 18446744073709551616 → b % 18446744073709551616 ≡ d % 18446744073709551616 → (a + b) % 18446744073709551616 ≡ (c + d) % 18446744073709551616
+both_mod : (a b c d : ℕ) → a % 18446744073709551616 ≡ c % 18446744073709551616 → b % 18446744073709551616 ≡ d % 18446744073709551616
+    → (a + b) % 18446744073709551616 ≡ (c + d) % 18446744073709551616
 both_mod a b c d first second = omega (arith, first, second)
 
 -- the rows of the groups of some values
-bits_all : (column summed number : ℤ) (grids : List Grid) → bits_at (pos 0) (pos 1) (flat_map (λ grid. grid.rows) (map (group_of column summed) grids)) number % 18446744073709551616 ≡ bits_at column summed (flat_map (λ grid. grid.rows) grids) number % 18446744073709551616
+bits_all : (column summed number : ℤ) (grids : List Grid) → bits_at (pos 0) (pos 1) (flat_map (λ grid. grid.rows) (map (group_of column summed) grids)) number %
+    18446744073709551616 ≡ bits_at column summed (flat_map (λ grid. grid.rows) grids) number % 18446744073709551616
 bits_all column summed number [] = refl
 bits_all column summed number (grid ∷ grids) =
     let rows = flat_map (λ (g : Grid). g.rows) in
@@ -103,14 +119,17 @@ bits_all column summed number (grid ∷ grids) =
     (bits_one column summed number grid.rows (among number (different (map (at_column column) grid.rows))) refl) (bits_all column summed number grids)
     ∙ sym (ap (λ n. n % 18446744073709551616) (bits_at-append column summed number grid.rows (rows grids)))
 
-among_all : (column summed number : ℤ) (grids : List Grid) → among number (map (at_column (pos 0)) (flat_map (λ grid. grid.rows) (map (group_of column summed) grids))) ≡ among number (map (at_column column) (flat_map (λ grid. grid.rows) grids))
+among_all : (column summed number : ℤ) (grids : List Grid) → among number
+    (map (at_column (pos 0)) (flat_map (λ grid. grid.rows) (map (group_of column summed) grids)))
+    ≡ among number (map (at_column column) (flat_map (λ grid. grid.rows) grids))
 among_all column summed number [] = refl
 among_all column summed number (grid ∷ grids) =
     let rows = flat_map (λ (g : Grid). g.rows) in
     let others = rows (map (group_of column summed) grids) in
     ap (among number) (map-append (at_column (pos 0)) (group_of column summed grid).rows others)
     ∙ list_any-append (int_eq number) (map (at_column (pos 0)) (group_of column summed grid).rows) (map (at_column (pos 0)) others)
-    ∙ ap₂ (λ a b. a || b) (ap (among number) (numbers-group column summed grid.rows) ∙ among-different number (map (at_column column) grid.rows)) (among_all column summed number grids)
+    ∙ ap₂ (λ a b. a || b) (ap (among number) (numbers-group column summed grid.rows) ∙ among-different number (map (at_column column) grid.rows))
+    (among_all column summed number grids)
     ∙ sym (list_any-append (int_eq number) (map (at_column column) grid.rows) (map (at_column column) (rows grids)))
     ∙ sym (ap (among number) (map-append (at_column column) grid.rows (rows grids)))
 
@@ -134,7 +153,8 @@ bits-found None = refl
 bits-found (Some sum) = refl
 
 -- a summand more adds to the sum of all
-total_one : (sums : List (ℤ × ℤ)) (key summand : ℤ) → IsStrictlySortedBy int_cmp (keys_of sums) → bits (values_of (with_summand sums key summand)) % 18446744073709551616 ≡ (bits (values_of sums) + of_z w64 summand) % 18446744073709551616
+total_one : (sums : List (ℤ × ℤ)) (key summand : ℤ) → IsStrictlySortedBy int_cmp (keys_of sums)
+    → bits (values_of (with_summand sums key summand)) % 18446744073709551616 ≡ (bits (values_of sums) + of_z w64 summand) % 18446744073709551616
 total_one sums key summand ascends =
     let found = lookup (is_at (int_cmp key)) sums in
     let value = plus (sum_under sums key) summand in
@@ -144,7 +164,9 @@ total_one sums key summand ascends =
     let old : unwrap_or (option_map (of_z w64) found) 0 ≡ of_z w64 (sum_under sums key) = bits-found found in
     omega (arith, more, new, old)
 
-total_all : (column summed : ℤ) (sums : List (ℤ × ℤ)) (rows : List (List ℤ)) → IsStrictlySortedBy int_cmp (keys_of sums) → bits (values_of (with_rows column summed sums rows)) % 18446744073709551616 ≡ (bits (values_of sums) + bits (map (at_column summed) rows)) % 18446744073709551616
+total_all : (column summed : ℤ) (sums : List (ℤ × ℤ)) (rows : List (List ℤ)) → IsStrictlySortedBy int_cmp (keys_of sums)
+    → bits (values_of (with_rows column summed sums rows)) % 18446744073709551616
+    ≡ (bits (values_of sums) + bits (map (at_column summed) rows)) % 18446744073709551616
 total_all column summed sums [] ascends = omega arith
 total_all column summed sums (row ∷ rows) ascends =
     let key = at_column column row in
@@ -153,7 +175,8 @@ total_all column summed sums (row ∷ rows) ascends =
     let rising : IsStrictlySortedBy int_cmp (keys_of next) =
     subst (IsStrictlySortedBy int_cmp) (sym (keys-insert sums key (plus (sum_under sums key) summand))) (ascends-with_number key (keys_of sums) ascends) in
     total_all column summed next rows rising
-    ∙ both_mod (bits (values_of next)) (bits (map (at_column summed) rows)) (bits (values_of sums) + of_z w64 summand) (bits (map (at_column summed) rows)) (total_one sums key summand ascends) refl
+    ∙ both_mod (bits (values_of next)) (bits (map (at_column summed) rows)) (bits (values_of sums) + of_z w64 summand) (bits (map (at_column summed) rows))
+    (total_one sums key summand ascends) refl
     ∙ ap (λ n. n % 18446744073709551616) (omega (arith, sum_by-cons (of_z w64) summand (map (at_column summed) rows)))
 
 seconds : (sums : List (ℤ × ℤ)) → map (at_column (pos 1)) (sums_grid sums).rows ≡ values_of sums
@@ -179,7 +202,8 @@ gathers_rows column summed grid =
       ascend = subst (IsStrictlySortedBy int_cmp) (sym numbers) (ascends-different cells);
       numbers = λ number. (
         λ inside. Contains-from_any same_number number cells
-            (sym (among-different number cells) ∙ ap (among number) (sym numbers) ∙ list_any-from_Contains int_eq_equiv number (numbers_of (group_of column summed grid)) inside),
+            (sym (among-different number cells) ∙ ap (among number) (sym numbers)
+            ∙ list_any-from_Contains int_eq_equiv number (numbers_of (group_of column summed grid)) inside),
         λ inside. Contains-from_any same_number number (numbers_of (group_of column summed grid))
             (ap (among number) numbers ∙ among-different number cells ∙ list_any-from_Contains int_eq_equiv number cells inside),
       );

@@ -9,10 +9,14 @@ use Rattle.nim_base.specs.Value.{Grid, cells_of, empty_grid}
 use Rattle.nim_base.specs.Functions.{reads_of, plus, sum_of_cells}
 
 -- the first reads, and one more
-pub reads_more : (values : List Grid) (reads : List ℕ) (i : ℕ) → i < length reads → reads_of values (take (i + 1) reads) ≡ reads_of values (take i reads) ++ get_or values (get_or reads i 0) empty_grid ∷ []
+pub reads_more : (values : List Grid) (reads : List ℕ) (i : ℕ) → i < length reads
+    → reads_of values (take (i + 1) reads) ≡ reads_of values (take i reads) ++ get_or values (get_or reads i 0) empty_grid ∷ []
 reads_more values reads i lt = map_more (λ index. get_or values index empty_grid) reads i 0 lt
 
-pub total_more : (values : List Grid) (reads : List ℕ) (i : ℕ) → i < length reads → sum_of_cells (flat_map (λ grid. cells_of grid.rows) (reads_of values (take (i + 1) reads))) ≡ fold plus (sum_of_cells (flat_map (λ grid. cells_of grid.rows) (reads_of values (take i reads)))) (cells_of (get_or values (get_or reads i 0) empty_grid).rows)
+pub total_more : (values : List Grid) (reads : List ℕ) (i : ℕ) → i < length reads
+    → sum_of_cells (flat_map (λ grid. cells_of grid.rows) (reads_of values (take (i + 1) reads)))
+    ≡ fold plus (sum_of_cells (flat_map (λ grid. cells_of grid.rows) (reads_of values (take i reads))))
+    (cells_of (get_or values (get_or reads i 0) empty_grid).rows)
 total_more values reads i lt =
     let all = λ (grid : Grid). cells_of grid.rows in
     let before = reads_of values (take i reads) in
@@ -22,7 +26,9 @@ total_more values reads i lt =
     ∙ fold-append plus (pos 0) (flat_map all before) (all grid ++ [])
     ∙ ap (fold plus (sum_of_cells (flat_map all before))) (append-nil (all grid))
 
-pub count_more : (values : List Grid) (reads : List ℕ) (i : ℕ) → i < length reads → sum_by (λ grid. length grid.rows) (reads_of values (take (i + 1) reads)) ≡ sum_by (λ grid. length grid.rows) (reads_of values (take i reads)) + length (get_or values (get_or reads i 0) empty_grid).rows
+pub count_more : (values : List Grid) (reads : List ℕ) (i : ℕ) → i < length reads
+    → sum_by (λ grid. length grid.rows) (reads_of values (take (i + 1) reads))
+    ≡ sum_by (λ grid. length grid.rows) (reads_of values (take i reads)) + length (get_or values (get_or reads i 0) empty_grid).rows
 count_more values reads i lt =
     let height = λ (grid : Grid). length grid.rows in
     let before = reads_of values (take i reads) in
@@ -32,7 +38,9 @@ count_more values reads i lt =
     ∙ ap (λ n. sum_by height before + n) (zero-add (height grid))
 
 -- the value at the next read
-pub read_added : (values : List Grid) (reads : List ℕ) (i : ℕ) (value : Grid) → All (λ index. index < length values) reads → i < length reads → value ≡ get_or values (get_or reads i 0) value → reads_of values (take i reads) ++ value ∷ [] ≡ reads_of values (take (i + 1) reads)
+pub read_added : (values : List Grid) (reads : List ℕ) (i : ℕ) (value : Grid) → All (λ index. index < length values) reads → i < length reads
+    → value ≡ get_or values (get_or reads i 0) value → reads_of values (take i reads) ++ value ∷ [] ≡ reads_of values (take (i + 1) reads)
 read_added values reads i value inside lt is =
     let there = All-get_or (λ index. index < length values) reads i 0 lt inside in
-    ap (λ (v : Grid). reads_of values (take i reads) ++ v ∷ []) (get_or_read values (get_or reads i 0) value there is empty_grid) ∙ sym (reads_more values reads i lt)
+    ap (λ (v : Grid). reads_of values (take i reads) ++ v ∷ []) (get_or_read values (get_or reads i 0) value there is empty_grid)
+    ∙ sym (reads_more values reads i lt)

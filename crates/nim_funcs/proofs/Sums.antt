@@ -62,7 +62,8 @@ pair_cells first second r c shaped even =
     ⊎_elim
     (λ row_in. ⊎_elim
     (λ column_in. cell_by height width r c cell row_in column_in)
-    (λ past. cell_outside height width r c cell past ∙ sym (ap₂ plus (cell_beside first r c shaped (omega (arith, past))) (cell_beside second r c even (omega (arith, past)))))
+    (λ past. cell_outside height width r c cell past ∙ sym (ap₂ plus (cell_beside first r c shaped (omega (arith, past)))
+    (cell_beside second r c even (omega (arith, past)))))
     (cases_lt c width))
     (λ past. cell_below (grid_by height width cell) r c (omega (arith, past, length-grid_by height width cell))
     ∙ sym (ap₂ plus (cell_below first r c (omega (arith, past))) (cell_below second r c (omega (arith, past)))))
@@ -87,7 +88,8 @@ sum_one value sums shaped is =
     }
 
 -- the sum of one value more
-pub sum_more : (reads : List Grid) (sums value more : Grid) → IsGrid value → IsGrid more → IsSumOf reads sums → more ≡ add_of sums value → IsSumOf (reads ++ value ∷ []) more
+pub sum_more : (reads : List Grid) (sums value more : Grid) → IsGrid value → IsGrid more → IsSumOf reads sums → more ≡ add_of sums value
+    → IsSumOf (reads ++ value ∷ []) more
 sum_more reads sums value more even shaped before is =
     let tall = λ (g : Grid). length g.rows in
     let wide = λ (g : Grid). g.width in
@@ -103,6 +105,7 @@ sum_more reads sums value more even shaped before is =
           ap (λ (g : Grid). cell_of g r c) is
           ∙ pair_cells sums value r c before.shaped even
           ∙ ap (λ sum. plus sum (cell_of value r c)) (before.cells r c)
-          ∙ sym (ap sum_of_cells (map-append (λ (g : Grid). cell_of g r c) reads (value ∷ [])) ∙ fold_push plus (pos 0) (map (λ (g : Grid). cell_of g r c) reads) (cell_of value r c));
+          ∙ sym (ap sum_of_cells (map-append (λ (g : Grid). cell_of g r c) reads (value ∷ []))
+          ∙ fold_push plus (pos 0) (map (λ (g : Grid). cell_of g r c) reads) (cell_of value r c));
       shaped = shaped;
     }

@@ -12,7 +12,8 @@ use Rattle.nim_base.specs.Value.{Grid}
 use Rattle.nim_base.specs.Functions.{at_column, add_of, keep_of, single}
 use Rattle.nim_funcs.specs.Laws.{in_turn, SplitsRows, KeepCounts, left_out}
 
-in_turn_more : {X : Type 0} (passes : Bool) (x : X) (turns : List Bool) (firsts seconds : List X) → in_turn (passes ∷ turns) (cond passes (x ∷ firsts) firsts) (cond (not passes) (x ∷ seconds) seconds) ≡ x ∷ in_turn turns firsts seconds
+in_turn_more : {X : Type 0} (passes : Bool) (x : X) (turns : List Bool) (firsts seconds : List X)
+    → in_turn (passes ∷ turns) (cond passes (x ∷ firsts) firsts) (cond (not passes) (x ∷ seconds) seconds) ≡ x ∷ in_turn turns firsts seconds
 in_turn_more true x turns firsts seconds = refl
 in_turn_more false x turns firsts seconds = refl
 
@@ -54,4 +55,5 @@ keep_counts column low high grid few =
     let is_within = λ (row : List ℤ). int_le low (at_column column row) && int_le (at_column column row) high in
     let all : length (keep_of column low high grid).rows + length (left_out column low high grid).rows ≡ length grid.rows =
     length-filter_both is_within (λ row. not (is_within row)) (λ row. refl) grid.rows in
-    counted (0 + length (keep_of column low high grid).rows) (0 + length (left_out column low high grid).rows) (0 + length grid.rows) (omega arith) (omega arith)
+    counted (0 + length (keep_of column low high grid).rows) (0 + length (left_out column low high grid).rows) (0 + length grid.rows) (omega arith)
+    (omega arith)

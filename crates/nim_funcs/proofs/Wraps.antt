@@ -14,7 +14,10 @@ pub onto : (n : ℕ) (cell : ℤ) → to_z w64 ((n % 18446744073709551616 + of_z
 onto n cell = ap (λ k. to_z w64 ((k + of_z w64 cell) % 18446744073709551616)) (sym (back n))
 
 -- a product and four summands, divided
-pub weighed : (factor divisor here up down left right result : ℤ) → SFits w64 divisor → result ≡ quotient (to_z w64 (((((of_z w64 factor * of_z w64 here % 18446744073709551616 + of_z w64 up) % 18446744073709551616 + of_z w64 down) % 18446744073709551616 + of_z w64 left) % 18446744073709551616 + of_z w64 right) % 18446744073709551616)) (to_z w64 (of_z w64 divisor)) → result ≡ quotient (plus (plus (plus (plus (int_wrapping_mul w64 factor here) up) down) left) right) divisor
+pub weighed : (factor divisor here up down left right result : ℤ) → SFits w64 divisor
+    → result ≡ quotient (to_z w64 (((((of_z w64 factor * of_z w64 here % 18446744073709551616 + of_z w64 up) % 18446744073709551616 + of_z w64 down) %
+    18446744073709551616 + of_z w64 left) % 18446744073709551616 + of_z w64 right) % 18446744073709551616)) (to_z w64 (of_z w64 divisor))
+    → result ≡ quotient (plus (plus (plus (plus (int_wrapping_mul w64 factor here) up) down) left) right) divisor
 weighed factor divisor here up down left right result fits is =
     let product = of_z w64 factor * of_z w64 here in
     let one = product % 18446744073709551616 + of_z w64 up in
@@ -22,4 +25,5 @@ weighed factor divisor here up down left right result fits is =
     let three = two % 18446744073709551616 + of_z w64 left in
     is
     ∙ ap (quotient (to_z w64 ((three % 18446744073709551616 + of_z w64 right) % 18446744073709551616))) (to_z-of_z w64 divisor fits)
-    ∙ ap (λ sum. quotient sum divisor) (onto three right ∙ ap (λ s. plus s right) (onto two left ∙ ap (λ s. plus s left) (onto one down ∙ ap (λ s. plus s down) (onto product up))))
+    ∙ ap (λ sum. quotient sum divisor) (onto three right ∙ ap (λ s. plus s right)
+    (onto two left ∙ ap (λ s. plus s left) (onto one down ∙ ap (λ s. plus s down) (onto product up))))

@@ -17,7 +17,8 @@ with_summand sums key summand = insert_entry int_cmp sums key (plus (sum_under s
 
 -- for each row its cell at one column under its cell at another
 abbrev pub with_rows : ℤ → ℤ → List (ℤ × ℤ) → List (List ℤ) → List (ℤ × ℤ)
-with_rows column summed sums rows = fold (λ so_far row. with_summand so_far (at_column column row) (at_column summed row)) sums rows
+with_rows column summed sums rows =
+    fold (λ so_far row. with_summand so_far (at_column column row) (at_column summed row)) sums rows
 
 -- rows of two cells, the key and the sum
 abbrev pub sums_grid : List (ℤ × ℤ) → Grid

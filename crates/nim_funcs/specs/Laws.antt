@@ -18,7 +18,8 @@ in_turn _ _ _ = []
 pub record SplitsRows (column pivot : ℤ) (grid : Grid) : Type 0 where
   pub below : All (λ row. IsTrue (int_lt (at_column column row) pivot)) (below_of column pivot grid).rows
   pub rest : All (λ row. IsTrue (int_le pivot (at_column column row))) (rest_of column pivot grid).rows
-  pub rows : in_turn (map (λ row. int_lt (at_column column row) pivot) grid.rows) (below_of column pivot grid).rows (rest_of column pivot grid).rows ≡ grid.rows
+  pub rows : in_turn (map (λ row. int_lt (at_column column row) pivot) grid.rows) (below_of column pivot grid).rows
+      (rest_of column pivot grid).rows ≡ grid.rows
 
 -- the rows that keep leaves out, in order
 abbrev pub left_out : ℤ → ℤ → ℤ → Grid → Grid
@@ -29,7 +30,8 @@ left_out column low high grid =
 abbrev pub KeepCounts : ℤ → ℤ → ℤ → Grid → Type 0
 KeepCounts column low high grid =
     length grid.rows < 2 ^ 63
-    → add_of (count_of (keep_of column low high grid ∷ [])) (count_of (left_out column low high grid ∷ [])) ≡ count_of (grid ∷ [])
+    → add_of (count_of (keep_of column low high grid ∷ [])) (count_of (left_out column low high grid ∷ []))
+    ≡ count_of (grid ∷ [])
 
 -- Add is the sum of its two reads.
 abbrev pub AddIsSum : Grid → Grid → Type 0
@@ -54,7 +56,8 @@ sums_of groups = map (at_column (pos 1)) groups.rows
 -- The numbers of a group ascend and are just those of its column, and its sums add up to the sum over all rows.
 pub record GathersRows (column summed : ℤ) (grid : Grid) : Type 0 where
   pub ascend : IsStrictlySortedBy int_cmp (numbers_of (group_of column summed grid))
-  pub numbers : (number : ℤ) → Contains (numbers_of (group_of column summed grid)) number ↔ Contains (map (at_column column) grid.rows) number
+  pub numbers : (number : ℤ) → Contains (numbers_of (group_of column summed grid)) number ↔ Contains
+      (map (at_column column) grid.rows) number
   pub sums : sum_of_cells (sums_of (group_of column summed grid)) ≡ sum_of_cells (map (at_column summed) grid.rows)
 
 -- Merge leaves one grouped value as it is.

@@ -26,8 +26,10 @@ opened_of files = files.opened
 abbrev pub reads_named : List FileFail → ℕ → List ℕ
 reads_named [] number = []
 reads_named (Open call ∷ fails) number = reads_named fails number
-reads_named (Read opened read ∷ fails) number = if opened == number then read ∷ reads_named fails number else reads_named fails number
+reads_named (Read opened read ∷ fails) number =
+    if opened == number then read ∷ reads_named fails number else reads_named fails number
 
 -- the open that comes next is to fail, or there is no file of this name
 abbrev pub FailsToOpen : MemFiles → List ℕ → Type 0
-FailsToOpen files name = Contains (fails_of files) (Open (opens_of files)) ⊎ (content name (entries files.files.items) ≡ None)
+FailsToOpen files name =
+    Contains (fails_of files) (Open (opens_of files)) ⊎ (content name (entries files.files.items) ≡ None)

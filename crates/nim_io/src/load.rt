@@ -47,7 +47,8 @@ pub fn read_all<L: Files>(
 
     ensures open_fault { IsErrOf result LoadFault.Open → Rose (L.faults files.old) (L.faults files.new) }
     ensures read_fault { IsErrOf result LoadFault.Read → Rose (L.faults files.old) (L.faults files.new) }
-    ensures too_long { IsErrOf result LoadFault.TooLong → TellsSome (L.told files.old) name.now (λ bytes. most < length bytes) }
+    ensures too_long { IsErrOf result LoadFault.TooLong
+        → TellsSome (L.told files.old) name.now (λ bytes. most < length bytes) }
 
     // Where no fault came, the told files decide the answer, but for memory.
     ensures complete { ¬ Rose (L.faults files.old) (L.faults files.new)

@@ -89,7 +89,8 @@ impl Files for MemFiles {
     ghost faults = { λ f. f.faults };
 
     fn open(&mut self, alloc: Global, name: &str) -> Result<MemSource, OpenFault>
-        ensures bytes { IfOk result (λ item. Opens (Some (entries self.old.files.items)) name.now (⟦<MemSource as Source>⟧.left item)) }
+        ensures bytes { IfOk result (λ item. Opens (Some (entries self.old.files.items)) name.now
+            (⟦<MemSource as Source>⟧.left item)) }
         ensures fresh { IfOk result (λ item. ⟦<MemSource as Source>⟧.faults item ≡ 0) }
         ensures cause { IsErrOf result OpenFault.Failed → Rose self.old.faults self.new.faults }
         ensures quiet { OnOk result (self.new.faults ≡ self.old.faults) }
@@ -99,7 +100,8 @@ impl Files for MemFiles {
 
         // It fails where it is to fail or the name is missing, and nowhere else; so does the source that it opens.
         ensures named { IsErrOf result OpenFault.Failed ↔ FailsToOpen self.old name.now }
-        ensures reads { IfOk result (λ item. source.fails_of item ≡ reads_named (fails_of self.old) (opened_of self.old)) }
+        ensures reads { IfOk result (λ item. source.fails_of item
+            ≡ reads_named (fails_of self.old) (opened_of self.old)) }
         ensures first { IfOk result (λ item. source.reads_of item ≡ 0) }
         ensures kept { fails_of self.new ≡ fails_of self.old }
         ensures counted { opens_of self.new ≡ min (opens_of self.old + 1) (2 ^ 32 - 1) }

@@ -26,20 +26,23 @@ items_past m (item ∷ rest) left past = sym (cond-true (nat_le m.steps m.driver
 pub asks_limit : (m : Machine) → m.full ≡ false → is_nil m.driver.todo ≡ false → m.steps ≤ m.driver.count → Ask.Limit ≡ ask_now m
 asks_limit m open_still left past = items_past m m.driver.todo left past ∙ sym (asks_open m open_still)
 
-items_first : (m : Machine) (items rest : List Item) (stmt : Stmt) → items ≡ Run stmt ∷ rest → m.driver.count < m.steps → stmt_ask m.driver.scalars m.spans (out-Stmt stmt) ≡ items_ask m items
+items_first : (m : Machine) (items rest : List Item) (stmt : Stmt) → items ≡ Run stmt ∷ rest → m.driver.count < m.steps
+    → stmt_ask m.driver.scalars m.spans (out-Stmt stmt) ≡ items_ask m items
 items_first m items rest stmt is room =
     sym (ap (items_ask m) is
     ∙ cond-false (nat_le m.steps m.driver.count) Ask.Limit (stmt_ask m.driver.scalars m.spans (out-Stmt stmt)) (lt-leb m.steps m.driver.count room))
 
 -- a statement comes first
-pub asks_stmt : (m : Machine) (rest : List Item) (stmt : Stmt) → m.full ≡ false → m.driver.todo ≡ Run stmt ∷ rest → m.driver.count < m.steps → stmt_ask m.driver.scalars m.spans (out-Stmt stmt) ≡ ask_now m
+pub asks_stmt : (m : Machine) (rest : List Item) (stmt : Stmt) → m.full ≡ false → m.driver.todo ≡ Run stmt ∷ rest → m.driver.count < m.steps
+    → stmt_ask m.driver.scalars m.spans (out-Stmt stmt) ≡ ask_now m
 asks_stmt m rest stmt open_still is room = items_first m m.driver.todo rest stmt is room ∙ sym (asks_open m open_still)
 
 pub asked_stmt : (m : Machine) (rest : List Item) (stmt : Stmt) → m.full ≡ false → m.driver.todo ≡ Run stmt ∷ rest → m.driver.count < m.steps
     → record m { driver = quiet_step m.driver; asked = stmt_asked (out-Stmt stmt) } ≡ asked_now m
 asked_stmt m rest stmt open_still is room =
     sym (asked_open m open_still ∙ ap (items_asked m) is
-    ∙ cond-false (nat_le m.steps m.driver.count) m (record m { driver = quiet_step m.driver; asked = stmt_asked (out-Stmt stmt) }) (lt-leb m.steps m.driver.count room))
+    ∙ cond-false (nat_le m.steps m.driver.count) m (record m { driver = quiet_step m.driver; asked = stmt_asked (out-Stmt stmt) })
+    (lt-leb m.steps m.driver.count room))
 
 -- an ask wants the kind of answer that is kept, where the statement isn't one that asks nothing
 pub stmt_wants : (scalars : List ℤ) (spans : List Span) (stmt : Stmt-F Stmt) → Wants (stmt_ask scalars spans stmt) (stmt_asked stmt)

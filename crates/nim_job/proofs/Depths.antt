@@ -33,7 +33,8 @@ levels_deep whole spot [] are = omega arith
 levels_deep whole spot (level ∷ levels) are =
     let inside = enter whole spot level in
     let parts = and_parts (fits_level inside) (are_levels whole inside levels) are in
-    let holds = and_parts (option_map_or (λ (s : Stmt). holds_kind level.kind (out-Stmt s)) inside.around false) (nat_le level.next (length inside.body)) parts.0 in
+    let holds =
+    and_parts (option_map_or (λ (s : Stmt). holds_kind level.kind (out-Stmt s)) inside.around false) (nat_le level.next (length inside.body)) parts.0 in
     let found = holder level.kind inside.around holds.0 in
     let stmt = found.0 in
     let body : inside.body ≡ body_in level.kind (out-Stmt stmt) =

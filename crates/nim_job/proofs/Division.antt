@@ -17,4 +17,5 @@ euclid_natural (negsuc a) right = (_, refl)
 
 pub natural : LeavesNatural
 natural = λ left right.
-    cond_both (int_eq right (pos 0)) (pos 0) (int_rem_euclid left right) (λ (x : ℤ). (rest : ℕ) × (x ≡ pos rest)) (λ none. (0, refl)) (λ some. euclid_natural left right)
+    cond_both (int_eq right (pos 0)) (pos 0) (int_rem_euclid left right) (λ (x : ℤ). (rest : ℕ) × (x ≡ pos rest)) (λ none. (0, refl))
+    (λ some. euclid_natural left right)

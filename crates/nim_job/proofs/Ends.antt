@@ -16,7 +16,8 @@ use Rattle.nim_job.specs.Step.{State}
 use Rattle.nim_job.proofs.Steps.{nil_last, over_last}
 
 -- where nothing is asked nothing is left to do, but statements that ask nothing
-stmt_finished : (scalars : List ℤ) (stmt : Stmt-F Stmt) (job : Job) (b : Bool) → (if b then Ask.Limit else stmt_ask scalars (spans_of job.vars) stmt) ≡ Ask.Finished → (b ≡ false) × (is_quiet_stmt stmt ≡ true)
+stmt_finished : (scalars : List ℤ) (stmt : Stmt-F Stmt) (job : Job) (b : Bool)
+    → (if b then Ask.Limit else stmt_ask scalars (spans_of job.vars) stmt) ≡ Ask.Finished → (b ≡ false) × (is_quiet_stmt stmt ≡ true)
 stmt_finished scalars stmt job true is = absurd cc
 stmt_finished scalars (Stmt-F.Do block args) job false is = absurd cc
 stmt_finished scalars (Stmt-F.Get s var part row cell) job false is = absurd cc
@@ -28,7 +29,8 @@ again_finished : (b : Bool) → (if b then Ask.Limit else Ask.Finished) ≡ Ask.
 again_finished true is = absurd cc
 again_finished false is = refl
 
-pub items_finished : (job : Job) (state : State) (items : List Item) → (is_quiet items ≡ true → job.steps ≤ state.driver.count) → items_ask (machine_at job state) items ≡ Ask.Finished → is_nil items ≡ true
+pub items_finished : (job : Job) (state : State) (items : List Item) → (is_quiet items ≡ true → job.steps ≤ state.driver.count)
+    → items_ask (machine_at job state) items ≡ Ask.Finished → is_nil items ≡ true
 items_finished job state [] quiet is = refl
 items_finished job state (Run stmt ∷ rest) quiet is =
     let found = stmt_finished state.driver.scalars (out-Stmt stmt) job (nat_le job.steps state.driver.count) is in
@@ -44,7 +46,8 @@ pub done_ends : (job : Job) (n : ℕ) → n ≤ job.steps → length (driver_at 
 done_ends job n within fits nil =
     let state = driver_at job n in
     let open_end : is_limit state ≡ false =
-    or_from (not (is_nil state.driver.todo)) (nat_lt output_limit (length state.driver.output)) (ap not nil) (le-ltb output_limit (length state.driver.output) fits) in
+    or_from (not (is_nil state.driver.todo)) (nat_lt output_limit (length state.driver.output)) (ap not nil)
+    (le-ltb output_limit (length state.driver.output) fits) in
     ap ending_of (nil_last job n within nil)
     ∙ cond-false (is_limit state) (record { status = 4; bytes = [] }) (record { status = 0; bytes = state.driver.output }) open_end
 
@@ -59,7 +62,8 @@ full_ends job n within over =
     limit_ends job state (over_last job n within over)
     (or_right (not (is_nil state.driver.todo)) (nat_lt output_limit (length state.driver.output)) (lt-ltb output_limit (length state.driver.output) over))
 
-stmt_limit : (scalars : List ℤ) (stmt : Stmt-F Stmt) (job : Job) (b : Bool) → (if b then Ask.Limit else stmt_ask scalars (spans_of job.vars) stmt) ≡ Ask.Limit → b ≡ true
+stmt_limit : (scalars : List ℤ) (stmt : Stmt-F Stmt) (job : Job) (b : Bool) → (if b then Ask.Limit else stmt_ask scalars (spans_of job.vars) stmt) ≡ Ask.Limit
+    → b ≡ true
 stmt_limit scalars stmt job true is = refl
 stmt_limit scalars (Stmt-F.Do block args) job false is = absurd cc
 stmt_limit scalars (Stmt-F.Get s var part row cell) job false is = absurd cc
@@ -71,7 +75,8 @@ again_limit : (b : Bool) → (if b then Ask.Limit else Ask.Finished) ≡ Ask.Lim
 again_limit true is = refl
 again_limit false is = absurd cc
 
-pub items_limit : (job : Job) (state : State) (items : List Item) → items_ask (machine_at job state) items ≡ Ask.Limit → (is_nil items ≡ false) × (job.steps ≤ state.driver.count)
+pub items_limit : (job : Job) (state : State) (items : List Item) → items_ask (machine_at job state) items ≡ Ask.Limit
+    → (is_nil items ≡ false) × (job.steps ≤ state.driver.count)
 items_limit job state [] is = absurd cc
 items_limit job state (Run stmt ∷ rest) is =
     (refl, leb-true job.steps state.driver.count (stmt_limit state.driver.scalars (out-Stmt stmt) job (nat_le job.steps state.driver.count) is))

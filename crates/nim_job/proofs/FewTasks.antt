@@ -40,7 +40,8 @@ length_forms vars (stage ∷ stages) =
 block_tasks_few : (vars : List Var) (block : Block) → is_block vars block ≡ true → sum_by (task_count vars) block.stages ≤ 1024
 block_tasks_few vars block is = grind (arith, nat_tests)
 
-tasks_at : (vars : List Var) (blocks : List Block) (block : ℕ) → list_all (is_block vars) blocks ≡ true → sum_by (task_count vars) (option_map_or (λ (b : Block). b.stages) (slice_get blocks block) []) ≤ 1024
+tasks_at : (vars : List Var) (blocks : List Block) (block : ℕ) → list_all (is_block vars) blocks ≡ true
+    → sum_by (task_count vars) (option_map_or (λ (b : Block). b.stages) (slice_get blocks block) []) ≤ 1024
 tasks_at vars [] block all = omega arith
 tasks_at vars (b ∷ blocks) zero all = block_tasks_few vars b (and_parts (is_block vars b) (list_all (is_block vars) blocks) all).0
 tasks_at vars (b ∷ blocks) (suc block) all = tasks_at vars blocks block (and_parts (is_block vars b) (list_all (is_block vars) blocks) all).1
@@ -86,12 +87,14 @@ stmt_fit : (job : Job) (state : State) (stmt : Stmt-F Stmt) → is_whole job ≡
 stmt_fit job state (Stmt-F.Do block args) whole = tasks_there job block (map (atom_of state.driver.scalars) args) whole
 stmt_fit job state stmt whole = refl
 
-items_fit : (job : Job) (state : State) (items : List Item) → is_whole job ≡ true → list_all (is_task (objects_of job.vars)) (items_tasks job state items) ≡ true
+items_fit : (job : Job) (state : State) (items : List Item) → is_whole job ≡ true
+    → list_all (is_task (objects_of job.vars)) (items_tasks job state items) ≡ true
 items_fit job state [] whole = refl
 items_fit job state (Run stmt ∷ rest) whole = stmt_fit job state (out-Stmt stmt) whole
 items_fit job state (Again turns body ∷ rest) whole = refl
 
-next_fit : (job : Job) (state : State) (b : Bool) → is_whole job ≡ true → list_all (is_task (objects_of job.vars)) (if b then [] else items_tasks job state state.driver.todo) ≡ true
+next_fit : (job : Job) (state : State) (b : Bool) → is_whole job ≡ true
+    → list_all (is_task (objects_of job.vars)) (if b then [] else items_tasks job state state.driver.todo) ≡ true
 next_fit job state true whole = refl
 next_fit job state false whole = items_fit job state state.driver.todo whole
 

@@ -108,7 +108,8 @@ Told job state asked next tasks (Ask.Output var) =
     (state.driver.count < job.steps) × (tasks ≡ [])
     × (next.driver.output ≡ state.driver.output ++ output_of job.vars state.values var)
     × (next.driver.count ≡ state.driver.count + 1)
-    × (length state.driver.output + length (output_of job.vars state.values var) ≤ output_limit → appended asked (output_of job.vars state.values var) ≡ machine_at job next)
+    × (length state.driver.output + length (output_of job.vars state.values var) ≤ output_limit
+    → appended asked (output_of job.vars state.values var) ≡ machine_at job next)
 Told job state asked next tasks _ = Unit {0}
 
 -- nothing more is printed
@@ -123,8 +124,10 @@ stmt_next job state tasks stmt = record {
   position = state.position + length tasks;
 }
 
-stmt_follows : (job : Job) (state : State) (stmt : Stmt-F Stmt) → state.driver.count < job.steps → is_whole job ≡ true → sound_stmt job (map-Stmt Stmt Bool (is_sound job) stmt) ≡ true
-    → Told job state (record (machine_at job state) { driver = quiet_step state.driver; asked = stmt_asked stmt }) (stmt_next job state (stmt_tasks job state stmt) stmt)
+stmt_follows : (job : Job) (state : State) (stmt : Stmt-F Stmt) → state.driver.count < job.steps → is_whole job ≡ true
+    → sound_stmt job (map-Stmt Stmt Bool (is_sound job) stmt) ≡ true
+    → Told job state (record (machine_at job state) { driver = quiet_step state.driver; asked = stmt_asked stmt })
+    (stmt_next job state (stmt_tasks job state stmt) stmt)
     (stmt_tasks job state stmt) (stmt_ask state.driver.scalars (spans_of job.vars) stmt)
 stmt_follows job state (Stmt-F.Do block args) room whole sound =
     (room, refl, λ cell. record { machine = refl; counted = refl; printed = no_more state.driver.output })
@@ -143,44 +146,57 @@ stmt_follows job state (Stmt-F.Get s var part row cell) room whole sound =
 stmt_follows job state Stmt-F.Checkpoint room whole sound =
     (room, refl, λ cell. record { machine = refl; counted = refl; printed = no_more state.driver.output })
 stmt_follows job state (Stmt-F.Output var) room whole sound =
-    let text = output_of job.vars state.values var in
-    (room, refl, refl, refl, λ fits. cond-true (nat_le (length state.driver.output + length text) output_limit) _ _ (le-leb (length state.driver.output + length text) output_limit fits))
+    let text = output_of job.vars state.values var in (
+      room,
+      refl,
+      refl,
+      refl,
+      λ fits. cond-true (nat_le (length state.driver.output + length text) output_limit) _ _
+          (le-leb (length state.driver.output + length text) output_limit fits),
+    )
 stmt_follows job state (Stmt-F.Let s first rest) room whole sound = tt
 stmt_follows job state (Stmt-F.Loop turns body) room whole sound = tt
 stmt_follows job state (Stmt-F.While cond body) room whole sound = tt
 stmt_follows job state (Stmt-F.If cond first second) room whole sound = tt
 
 -- the same where a statement more may be counted or not
-stmt_within : (job : Job) (state : State) (stmt : Stmt-F Stmt) (b : Bool) → b ≡ nat_le job.steps state.driver.count → is_whole job ≡ true → sound_stmt job (map-Stmt Stmt Bool (is_sound job) stmt) ≡ true
+stmt_within : (job : Job) (state : State) (stmt : Stmt-F Stmt) (b : Bool) → b ≡ nat_le job.steps state.driver.count → is_whole job ≡ true
+    → sound_stmt job (map-Stmt Stmt Bool (is_sound job) stmt) ≡ true
     → Told job state (if b then machine_at job state else record (machine_at job state) { driver = quiet_step state.driver; asked = stmt_asked stmt })
     (stmt_next job state (stmt_tasks job state stmt) stmt) (stmt_tasks job state stmt)
     (if b then Ask.Limit else stmt_ask state.driver.scalars (spans_of job.vars) stmt)
 stmt_within job state stmt true is whole sound = tt
 stmt_within job state stmt false is whole sound = stmt_follows job state stmt (leb-false job.steps state.driver.count (sym is)) whole sound
 
-again_within : (job : Job) (state next : State) (asked : Machine) (tasks : List Task) (b : Bool) → Told job state asked next tasks (if b then Ask.Limit else Ask.Finished)
+again_within : (job : Job) (state next : State) (asked : Machine) (tasks : List Task) (b : Bool)
+    → Told job state asked next tasks (if b then Ask.Limit else Ask.Finished)
 again_within job state next asked tasks true = tt
 again_within job state next asked tasks false = tt
 
 items_follow : (job : Job) (state : State) (items : List Item) → is_whole job ≡ true → list_all (is_item job) items ≡ true
-    → Told job state (items_asked (machine_at job state) items) (items_step job state items) (items_tasks job state items) (items_ask (machine_at job state) items)
+    → Told job state (items_asked (machine_at job state) items) (items_step job state items) (items_tasks job state items)
+    (items_ask (machine_at job state) items)
 items_follow job state [] whole sound = tt
 items_follow job state (Run stmt ∷ rest) whole sound =
     let is = (and_parts (is_sound job stmt) (list_all (is_item job) rest) sound).0 in
     stmt_within job state (out-Stmt stmt) (nat_le job.steps state.driver.count) refl whole (sym (fold_out-Stmt Bool (sound_stmt job) stmt) ∙ is)
 items_follow job state (Again turns body ∷ rest) whole sound =
-    again_within job state (items_step job state (Again turns body ∷ rest)) (items_asked (machine_at job state) (Again turns body ∷ rest)) [] (nat_le job.steps state.driver.count)
+    again_within job state (items_step job state (Again turns body ∷ rest)) (items_asked (machine_at job state) (Again turns body ∷ rest)) []
+    (nat_le job.steps state.driver.count)
 
 -- what follows where a machine stands before it asks
 asks_now : (job : Job) (b : Machine) → is_whole job ≡ true → StandsAt job b
     → Told job (state_at job b) (asked_now b) (step job (state_at job b)) (tasks_next job (state_at job b)) (ask_now b)
 asks_now job b whole at =
     let state = state_at job b in
-    let within : length state.driver.output ≤ output_limit = let printed = at.within.printed in omega (arith, printed, ap (λ (k : Machine). length k.driver.output) at.machine) in
+    let within : length state.driver.output ≤ output_limit = let printed =
+    at.within.printed in omega (arith, printed, ap (λ (k : Machine). length k.driver.output) at.machine) in
     let here = items_follow job state state.driver.todo whole (todo_sound job b.driver.count whole) in
     subst (λ (k : Machine). Told job state (asked_now k) (step job state) (tasks_next job state) (ask_now k)) (sym at.machine)
-    (subst (λ (next : State). Told job state (asked_now (machine_at job state)) next (tasks_next job state) (ask_now (machine_at job state))) (sym (step_open job state within))
-    (subst (λ (tasks : List Task). Told job state (asked_now (machine_at job state)) (items_step job state state.driver.todo) tasks (ask_now (machine_at job state))) (sym (tasks_open job state within)) here))
+    (subst (λ (next : State). Told job state (asked_now (machine_at job state)) next (tasks_next job state) (ask_now (machine_at job state)))
+    (sym (step_open job state within))
+    (subst (λ (tasks : List Task). Told job state (asked_now (machine_at job state)) (items_step job state state.driver.todo) tasks
+    (ask_now (machine_at job state))) (sym (tasks_open job state within)) here))
 
 -- ---- the next state
 
@@ -189,8 +205,10 @@ unfolding driver_at
 one_more job n k more = ap (driver_at job) (more ∙ add-one n)
 
 -- a machine that stands at the state after a step goes on
-steps_on : (job : Job) (b next : Machine) (tasks : List Task) → StandsAt job b → (state_at job b).driver.count < job.steps → tasks_next job (state_at job b) ≡ tasks
-    → next ≡ machine_at job (step job (state_at job b)) → (step job (state_at job b)).driver.count ≡ (state_at job b).driver.count + 1 → length next.driver.output ≤ output_limit
+steps_on : (job : Job) (b next : Machine) (tasks : List Task) → StandsAt job b → (state_at job b).driver.count < job.steps
+    → tasks_next job (state_at job b) ≡ tasks
+    → next ≡ machine_at job (step job (state_at job b)) → (step job (state_at job b)).driver.count ≡ (state_at job b).driver.count + 1
+    → length next.driver.output ≤ output_limit
     → GoesFurther job b next tasks
 steps_on job b next tasks at room runs is counted printed =
     let state = state_at job b in
@@ -223,7 +241,8 @@ goes_from job m b next tasks from further = record {
 }
 
 -- an ask whose answer prints nothing
-quietly : (job : Job) (m b next : Machine) (tasks : List Task) → StandsAt job b → Before job m b → (state_at job b).driver.count < job.steps → tasks_next job (state_at job b) ≡ tasks
+quietly : (job : Job) (m b next : Machine) (tasks : List Task) → StandsAt job b → Before job m b → (state_at job b).driver.count < job.steps
+    → tasks_next job (state_at job b) ≡ tasks
     → Steps job (state_at job b) next (step job (state_at job b)) [] → GoesFurther job m next tasks
 quietly job m b next tasks at from room runs steps =
     let state = state_at job b in
@@ -231,7 +250,15 @@ quietly job m b next tasks at from room runs steps =
     let within = at.within.printed in
     goes_from job m b next tasks from
     (steps_on job b next tasks at room runs steps.machine steps.counted
-    (omega (arith, within, output, ap (λ (k : Machine). length k.driver.output) steps.machine, ap length steps.printed, ap length (append-nil state.driver.output))))
+    (omega (
+      arith,
+      within,
+      output,
+      ap (λ (k : Machine). length k.driver.output) steps.machine,
+      ap length steps.printed,
+      ap length
+          (append-nil state.driver.output),
+    )))
 
 -- ---- what is asked is there
 
@@ -241,7 +268,8 @@ call_there [] block args is = absurd (both_ways false refl is)
 call_there (b ∷ blocks) zero args is = (omega arith, eqb-true args b.args is)
 call_there (b ∷ blocks) (suc block) args is = let found = call_there blocks block args is in (omega (arith, found.0), found.1)
 
-stmt_there : (job : Job) (scalars : List ℤ) (stmt : Stmt-F Stmt) (b : Bool) → is_whole job ≡ true → sound_stmt job (map-Stmt Stmt Bool (is_sound job) stmt) ≡ true
+stmt_there : (job : Job) (scalars : List ℤ) (stmt : Stmt-F Stmt) (b : Bool) → is_whole job ≡ true
+    → sound_stmt job (map-Stmt Stmt Bool (is_sound job) stmt) ≡ true
     → IsThere job (if b then Ask.Limit else stmt_ask scalars (spans_of job.vars) stmt)
 stmt_there job scalars stmt true whole sound = tt
 stmt_there job scalars (Stmt-F.Do block args) false whole sound =
@@ -261,7 +289,8 @@ again_there : (job : Job) (b : Bool) → IsThere job (if b then Ask.Limit else A
 again_there job true = tt
 again_there job false = tt
 
-items_there : (job : Job) (state : State) (items : List Item) → is_whole job ≡ true → list_all (is_item job) items ≡ true → IsThere job (items_ask (machine_at job state) items)
+items_there : (job : Job) (state : State) (items : List Item) → is_whole job ≡ true → list_all (is_item job) items ≡ true
+    → IsThere job (items_ask (machine_at job state) items)
 items_there job state [] whole sound = tt
 items_there job state (Run stmt ∷ rest) whole sound =
     let is = (and_parts (is_sound job stmt) (list_all (is_item job) rest) sound).0 in
@@ -277,7 +306,8 @@ now job b at = ap ask_now at.machine
 -- an output that is answered by these texts
 prints_at : (job : Job) (m b : Machine) (var : ℕ) (text : List ℕ) → StandsAt job b → Before job m b → text ≡ output_of job.vars (state_at job b).values var
     → Told job (state_at job b) (asked_now b) (step job (state_at job b)) (tasks_next job (state_at job b)) (Ask.Output var)
-    → (length m.driver.output + length text ≤ output_limit → GoesFurther job m (appended (asked_now b) text) []) × (output_limit < length m.driver.output + length text → serial_of job ≡ record { status = 4; bytes = [] })
+    → (length m.driver.output + length text ≤ output_limit → GoesFurther job m (appended (asked_now b) text) [])
+    × (output_limit < length m.driver.output + length text → serial_of job ≡ record { status = 4; bytes = [] })
 prints_at job m b var text at from is told =
     let state = state_at job b in
     let steps : b.steps ≡ job.steps = ap (λ (k : Machine). k.steps) at.machine in
@@ -287,7 +317,8 @@ prints_at job m b var text at from is told =
     let sum : length (step job state).driver.output ≡ length state.driver.output + length text =
     ap length told.2 ∙ ap (λ (t : List ℕ). length (state.driver.output ++ t)) (sym is) ∙ length-append state.driver.output text in
     let room = told.0 in (
-      λ fits. let next : appended (asked_now b) text ≡ machine_at job (step job state) = ap (appended (asked_now b)) is ∙ told.4 (omega (arith, fits, output, size)) in
+      λ fits. let next : appended (asked_now b) text ≡ machine_at job (step job state) =
+          ap (appended (asked_now b)) is ∙ told.4 (omega (arith, fits, output, size)) in
           goes_from job m b (appended (asked_now b) text) [] from
           (steps_on job b (appended (asked_now b) text) [] at room told.1 next told.3
           (omega (arith, ap (λ (k : Machine). length k.driver.output) next, sum, fits, output))),
@@ -297,7 +328,8 @@ prints_at job m b var text at from is told =
     )
 
 -- at its end
-finishes : (job : Job) (m b : Machine) → StandsAt job b → Before job m b → ask_now b ≡ Ask.Finished → serial_of job ≡ record { status = 0; bytes = m.driver.output }
+finishes : (job : Job) (m b : Machine) → StandsAt job b → Before job m b → ask_now b ≡ Ask.Finished
+    → serial_of job ≡ record { status = 0; bytes = m.driver.output }
 finishes job m b at from is =
     let state = state_at job b in
     let steps : b.steps ≡ job.steps = ap (λ (k : Machine). k.steps) at.machine in
@@ -305,7 +337,8 @@ finishes job m b at from is =
     let output : b.driver.output ≡ state.driver.output = ap (λ (k : Machine). k.driver.output) at.machine in
     let within = at.within in
     let nil = items_finished job state state.driver.todo
-    (λ quiet. let past = from.quiet (ap (λ (k : Machine). is_quiet k.driver.todo) at.machine ∙ quiet) in omega (arith, past, count)) (sym (now job b at) ∙ is) in
+    (λ quiet. let past = from.quiet (ap (λ (k : Machine). is_quiet k.driver.todo) at.machine ∙ quiet) in omega (arith, past, count)) (sym (now job b at) ∙ is)
+    in
     done_ends job b.driver.count (omega (arith, within.counted, steps)) (omega (arith, within.printed, ap length output)) nil
     ∙ ap (λ (bytes : List ℕ). record { status = 0; bytes = bytes }) (sym (sym from.printed ∙ output))
 

@@ -31,10 +31,12 @@ get_some (x ∷ xs) (suc i) within = get_some xs i (omega (arith, within))
 abbrev Front : List Stmt → List Level → Type 0
 Front whole levels = (is_nil (todo_of whole levels) ≡ false) × (stmt_next (spot_of whole levels) ≡ None → is_quiet (todo_of whole levels) ≡ true)
 
-front_stmt : (whole : List Stmt) (outer : List Level) (last : Level) (stmt : Stmt) → stmt_next (spot_of whole (outer ++ last ∷ [])) ≡ Some stmt → Front whole (outer ++ last ∷ [])
+front_stmt : (whole : List Stmt) (outer : List Level) (last : Level) (stmt : Stmt) → stmt_next (spot_of whole (outer ++ last ∷ [])) ≡ Some stmt
+    → Front whole (outer ++ last ∷ [])
 front_stmt whole outer last stmt is = (ap is_nil (todo_taken whole outer last stmt is), λ none. absurd (let apart = sym is ∙ none in cc))
 
-front_turns : (whole : List Stmt) (outer : List Level) (last : Level) → length (spot_of whole (outer ++ last ∷ [])).body ≤ last.next → is_loop last.kind ≡ true → Front whole (outer ++ last ∷ [])
+front_turns : (whole : List Stmt) (outer : List Level) (last : Level) → length (spot_of whole (outer ++ last ∷ [])).body ≤ last.next → is_loop last.kind ≡ true
+    → Front whole (outer ++ last ∷ [])
 front_turns whole outer last done is = let turns = todo_turns whole outer last done is in (ap is_nil turns, λ none. ap is_quiet turns)
 
 loop_there : (k : LevelKind) (next size : ℕ) → (is_loop k || nat_lt next size) ≡ true → size ≤ next → is_loop k ≡ true
@@ -76,10 +78,12 @@ next_within whole outer last stmt is =
     omega (arith, within, next)
 
 -- where one level more leads
-pub spot_more : (whole : List Stmt) (levels : List Level) (i : ℕ) (d : Level) → i < length levels → spot_of whole (take (i + 1) levels) ≡ enter whole (spot_of whole (take i levels)) (get_or levels i d)
+pub spot_more : (whole : List Stmt) (levels : List Level) (i : ℕ) (d : Level) → i < length levels
+    → spot_of whole (take (i + 1) levels) ≡ enter whole (spot_of whole (take i levels)) (get_or levels i d)
 spot_more whole levels i d within = ap (spot_of whole) (take_more levels i d within) ∙ spot_last whole (take i levels) (get_or levels i d)
 
-innermost_from : (whole : List Stmt) (spot : Spot) (levels : List Level) (last : Level) → Some last ≡ slice_get levels (length levels - 1) → (spot_from whole spot levels).level ≡ last
+innermost_from : (whole : List Stmt) (spot : Spot) (levels : List Level) (last : Level) → Some last ≡ slice_get levels (length levels - 1)
+    → (spot_from whole spot levels).level ≡ last
 innermost_from whole spot [] last is = absurd cc
 innermost_from whole spot (x ∷ []) last is = let same : last ≡ x = cc in sym same
 innermost_from whole spot (x ∷ y ∷ levels) last is =
@@ -87,11 +91,13 @@ innermost_from whole spot (x ∷ y ∷ levels) last is =
     innermost_from whole (enter whole spot x) (y ∷ levels) last (is ∙ ap (slice_get (x ∷ y ∷ levels)) later)
 
 -- the last level is the innermost
-pub innermost : (whole : List Stmt) (levels : List Level) (last : Level) → Some last ≡ slice_get levels (length levels - 1) → (spot_of whole levels).level ≡ last
+pub innermost : (whole : List Stmt) (levels : List Level) (last : Level) → Some last ≡ slice_get levels (length levels - 1)
+    → (spot_of whole levels).level ≡ last
 innermost whole levels last is = innermost_from whole no_spot levels last is
 
 -- whether the innermost level has more to do
-pub settled_more : (whole : List Stmt) (outer : List Level) (last : Level) → last.next < length (spot_of whole (outer ++ last ∷ [])).body → is_settled (spot_of whole (outer ++ last ∷ [])) ≡ true
+pub settled_more : (whole : List Stmt) (outer : List Level) (last : Level) → last.next < length (spot_of whole (outer ++ last ∷ [])).body
+    → is_settled (spot_of whole (outer ++ last ∷ [])) ≡ true
 settled_more whole outer last more =
     let spot = spot_of whole (outer ++ last ∷ []) in
     let next : spot.level.next ≡ last.next = ap (λ (s : Spot). s.level.next) (spot_last whole outer last) in
@@ -100,7 +106,8 @@ settled_more whole outer last more =
 pub settled_loop : (whole : List Stmt) (outer : List Level) (last : Level) → last.kind ≡ kind.Loop → is_settled (spot_of whole (outer ++ last ∷ [])) ≡ true
 settled_loop whole outer last is =
     let spot = spot_of whole (outer ++ last ∷ []) in
-    or_left (is_loop spot.level.kind) (nat_lt spot.level.next (length spot.body)) (ap (λ (s : Spot). is_loop s.level.kind) (spot_last whole outer last) ∙ ap is_loop is)
+    or_left (is_loop spot.level.kind) (nat_lt spot.level.next (length spot.body))
+    (ap (λ (s : Spot). is_loop s.level.kind) (spot_last whole outer last) ∙ ap is_loop is)
 
 pub not_loop : (k : LevelKind) → (k ≡ kind.Loop → ⊥) → is_loop k ≡ false
 not_loop kind.Loop other = absurd (other refl)
@@ -111,7 +118,8 @@ not_while kind.While other = absurd (other refl)
 not_while k other = refl
 
 -- the next statement by its number
-pub next_at : (whole : List Stmt) (outer : List Level) (last : Level) (stmt : Stmt) → Some stmt ≡ slice_get (spot_of whole (outer ++ last ∷ [])).body last.next → stmt_next (spot_of whole (outer ++ last ∷ [])) ≡ Some stmt
+pub next_at : (whole : List Stmt) (outer : List Level) (last : Level) (stmt : Stmt) → Some stmt ≡ slice_get (spot_of whole (outer ++ last ∷ [])).body last.next
+    → stmt_next (spot_of whole (outer ++ last ∷ [])) ≡ Some stmt
 next_at whole outer last stmt is =
     let spot = spot_of whole (outer ++ last ∷ []) in
     let next : spot.level.next ≡ last.next = ap (λ (s : Spot). s.level.next) (spot_last whole outer last) in
@@ -122,11 +130,13 @@ get_none [] i is = omega arith
 get_none (x ∷ xs) zero is = absurd cc
 get_none (x ∷ xs) (suc i) is = let rest = get_none xs i is in omega (arith, rest)
 
-pub next_none : (whole : List Stmt) (outer : List Level) (last : Level) → None ≡ slice_get (spot_of whole (outer ++ last ∷ [])).body last.next → length (spot_of whole (outer ++ last ∷ [])).body ≤ last.next
+pub next_none : (whole : List Stmt) (outer : List Level) (last : Level) → None ≡ slice_get (spot_of whole (outer ++ last ∷ [])).body last.next
+    → length (spot_of whole (outer ++ last ∷ [])).body ≤ last.next
 next_none whole outer last is = get_none (spot_of whole (outer ++ last ∷ [])).body last.next is
 
 -- a settled path whose innermost body is done is in a loop's
-pub loop_left : (whole : List Stmt) (outer : List Level) (last : Level) → (0 < length (outer ++ last ∷ []) → is_settled (spot_of whole (outer ++ last ∷ [])) ≡ true)
+pub loop_left : (whole : List Stmt) (outer : List Level) (last : Level)
+    → (0 < length (outer ++ last ∷ []) → is_settled (spot_of whole (outer ++ last ∷ [])) ≡ true)
     → None ≡ slice_get (spot_of whole (outer ++ last ∷ [])).body last.next → is_loop last.kind ≡ true
 loop_left whole outer last settled none =
     let spot = spot_of whole (outer ++ last ∷ []) in
@@ -137,15 +147,18 @@ loop_left whole outer last settled none =
     (omega (arith, done, ap (λ (l : Level). l.next) level))
 
 -- what was to do before the last level of a settled path was taken away, where a statement comes next
-pub taken_front : (whole : List Stmt) (old between outer : List Level) (last : Level) (stmt : Stmt) (body : List Stmt) → todo_of whole between ≡ todo_of whole old → between ≡ outer ++ last ∷ []
+pub taken_front : (whole : List Stmt) (old between outer : List Level) (last : Level) (stmt : Stmt) (body : List Stmt)
+    → todo_of whole between ≡ todo_of whole old → between ≡ outer ++ last ∷ []
     → body ≡ (spot_of whole between).body → Some stmt ≡ slice_get body last.next → todo_of whole old ≡ Run stmt ∷ todo_of whole (outer ++ moved_on last ∷ [])
 taken_front whole old between outer last stmt body todo items at is =
     sym todo ∙ ap (todo_of whole) items
     ∙ todo_taken whole outer last stmt
-    (next_at whole outer last stmt (is ∙ ap (λ (stmts : List Stmt). slice_get stmts last.next) (at ∙ ap (λ (levels : List Level). (spot_of whole levels).body) items)))
+    (next_at whole outer last stmt (is ∙ ap (λ (stmts : List Stmt). slice_get stmts last.next)
+    (at ∙ ap (λ (levels : List Level). (spot_of whole levels).body) items)))
 
 -- and where none does
-pub turns_front : (whole : List Stmt) (old between outer : List Level) (last : Level) (body : List Stmt) → todo_of whole between ≡ todo_of whole old → between ≡ outer ++ last ∷ []
+pub turns_front : (whole : List Stmt) (old between outer : List Level) (last : Level) (body : List Stmt) → todo_of whole between ≡ todo_of whole old
+    → between ≡ outer ++ last ∷ []
     → body ≡ (spot_of whole between).body → (0 < length between → is_settled (spot_of whole between) ≡ true) → None ≡ slice_get body last.next
     → todo_of whole old ≡ Again last.turns (spot_of whole (outer ++ last ∷ [])).body ∷ todo_of whole outer
 turns_front whole old between outer last body todo items at settled is =

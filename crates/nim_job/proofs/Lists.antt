@@ -11,7 +11,8 @@ use Rattle.std.proofs.lemmas.List.FromFn.{length-range_with_len, get_or-range_wi
 use Rattle.std.proofs.lemmas.List.Folds.{list_all-append, list_any_at}
 use Rattle.std.proofs.lemmas.List.Sums.{AllPass-from_list_all}
 
-pub flat_map_step : {X A : Type 0} (f : X → List A) (xs : List X) (i : ℕ) (x : X) → i < length xs → x ≡ get_or xs i x → flat_map f (take (i + 1) xs) ≡ flat_map f (take i xs) ++ f x
+pub flat_map_step : {X A : Type 0} (f : X → List A) (xs : List X) (i : ℕ) (x : X) → i < length xs → x ≡ get_or xs i x
+    → flat_map f (take (i + 1) xs) ≡ flat_map f (take i xs) ++ f x
 flat_map_step {X} f xs i x within is =
     ap (flat_map f) (take_more xs i x within ∙ ap (λ (y : X). take i xs ++ y ∷ []) (sym is))
     ∙ flat_map-append f (take i xs) (x ∷ []) ∙ ap (λ ys. flat_map f (take i xs) ++ ys) (append-nil (f x))
@@ -24,7 +25,8 @@ list_any-map p f [] = refl
 list_any-map p f (x ∷ xs) = ap (λ b. p (f x) || b) (list_any-map p f xs)
 
 -- one item settles the answer
-pub any_mapped : {X A : Type 0} (p : A → Bool) (f : X → A) (xs : List X) (i : ℕ) (d : X) → i < length xs → p (f (get_or xs i d)) ≡ true → true ≡ list_any p (map f xs)
+pub any_mapped : {X A : Type 0} (p : A → Bool) (f : X → A) (xs : List X) (i : ℕ) (d : X) → i < length xs → p (f (get_or xs i d)) ≡ true
+    → true ≡ list_any p (map f xs)
 any_mapped p f xs i d within passes = sym (list_any-map p f xs ∙ list_any_at (λ x. p (f x)) xs i d within passes)
 
 pub list_all_weaker : {X : Type 0} (p q : X → Bool) → ((x : X) → p x ≡ true → q x ≡ true) → (xs : List X) → list_all p xs ≡ true → list_all q xs ≡ true
@@ -33,7 +35,8 @@ list_all_weaker p q weaker (x ∷ xs) all =
     let parts = and_parts (p x) (list_all p xs) all in
     and_from (q x) (list_all q xs) (weaker x parts.0) (list_all_weaker p q weaker xs parts.1)
 
-pub list_all-flat_map : {X A : Type 0} (p : A → Bool) (f : X → List A) (q : X → Bool) → ((x : X) → q x ≡ true → list_all p (f x) ≡ true) → (xs : List X) → list_all q xs ≡ true → list_all p (flat_map f xs) ≡ true
+pub list_all-flat_map : {X A : Type 0} (p : A → Bool) (f : X → List A) (q : X → Bool) → ((x : X) → q x ≡ true → list_all p (f x) ≡ true) → (xs : List X)
+    → list_all q xs ≡ true → list_all p (flat_map f xs) ≡ true
 list_all-flat_map p f q each [] all = refl
 list_all-flat_map p f q each (x ∷ xs) all =
     let parts = and_parts (q x) (list_all q xs) all in

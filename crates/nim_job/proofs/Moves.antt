@@ -24,7 +24,8 @@ pub left_open : (whole : List Stmt) (room : ℕ) (outer : List Level) (last : Le
 left_open whole room outer last is = open_with whole room (outer ++ last ∷ []) outer is (path_parts whole outer last is.path).0
 
 -- a level goes behind its next statement
-pub moved_open : (whole : List Stmt) (room : ℕ) (outer : List Level) (last : Level) (stmt : Stmt) → IsOpen whole room (outer ++ last ∷ []) → stmt_next (spot_of whole (outer ++ last ∷ [])) ≡ Some stmt
+pub moved_open : (whole : List Stmt) (room : ℕ) (outer : List Level) (last : Level) (stmt : Stmt) → IsOpen whole room (outer ++ last ∷ [])
+    → stmt_next (spot_of whole (outer ++ last ∷ [])) ≡ Some stmt
     → IsOpen whole room (outer ++ moved_on last ∷ [])
 moved_open whole room outer last stmt is next =
     let parts = path_parts whole outer last is.path in
@@ -46,7 +47,8 @@ pub todo_taken : (whole : List Stmt) (outer : List Level) (last : Level) (stmt :
 todo_taken whole outer last stmt next = todo_next whole outer last stmt (sym (ap stmt_next (spot_last whole outer last)) ∙ next)
 
 -- a statement's body is entered
-pub entered_open : (whole : List Stmt) (room : ℕ) (levels : List Level) (stmt : Stmt) (k : LevelKind) (turns : ℕ) → IsOpen whole room levels → stmt_behind (spot_of whole levels) ≡ Some stmt
+pub entered_open : (whole : List Stmt) (room : ℕ) (levels : List Level) (stmt : Stmt) (k : LevelKind) (turns : ℕ) → IsOpen whole room levels
+    → stmt_behind (spot_of whole levels) ≡ Some stmt
     → holds_kind k (out-Stmt stmt) ≡ true → IsOpen whole room (levels ++ first_level k turns ∷ [])
 entered_open whole room levels stmt k turns is behind holds =
     open_with whole room levels (levels ++ first_level k turns ∷ []) is (enter_path whole levels stmt k turns is.path behind holds)
@@ -75,7 +77,8 @@ loop_closing kind.Loop turns body around is = refl
 loop_closing k turns body around is = absurd (both_ways false refl is)
 
 -- of a loop further turns are left
-pub todo_turns : (whole : List Stmt) (outer : List Level) (last : Level) → length (spot_of whole (outer ++ last ∷ [])).body ≤ last.next → is_loop last.kind ≡ true
+pub todo_turns : (whole : List Stmt) (outer : List Level) (last : Level) → length (spot_of whole (outer ++ last ∷ [])).body ≤ last.next
+    → is_loop last.kind ≡ true
     → todo_of whole (outer ++ last ∷ []) ≡ Again last.turns (spot_of whole (outer ++ last ∷ [])).body ∷ todo_of whole outer
 todo_turns whole outer last done is =
     let body = (spot_of whole (outer ++ last ∷ [])).body in
@@ -90,7 +93,8 @@ again_more (suc turns) body rest some = let same : turns ≡ suc turns - 1 = ome
 abbrev pub next_turn : Level → Level
 next_turn level = record { next = 0; kind = level.kind; turns = level.turns - 1 }
 
-pub turn_open : (whole : List Stmt) (room : ℕ) (outer : List Level) (last : Level) → IsOpen whole room (outer ++ last ∷ []) → IsOpen whole room (outer ++ next_turn last ∷ [])
+pub turn_open : (whole : List Stmt) (room : ℕ) (outer : List Level) (last : Level) → IsOpen whole room (outer ++ last ∷ [])
+    → IsOpen whole room (outer ++ next_turn last ∷ [])
 turn_open whole room outer last is =
     let parts = path_parts whole outer last is.path in
     open_with whole room (outer ++ last ∷ []) (outer ++ next_turn last ∷ []) is
@@ -109,7 +113,8 @@ abbrev pub is_while : LevelKind → Bool
 is_while kind.While = true
 is_while _ = false
 
-nothing_closing : (k : LevelKind) (turns : ℕ) (body : List Stmt) (around : Option Stmt) → is_loop k ≡ false → is_while k ≡ false → closing_of k turns body around ≡ []
+nothing_closing : (k : LevelKind) (turns : ℕ) (body : List Stmt) (around : Option Stmt) → is_loop k ≡ false → is_while k ≡ false
+    → closing_of k turns body around ≡ []
 nothing_closing kind.Driver turns body around loop while = refl
 nothing_closing kind.Loop turns body around loop while = absurd cc
 nothing_closing kind.While turns body around loop while = absurd cc
@@ -117,14 +122,16 @@ nothing_closing kind.First turns body around loop while = refl
 nothing_closing kind.Second turns body around loop while = refl
 
 -- of another body nothing is left, but of the body of a `while` the `while` itself
-pub todo_left : (whole : List Stmt) (outer : List Level) (last : Level) → length (spot_of whole (outer ++ last ∷ [])).body ≤ last.next → is_loop last.kind ≡ false → is_while last.kind ≡ false
+pub todo_left : (whole : List Stmt) (outer : List Level) (last : Level) → length (spot_of whole (outer ++ last ∷ [])).body ≤ last.next
+    → is_loop last.kind ≡ false → is_while last.kind ≡ false
     → todo_of whole (outer ++ last ∷ []) ≡ todo_of whole outer
 todo_left whole outer last done loop while =
     let body = (spot_of whole (outer ++ last ∷ [])).body in
     let around = (enter whole (spot_of whole outer) last).around in
     todo_done whole outer last done ∙ ap (λ (items : List Item). items ++ todo_of whole outer) (nothing_closing last.kind last.turns body around loop while)
 
-while_fits : (whole : List Stmt) (levels : List Level) (last : Level) → last.kind ≡ kind.While → fits_at whole levels last ≡ true → fits_level (enter whole (spot_of whole levels) last) ≡ true
+while_fits : (whole : List Stmt) (levels : List Level) (last : Level) → last.kind ≡ kind.While → fits_at whole levels last ≡ true
+    → fits_level (enter whole (spot_of whole levels) last) ≡ true
 while_fits whole [] last is fits =
     absurd (both_ways (is_driver last.kind) (ap is_driver is) (and_parts (is_driver last.kind) (nat_le last.next (length whole)) fits).0)
 while_fits whole (first ∷ outer) last is fits = fits
@@ -135,7 +142,8 @@ pub while_behind : (whole : List Stmt) (levels : List Level) (last : Level) → 
 while_behind whole levels last is path =
     let spot = enter whole (spot_of whole levels) last in
     let fits = while_fits whole levels last is (path_parts whole levels last path).1 in
-    let found = holder last.kind spot.around (and_parts (option_map_or (λ (s : Stmt). holds_kind last.kind (out-Stmt s)) spot.around false) (nat_le last.next (length spot.body)) fits).0 in
+    let found = holder last.kind spot.around (and_parts (option_map_or (λ (s : Stmt). holds_kind last.kind (out-Stmt s)) spot.around false)
+    (nat_le last.next (length spot.body)) fits).0 in
     (found.0, found.1)
 
 pub before_parts : (body : List Stmt) (next : ℕ) (stmt : Stmt) → stmt_before body next ≡ Some stmt → (1 ≤ next) × (slice_get body (next - 1) ≡ Some stmt)
@@ -157,10 +165,12 @@ behind_in whole outer around last is path =
     let spot = enter whole (spot_of whole outer) around in
     (found.0, before_parts spot.body around.next found.0 (sym (ap stmt_behind (spot_last whole outer around)) ∙ found.1), found.1)
 
-pub back_some : (whole : List Stmt) (outer : List Level) (around last : Level) → last.kind ≡ kind.While → is_path whole ((outer ++ around ∷ []) ++ last ∷ []) ≡ true → 1 ≤ around.next
+pub back_some : (whole : List Stmt) (outer : List Level) (around last : Level) → last.kind ≡ kind.While
+    → is_path whole ((outer ++ around ∷ []) ++ last ∷ []) ≡ true → 1 ≤ around.next
 back_some whole outer around last is path = (behind_in whole outer around last is path).1.0
 
-pub back_open : (whole : List Stmt) (room : ℕ) (outer : List Level) (around last : Level) → last.kind ≡ kind.While → IsOpen whole room ((outer ++ around ∷ []) ++ last ∷ [])
+pub back_open : (whole : List Stmt) (room : ℕ) (outer : List Level) (around last : Level) → last.kind ≡ kind.While
+    → IsOpen whole room ((outer ++ around ∷ []) ++ last ∷ [])
     → IsOpen whole room (outer ++ moved_back around ∷ [])
 back_open whole room outer around last is open_still =
     let left = left_open whole room (outer ++ around ∷ []) last open_still in
@@ -170,7 +180,8 @@ back_open whole room outer around last is open_still =
     open_with whole room (outer ++ around ∷ []) (outer ++ moved_back around ∷ []) left
     (path_from whole outer (moved_back around) parts.0 (refit whole outer around (around.next - 1) around.turns parts.1 (omega (arith, within))))
 
-pub back_todo : (whole : List Stmt) (outer : List Level) (around last : Level) → last.kind ≡ kind.While → is_path whole ((outer ++ around ∷ []) ++ last ∷ []) ≡ true
+pub back_todo : (whole : List Stmt) (outer : List Level) (around last : Level) → last.kind ≡ kind.While
+    → is_path whole ((outer ++ around ∷ []) ++ last ∷ []) ≡ true
     → length (spot_of whole ((outer ++ around ∷ []) ++ last ∷ [])).body ≤ last.next
     → todo_of whole (outer ++ moved_back around ∷ []) ≡ todo_of whole ((outer ++ around ∷ []) ++ last ∷ [])
 back_todo whole outer around last is path done =

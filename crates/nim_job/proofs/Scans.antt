@@ -11,7 +11,8 @@ use Rattle.nim_job.specs.Whole.{Scan, is_cond, scan_body, scan_of, scan_stmt}
 
 -- an `if` whose first part sets so many scalars goes on with its second
 pub scan_if : (job : Job) (cond : Cond) (first second : List Stmt) (depth scalars behind : ℕ) → is_cond scalars cond ≡ true
-    → scan_body (map (scan_of job) first) depth scalars ≡ Some behind → scan_of job (If cond first second) depth scalars ≡ scan_body (map (scan_of job) second) depth behind
+    → scan_body (map (scan_of job) first) depth scalars ≡ Some behind
+    → scan_of job (If cond first second) depth scalars ≡ scan_body (map (scan_of job) second) depth behind
 scan_if job cond first second depth scalars behind is set =
     ap (λ (stmt : Stmt). scan_of job stmt depth scalars) (sym (rolls-If cond first second))
     ∙ ap (λ (scan : Scan). scan depth scalars) (fold-roll-Stmt Scan (scan_stmt job) (Stmt-F.If cond first second))

@@ -10,7 +10,8 @@ open_before : (m : Machine) → m.full ≡ false → before_ask m ≡ record m {
 open_before m open_still = cond-false m.full m (record m { driver = quiet_steps (m.steps - m.driver.count) m.driver }) open_still
 
 -- one item was taken
-pub settle_more : (m : Machine) → m.full ≡ false → m.driver.count < m.steps → is_quiet m.driver.todo ≡ true → before_ask (record m { driver = quiet_step m.driver }) ≡ before_ask m
+pub settle_more : (m : Machine) → m.full ≡ false → m.driver.count < m.steps → is_quiet m.driver.todo ≡ true
+    → before_ask (record m { driver = quiet_step m.driver }) ≡ before_ask m
 settle_more m open_still room quiet =
     let left = m.steps - (m.driver.count + 1) in
     let more : m.steps - m.driver.count ≡ suc left = omega (arith, room) in
@@ -43,4 +44,5 @@ settle_asks m b open_still is room =
     let count : b.driver.count ≡ (quiet_steps k m.driver).count = ap (λ (x : Machine). x.driver.count) same in
     let steps : b.steps ≡ m.steps = ap (λ (x : Machine). x.steps) same in
     false_from_ne_true (is_quiet b.driver.todo)
-    (λ quiet. let end = quiet_end k m.driver (sym (ap (λ (x : Machine). is_quiet x.driver.todo) same) ∙ quiet) in absurd (omega (arith, end, count, steps, room)))
+    (λ quiet. let end = quiet_end k m.driver (sym (ap (λ (x : Machine). is_quiet x.driver.todo) same) ∙ quiet) in
+    absurd (omega (arith, end, count, steps, room)))

@@ -81,7 +81,8 @@ step job (Stmt-F.Do block args) =
     ((and_parts (is_call job block (length args)) (list_all (is_atom k) args) found.0).0, omega (arith, within)))
 step job (Stmt-F.Let s first rest) = rolled job (Stmt-F.Let s first rest) (λ depth k behind within set. (refl, omega (arith, within)))
 step job (Stmt-F.Get s var part row cell) =
-    rolled job (Stmt-F.Get s var part row cell) (λ depth k behind within set. ((taken (nat_lt var (length job.vars)) (set_at k s) behind set).0, omega (arith, within)))
+    rolled job (Stmt-F.Get s var part row cell) (λ depth k behind within set.
+    ((taken (nat_lt var (length job.vars)) (set_at k s) behind set).0, omega (arith, within)))
 step job (Stmt-F.Loop turns es) =
     let stmts = map (λ (e : Part job). e.0) es in
     rolled job (Stmt-F.Loop turns stmts) (λ depth k behind within set.
@@ -98,11 +99,15 @@ step job (Stmt-F.If cond es fs) =
     let firsts = map (λ (e : Part job). e.0) es in
     let seconds = map (λ (e : Part job). e.0) fs in
     rolled job (Stmt-F.If cond firsts seconds) (λ depth k behind within set.
-    let found = taken (is_cond k cond) (option_and_then (λ (n : ℕ). scan_body (map (scan_of job) seconds) depth n) (scan_body (map (scan_of job) firsts) depth k)) behind set in
+    let found = taken (is_cond k cond) (option_and_then (λ (n : ℕ). scan_body (map (scan_of job) seconds) depth n)
+    (scan_body (map (scan_of job) firsts) depth k)) behind set in
     let between = then_parts (λ (n : ℕ). scan_body (map (scan_of job) seconds) depth n) (scan_body (map (scan_of job) firsts) depth k) behind found.1 in
     let first = body_fine job (λ (e : Part job). e.0) (λ e. e.1) es depth k between.0 between.1 in
-    let second = body_fine job (λ (e : Part job). e.0) (λ e. e.1) fs depth between.0 behind between.2 in
-    (and_from (list_all (λ is. is) (map (is_sound job) firsts)) (list_all (λ is. is) (map (is_sound job) seconds)) first.0 second.0, omega (arith, first.1, second.1)))
+    let second = body_fine job (λ (e : Part job). e.0) (λ e. e.1) fs depth between.0 behind between.2 in (
+      and_from (list_all (λ is. is) (map (is_sound job) firsts)) (list_all (λ is. is) (map (is_sound job) seconds)) first.0 second.0,
+      omega
+          (arith, first.1, second.1),
+    ))
 step job Stmt-F.Checkpoint = rolled job Stmt-F.Checkpoint (λ depth k behind within set. (refl, omega (arith, within)))
 step job (Stmt-F.Output var) =
     rolled job (Stmt-F.Output var) (λ depth k behind within set. ((taken (nat_lt var (length job.vars)) (Some k) behind set).0, omega (arith, within)))

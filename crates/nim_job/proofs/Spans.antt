@@ -42,8 +42,10 @@ parts_at (w ∷ vars) zero v within is = ap (λ (x : Var). x.parts) (sym is)
 parts_at (w ∷ vars) (suc i) v within is = parts_at vars i v (omega (arith, within)) is
 
 -- where the objects of one variable more are
-pub span_at : (vars : List Var) (i first : ℕ) (v : Var) → i < length vars → v ≡ get_or vars i v → first ≡ first_object vars i → record { first = first; parts = v.parts } ≡ span_of vars i
-span_at vars i first v within is begins = ap₂ (λ (f p : ℕ). let span : Span = record { first = f; parts = p } in span) begins (sym (parts_at vars i v within is))
+pub span_at : (vars : List Var) (i first : ℕ) (v : Var) → i < length vars → v ≡ get_or vars i v → first ≡ first_object vars i
+    → record { first = first; parts = v.parts } ≡ span_of vars i
+span_at vars i first v within is begins =
+    ap₂ (λ (f p : ℕ). let span : Span = record { first = f; parts = p } in span) begins (sym (parts_at vars i v within is))
 
 span_fits : (vars : List Var) (i : ℕ) → are_vars vars ≡ true → i < length vars → is_span (span_of vars i) ≡ true
 span_fits vars i are within =
@@ -64,6 +66,7 @@ pub all_spans : (vars : List Var) → are_vars vars ≡ true → list_all is_spa
 all_spans vars are = list_all-map is_span (span_of vars) (range_with_len 0 (length vars)) ∙ spans_fit vars (length vars) are (omega arith)
 
 -- one variable more
-pub spans_more : (vars : List Var) (spans next : List Span) (span : Span) (i : ℕ) → next ≡ spans ++ span ∷ [] → spans ≡ map (span_of vars) (range_with_len 0 i) → span ≡ span_of vars i
+pub spans_more : (vars : List Var) (spans next : List Span) (span : Span) (i : ℕ) → next ≡ spans ++ span ∷ [] → spans ≡ map (span_of vars) (range_with_len 0 i)
+    → span ≡ span_of vars i
     → next ≡ map (span_of vars) (range_with_len 0 (i + 1))
 spans_more vars spans next span i push before is = pushed (span_of vars) [] spans next span i push before is

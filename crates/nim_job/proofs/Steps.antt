@@ -28,14 +28,16 @@ step_open job state within = cond-false (is_over state) state (items_step job st
 pub tasks_open : (job : Job) (state : State) → length state.driver.output ≤ output_limit → tasks_next job state ≡ items_tasks job state state.driver.todo
 tasks_open job state within = cond-false (is_over state) [] (items_tasks job state state.driver.todo) (le-ltb output_limit (length state.driver.output) within)
 
-quiet_told : (job : Job) (state : State) (stmt : Stmt-F Stmt) (driver : Driver) → is_quiet_stmt stmt ≡ true → (stmt_told job state stmt driver ≡ driver) × (stmt_tasks job state stmt ≡ [])
+quiet_told : (job : Job) (state : State) (stmt : Stmt-F Stmt) (driver : Driver) → is_quiet_stmt stmt ≡ true
+    → (stmt_told job state stmt driver ≡ driver) × (stmt_tasks job state stmt ≡ [])
 quiet_told job state (Stmt-F.Do block args) driver is = absurd (both_ways false refl is)
 quiet_told job state (Stmt-F.Get s var part row cell) driver is = absurd (both_ways false refl is)
 quiet_told job state (Stmt-F.Output var) driver is = absurd (both_ways false refl is)
 quiet_told job state stmt driver is = (refl, refl)
 
 -- a step of an item that asks nothing is one of the driver alone
-quiet_items : (job : Job) (state : State) (items : List Item) → is_quiet items ≡ true → ((items_step job state items).driver ≡ quiet_step state.driver) × (items_tasks job state items ≡ [])
+quiet_items : (job : Job) (state : State) (items : List Item) → is_quiet items ≡ true
+    → ((items_step job state items).driver ≡ quiet_step state.driver) × (items_tasks job state items ≡ [])
 quiet_items job state [] is = absurd (both_ways false refl is)
 quiet_items job state (Run stmt ∷ rest) is = quiet_told job state (out-Stmt stmt) (quiet_step state.driver) is
 quiet_items job state (Again turns body ∷ rest) is = (refl, refl)
@@ -80,7 +82,8 @@ passes job n within quiet =
       position = omega (arith, moves.1, ap length none);
     }
 
-pub passes_all : (job : Job) (k n : ℕ) → (driver_at job n).driver.count ≡ n → length (driver_at job n).driver.output ≤ output_limit → Later job n k (quiet_steps k (driver_at job n).driver)
+pub passes_all : (job : Job) (k n : ℕ) → (driver_at job n).driver.count ≡ n → length (driver_at job n).driver.output ≤ output_limit
+    → Later job n k (quiet_steps k (driver_at job n).driver)
 passes_all job zero n counted within = at_once job n 0 counted
 passes_all job (suc k) n counted within =
     let driver = (driver_at job n).driver in
@@ -146,12 +149,14 @@ abbrev pub is_item : Job → Item → Bool
 is_item job (Run stmt) = is_sound job stmt
 is_item job (Again turns body) = list_all (is_sound job) body
 
-runs_sound : (job : Job) (body : List Stmt) (rest : List Item) → list_all (is_sound job) body ≡ true → list_all (is_item job) rest ≡ true → list_all (is_item job) (map Run body ++ rest) ≡ true
+runs_sound : (job : Job) (body : List Stmt) (rest : List Item) → list_all (is_sound job) body ≡ true → list_all (is_item job) rest ≡ true
+    → list_all (is_item job) (map Run body ++ rest) ≡ true
 runs_sound job body rest sound others =
     list_all-append (is_item job) (map Run body) rest
     ∙ and_from (list_all (is_item job) (map Run body)) (list_all (is_item job) rest) (list_all-map (is_item job) (λ stmt. Run stmt) body ∙ sound) others
 
-again_sound : (job : Job) (turns : ℕ) (body : List Stmt) (rest : List Item) → list_all (is_sound job) body ≡ true → list_all (is_item job) rest ≡ true → list_all (is_item job) (again turns body rest) ≡ true
+again_sound : (job : Job) (turns : ℕ) (body : List Stmt) (rest : List Item) → list_all (is_sound job) body ≡ true → list_all (is_item job) rest ≡ true
+    → list_all (is_item job) (again turns body rest) ≡ true
 again_sound job zero body rest sound others = others
 again_sound job (suc turns) body rest sound others =
     runs_sound job body (Again turns body ∷ rest) sound (and_from (list_all (is_sound job) body) (list_all (is_item job) rest) sound others)
@@ -159,9 +164,11 @@ again_sound job (suc turns) body rest sound others =
 parts_sound : (job : Job) (body : List Stmt) → list_all (λ is. is) (map (is_sound job) body) ≡ true → list_all (is_sound job) body ≡ true
 parts_sound job body sound = sym (list_all-map (λ is. is) (is_sound job) body) ∙ sound
 
-stmt_sound : (job : Job) (scalars : List ℤ) (stmt : Stmt) (x : Stmt-F Stmt) (rest : List Item) → is_sound job stmt ≡ true → sound_stmt job (map-Stmt Stmt Bool (is_sound job) x) ≡ true
+stmt_sound : (job : Job) (scalars : List ℤ) (stmt : Stmt) (x : Stmt-F Stmt) (rest : List Item) → is_sound job stmt ≡ true
+    → sound_stmt job (map-Stmt Stmt Bool (is_sound job) x) ≡ true
     → list_all (is_item job) rest ≡ true → list_all (is_item job) (stmt_left scalars stmt x rest) ≡ true
-stmt_sound job scalars stmt (Stmt-F.Loop turns body) rest whole sound others = again_sound job (turns_in (atom_of scalars turns)) body rest (parts_sound job body sound) others
+stmt_sound job scalars stmt (Stmt-F.Loop turns body) rest whole sound others =
+    again_sound job (turns_in (atom_of scalars turns)) body rest (parts_sound job body sound) others
 stmt_sound job scalars stmt (Stmt-F.While cond body) rest whole sound others =
     cond_both (is_met scalars cond) (map Run body ++ Run stmt ∷ rest) rest (λ (items : List Item). list_all (is_item job) items ≡ true)
     (λ met. runs_sound job body (Run stmt ∷ rest) (parts_sound job body sound) (and_from (is_sound job stmt) (list_all (is_item job) rest) whole others))
@@ -173,7 +180,8 @@ stmt_sound job scalars stmt (Stmt-F.If cond first second) rest whole sound other
     (λ unmet. runs_sound job second rest (parts_sound job second parts.1) others)
 stmt_sound job scalars stmt x rest whole sound others = others
 
-items_sound : (job : Job) (scalars : List ℤ) (items : List Item) → list_all (is_item job) items ≡ true → list_all (is_item job) (items_left scalars items) ≡ true
+items_sound : (job : Job) (scalars : List ℤ) (items : List Item) → list_all (is_item job) items ≡ true
+    → list_all (is_item job) (items_left scalars items) ≡ true
 items_sound job scalars [] sound = refl
 items_sound job scalars (Run stmt ∷ rest) sound =
     let parts = and_parts (is_sound job stmt) (list_all (is_item job) rest) sound in
@@ -191,7 +199,8 @@ items_todo job state [] driver = refl
 items_todo job state (Run stmt ∷ rest) driver = told_todo job state (out-Stmt stmt) driver
 items_todo job state (Again turns body ∷ rest) driver = refl
 
-step_todo : (job : Job) (state : State) (items : List Item) → list_all (is_item job) state.driver.todo ≡ true → list_all (is_item job) (items_step job state items).driver.todo ≡ true
+step_todo : (job : Job) (state : State) (items : List Item) → list_all (is_item job) state.driver.todo ≡ true
+    → list_all (is_item job) (items_step job state items).driver.todo ≡ true
 step_todo job state [] sound = sound
 step_todo job state (item ∷ rest) sound =
     ap (list_all (is_item job)) (items_todo job state (item ∷ rest) (quiet_step state.driver)) ∙ items_sound job state.driver.scalars state.driver.todo sound

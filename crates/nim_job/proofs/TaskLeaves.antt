@@ -61,7 +61,9 @@ length-values job k whole =
     length-after_tasks (shapes_of job.vars) (initial_values job.vars) (take k (tasks_of job)) ∙ length-initial job.vars (whole_inits job whole)
 
 -- what the objects hold after the task at a position
-pub task_leaves : (job : Job) (k : ℕ) (task : Task) → slice_get (tasks_of job) k ≡ Some task → values_after job (suc k) ≡ after_task (shapes_of job.vars) (values_after job k) task
+pub task_leaves : (job : Job) (k : ℕ) (task : Task) → slice_get (tasks_of job) k ≡ Some task
+    → values_after job (suc k) ≡ after_task (shapes_of job.vars) (values_after job k) task
 task_leaves job k task there =
-    ap (after_tasks (shapes_of job.vars) (initial_values job.vars)) (take_next (tasks_of job) k ∙ ap (λ (o : Option Task). take k (tasks_of job) ++ option_to_list o) there)
+    ap (after_tasks (shapes_of job.vars) (initial_values job.vars))
+    (take_next (tasks_of job) k ∙ ap (λ (o : Option Task). take k (tasks_of job) ++ option_to_list o) there)
     ∙ after_tasks-append (shapes_of job.vars) (initial_values job.vars) (take k (tasks_of job)) (task ∷ [])

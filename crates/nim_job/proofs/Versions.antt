@@ -20,7 +20,8 @@ use Rattle.nim_job.specs.Versions.{is_written, version_before, ReadsVersions, Ke
 use Rattle.nim_job.proofs.Lists.{take_next}
 
 -- an object that isn't written keeps its value
-pub written_other : (values : List Grid) (objects : List Object) (grids : List Grid) (object : Object) → list_any (λ (o : Object). o.0 == object.0) objects ≡ false
+pub written_other : (values : List Grid) (objects : List Object) (grids : List Grid) (object : Object)
+    → list_any (λ (o : Object). o.0 == object.0) objects ≡ false
     → value_at (written values objects grids) object ≡ value_at values object
 written_other values [] grids object none = refl
 written_other values (o ∷ objects) [] object none = refl
@@ -30,7 +31,8 @@ written_other values (o ∷ objects) (grid ∷ grids) object none =
     ∙ get_or-set_other values o.0 object.0 grid empty_grid (λ same. eqb-false o.0 object.0 parts.0 (sym same))
 
 -- the tasks of two lists, one list behind the other
-pub after_tasks-append : (shapes : List Shape) (values : List Grid) (xs ys : List Task) → after_tasks shapes values (xs ++ ys) ≡ after_tasks shapes (after_tasks shapes values xs) ys
+pub after_tasks-append : (shapes : List Shape) (values : List Grid) (xs ys : List Task)
+    → after_tasks shapes values (xs ++ ys) ≡ after_tasks shapes (after_tasks shapes values xs) ys
 after_tasks-append shapes values [] ys = refl
 after_tasks-append shapes values (task ∷ xs) ys = after_tasks-append shapes (after_task shapes values task) xs ys
 
@@ -45,7 +47,8 @@ kept_by shapes values (Some task) object none =
 content : List Shape → List Grid → List Task → Object → ℕ → Grid
 content shapes values tasks object k = value_at (after_tasks shapes values (take k tasks)) object
 
-content_kept : (shapes : List Shape) (values : List Grid) (tasks : List Task) (object : Object) (k : ℕ) → option_map_or (is_written object) (slice_get tasks k) false ≡ false
+content_kept : (shapes : List Shape) (values : List Grid) (tasks : List Task) (object : Object) (k : ℕ)
+    → option_map_or (is_written object) (slice_get tasks k) false ≡ false
     → content shapes values tasks object (suc k) ≡ content shapes values tasks object k
 unfolding content
 content_kept shapes values tasks object k none =
@@ -75,7 +78,8 @@ items_move : (job : Job) (state : State) (items : List Item) → Moves job state
 items_move job state [] = (refl, omega arith)
 items_move job state (item ∷ rest) = (refl, refl)
 
-moves_unless : (job : Job) (state : State) (b : Bool) → Moves job state (if b then state else items_step job state state.driver.todo) (if b then [] else items_tasks job state state.driver.todo)
+moves_unless : (job : Job) (state : State) (b : Bool) → Moves job state (if b then state else items_step job state state.driver.todo)
+    (if b then [] else items_tasks job state state.driver.todo)
 moves_unless job state true = (refl, omega arith)
 moves_unless job state false = items_move job state state.driver.todo
 

@@ -63,23 +63,27 @@ place_of (Minus n) = refl
 
 ref_of : (vars : List Var) (each : Bool) (ref : Ref) → is_ref vars each ref ≡ true → is_ref vars true ref ≡ true
 ref_of vars each ref is =
-    and_from (nat_lt ref.var (length vars)) (is_place true ref.place) (and_parts (nat_lt ref.var (length vars)) (is_place each ref.place) is).0 (place_of ref.place)
+    and_from (nat_lt ref.var (length vars)) (is_place true ref.place) (and_parts (nat_lt ref.var (length vars)) (is_place each ref.place) is).0
+    (place_of ref.place)
 
 -- with `each` or not, the variables are there
 pub refs_of : (vars : List Var) (each : Bool) (refs : List Ref) → list_all (is_ref vars each) refs ≡ true → list_all (is_ref vars true) refs ≡ true
 refs_of vars each refs are = list_all_weaker (is_ref vars each) (is_ref vars true) (ref_of vars each) refs are
 
-stage_parts : (vars : List Var) (args : ℕ) (stage : Stage) → is_stage vars args stage ≡ true → (has_counts stage.func (length stage.params) (length stage.reads) (length stage.writes) ≡ true)
+stage_parts : (vars : List Var) (args : ℕ) (stage : Stage) → is_stage vars args stage ≡ true
+    → (has_counts stage.func (length stage.params) (length stage.reads) (length stage.writes) ≡ true)
     × (list_all (is_ref vars stage.each) stage.reads ≡ true) × (list_all (is_ref vars stage.each) stage.writes ≡ true) × (has_distinct vars stage ≡ true)
 stage_parts vars args stage is = grind (arith, nat_tests)
 
 -- the test of a stage, apart from its parameters
 abbrev has_shape : List Var → Stage → Bool
-has_shape vars stage = has_counts stage.func (length stage.params) (length stage.reads) (length stage.writes) && (has_refs vars stage && has_distinct vars stage)
+has_shape vars stage =
+    has_counts stage.func (length stage.params) (length stage.reads) (length stage.writes) && (has_refs vars stage && has_distinct vars stage)
 
 shape_parts : (vars : List Var) (stage : Stage) → has_shape vars stage ≡ true → HasShape vars stage
 shape_parts vars stage is =
-    let parts = and_parts (has_counts stage.func (length stage.params) (length stage.reads) (length stage.writes)) (has_refs vars stage && has_distinct vars stage) is in
+    let parts = and_parts (has_counts stage.func (length stage.params) (length stage.reads) (length stage.writes))
+    (has_refs vars stage && has_distinct vars stage) is in
     let more = and_parts (has_refs vars stage) (has_distinct vars stage) parts.1 in
     let refs = and_parts (list_all (is_ref vars true) stage.reads) (list_all (is_ref vars true) stage.writes) more.0 in
     record { counts = parts.0; reads = refs.0; writes = refs.1; distinct = more.1 }
@@ -89,10 +93,12 @@ stage_shape vars args stage is =
     let parts = stage_parts vars args stage is in
     and_from (has_counts stage.func (length stage.params) (length stage.reads) (length stage.writes)) (has_refs vars stage && has_distinct vars stage) parts.0
     (and_from (has_refs vars stage) (has_distinct vars stage)
-    (and_from (list_all (is_ref vars true) stage.reads) (list_all (is_ref vars true) stage.writes) (refs_of vars stage.each stage.reads parts.1) (refs_of vars stage.each stage.writes parts.2))
+    (and_from (list_all (is_ref vars true) stage.reads) (list_all (is_ref vars true) stage.writes) (refs_of vars stage.each stage.reads parts.1)
+    (refs_of vars stage.each stage.writes parts.2))
     parts.3)
 
-stages_at : (vars : List Var) (blocks : List Block) (block : ℕ) → list_all (is_block vars) blocks ≡ true → list_all (has_shape vars) (option_map_or (λ (b : Block). b.stages) (slice_get blocks block) []) ≡ true
+stages_at : (vars : List Var) (blocks : List Block) (block : ℕ) → list_all (is_block vars) blocks ≡ true
+    → list_all (has_shape vars) (option_map_or (λ (b : Block). b.stages) (slice_get blocks block) []) ≡ true
 stages_at vars [] block all = refl
 stages_at vars (b ∷ blocks) zero all =
     list_all_weaker (is_stage vars b.args) (has_shape vars) (stage_shape vars b.args) b.stages
@@ -107,7 +113,8 @@ shape_refs vars stage is =
 -- the stages of a block name variables that are there
 pub stages_refs : (job : Job) (block : ℕ) → is_whole job ≡ true → list_all (has_refs job.vars) (stages_of job block) ≡ true
 stages_refs job block whole =
-    list_all_weaker (has_shape job.vars) (has_refs job.vars) (shape_refs job.vars) (stages_of job block) (stages_at job.vars job.blocks block (whole_blocks job whole))
+    list_all_weaker (has_shape job.vars) (has_refs job.vars) (shape_refs job.vars) (stages_of job block)
+    (stages_at job.vars job.blocks block (whole_blocks job whole))
 
 -- the parts of a variable that is there
 pub parts_there : (vars : List Var) (var : ℕ) → list_all is_var vars ≡ true → var < length vars
@@ -141,28 +148,33 @@ ref_fits vars ref are is =
     let there = parts_there vars ref.var sizes.1 (ref_there vars ref is) in
     (there.0, there.1, omega (arith, there.2, sizes.0))
 
-object_there : (vars : List Var) (i : ℕ) (ref : Ref) → list_all is_var vars ≡ true → is_ref vars true ref ≡ true → is_object (objects_of vars) (object_meant vars i ref) ≡ true
+object_there : (vars : List Var) (i : ℕ) (ref : Ref) → list_all is_var vars ≡ true → is_ref vars true ref ≡ true
+    → is_object (objects_of vars) (object_meant vars i ref) ≡ true
 object_there vars i ref all is =
     let parts = parts_there vars ref.var all (ref_there vars ref is) in
     let below = part_below ref.place i (parts_of vars ref.var) parts.0 in
     lt-ltb (first_object vars ref.var + part_of ref.place i (parts_of vars ref.var)) (objects_of vars) (omega (arith, parts.2, below))
 
-objects_there : (vars : List Var) (i : ℕ) (refs : List Ref) → list_all is_var vars ≡ true → list_all (is_ref vars true) refs ≡ true → list_all (is_object (objects_of vars)) (map (object_meant vars i) refs) ≡ true
+objects_there : (vars : List Var) (i : ℕ) (refs : List Ref) → list_all is_var vars ≡ true → list_all (is_ref vars true) refs ≡ true
+    → list_all (is_object (objects_of vars)) (map (object_meant vars i) refs) ≡ true
 objects_there vars i refs all are =
     list_all-map (is_object (objects_of vars)) (object_meant vars i) refs
     ∙ list_all_weaker (is_ref vars true) (λ ref. is_object (objects_of vars) (object_meant vars i ref)) (λ ref is. object_there vars i ref all is) refs are
 
-task_there : (vars : List Var) (args : List ℤ) (stage : Stage) (i : ℕ) → list_all is_var vars ≡ true → HasShape vars stage → are_distinct (map (object_meant vars i) stage.writes) ≡ true
+task_there : (vars : List Var) (args : List ℤ) (stage : Stage) (i : ℕ) → list_all is_var vars ≡ true → HasShape vars stage
+    → are_distinct (map (object_meant vars i) stage.writes) ≡ true
     → is_task (objects_of vars) (task_of args (form_of vars stage i)) ≡ true
 task_there vars args stage i all shape distinct =
     let counts = has_counts stage.func (length stage.params) (length stage.reads) (length stage.writes) in
     let reads = list_all (is_object (objects_of vars)) (map (object_meant vars i) stage.reads) in
     let writes = list_all (is_object (objects_of vars)) (map (object_meant vars i) stage.writes) in
     simp length-map (and_from (counts && reads && writes) (are_distinct (map (object_meant vars i) stage.writes))
-    (and_from (counts && reads) writes (and_from counts reads shape.counts (objects_there vars i stage.reads all shape.reads)) (objects_there vars i stage.writes all shape.writes)) distinct)
+    (and_from (counts && reads) writes (and_from counts reads shape.counts (objects_there vars i stage.reads all shape.reads))
+    (objects_there vars i stage.writes all shape.writes)) distinct)
 
 -- what a `do` runs fits the job: counts and objects
-pub tasks_there : (job : Job) (block : ℕ) (args : List ℤ) → is_whole job ≡ true → list_all (is_task (objects_of job.vars)) (block_tasks_of job block args) ≡ true
+pub tasks_there : (job : Job) (block : ℕ) (args : List ℤ) → is_whole job ≡ true
+    → list_all (is_task (objects_of job.vars)) (block_tasks_of job block args) ≡ true
 tasks_there job block args whole =
     let all = (vars_sizes job.vars (whole_vars job whole)).1 in
     let test = λ (form : TaskForm). is_task (objects_of job.vars) (task_of args form) in
@@ -170,14 +182,22 @@ tasks_there job block args whole =
     ∙ list_all-flat_map test (stage_forms job.vars) (has_shape job.vars)
     (λ stage is. list_all-map test (form_of job.vars stage) (range_with_len 0 (task_count job.vars stage))
     ∙ list_all_weaker (λ i. are_distinct (map (object_meant job.vars i) stage.writes)) (λ i. test (form_of job.vars stage i))
-    (λ i. task_there job.vars args stage i all (shape_parts job.vars stage is)) (range_with_len 0 (task_count job.vars stage)) (shape_parts job.vars stage is).distinct)
+    (λ i. task_there job.vars args stage i all (shape_parts job.vars stage is)) (range_with_len 0 (task_count job.vars stage))
+    (shape_parts job.vars stage is).distinct)
     (stages_of job block) (stages_at job.vars job.blocks block (whole_blocks job whole))
 
 -- as many shapes as objects
 pub length_shapes : (vars : List Var) → length (shapes_of vars) ≡ objects_of vars
 length_shapes [] = refl
 length_shapes (v ∷ vars) =
-    omega (arith, length-append (replicate v.parts v.shape) (shapes_of vars), length-replicate v.parts v.shape, length_shapes vars, sum_by-cons (λ (w : Var). w.parts) v vars)
+    omega (
+      arith,
+      length-append (replicate v.parts v.shape) (shapes_of vars),
+      length-replicate v.parts v.shape,
+      length_shapes vars,
+      sum_by-cons
+          (λ (w : Var). w.parts) v vars,
+    )
 
 -- each has a width
 pub widths : (vars : List Var) → list_all is_var vars ≡ true → All (λ (s : Shape). 1 ≤ s.width) (shapes_of vars)
@@ -187,7 +207,8 @@ widths (v ∷ vars) all =
     All-append (λ (s : Shape). 1 ≤ s.width) (replicate v.parts v.shape) (shapes_of vars)
     (All-replicate (λ (s : Shape). 1 ≤ s.width) v.parts v.shape (var_sizes v parts.0).2) (widths vars parts.1)
 
-first_few : (vars : List Var) (refs : List Ref) → list_all is_var vars ≡ true → list_all (is_ref vars true) refs ≡ true → option_map_or (λ (ref : Ref). parts_of vars ref.var) (slice_get refs 0) 0 ≤ 64
+first_few : (vars : List Var) (refs : List Ref) → list_all is_var vars ≡ true → list_all (is_ref vars true) refs ≡ true
+    → option_map_or (λ (ref : Ref). parts_of vars ref.var) (slice_get refs 0) 0 ≤ 64
 first_few vars [] all are = omega arith
 first_few vars (ref ∷ refs) all are =
     (parts_there vars ref.var all (ref_there vars ref (and_parts (is_ref vars true ref) (list_all (is_ref vars true) refs) are).0)).1
@@ -202,7 +223,8 @@ pub tasks_few : (vars : List Var) (stage : Stage) → are_vars vars ≡ true →
 tasks_few vars stage are is = writes_few vars stage are (and_parts (list_all (is_ref vars true) stage.reads) (list_all (is_ref vars true) stage.writes) is).1
 
 -- what the table of first objects needs at one more variable
-pub objects_more : (vars : List Var) (i : ℕ) (v : Var) → i < length vars → v ≡ get_or vars i v → objects_of (take (i + 1) vars) ≡ objects_of (take i vars) + v.parts
+pub objects_more : (vars : List Var) (i : ℕ) (v : Var) → i < length vars → v ≡ get_or vars i v
+    → objects_of (take (i + 1) vars) ≡ objects_of (take i vars) + v.parts
 objects_more vars i v within is = sum_by_more (λ (w : Var). w.parts) vars i v within ∙ ap (λ (w : Var). objects_of (take i vars) + w.parts) (sym is)
 
 pub objects_some : (vars : List Var) (i : ℕ) → objects_of (take i vars) ≤ objects_of vars

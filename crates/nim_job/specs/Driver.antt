@@ -24,7 +24,8 @@ scalar_count job = option_map_or (λ count. count) (scalars_of job) 0
 
 -- at the start the whole body is to do, and each scalar is 0
 abbrev pub start_driver : Job → Driver
-start_driver job = record { todo = map Run job.body; scalars = replicate (scalar_count job) (pos 0); count = 0; output = [] }
+start_driver job =
+    record { todo = map Run job.body; scalars = replicate (scalar_count job) (pos 0); count = 0; output = [] }
 
 -- the most bytes that a run may print
 abbrev pub output_limit : ℕ

@@ -41,7 +41,8 @@ IsThere job (Ask.Get object row cell) = object.0 < objects_of job.vars
 IsThere job (Ask.Output var) = var < length job.vars
 IsThere job _ = Unit {0}
 
--- Before it asks, a machine takes statements that ask nothing. It stands at a later state then, and no task was run. What
+-- Before it asks, a machine takes statements that ask nothing. It stands at a later state then, and no task was run.
+-- What
 -- it asks is there.
 pub record Asks (job : Job) (m : Machine) : Type 0 where
   pub before : GoesOn job m (before_ask m) []
@@ -95,5 +96,6 @@ pub record StaysOf (job : Job) : Type 0 where
 -- A machine of the job that goes back to a state that was saved where a machine stood at a state of the job stands
 -- there again.
 abbrev pub ComesBack : Job → Type 0
-ComesBack job = (m saved : Machine) (state : DriverState) → IsOf job m → StandsAt job saved → driver_in saved.body state ≡ saved.driver
+ComesBack job = (m saved : Machine) (state : DriverState) → IsOf job m → StandsAt job saved
+    → driver_in saved.body state ≡ saved.driver
     → StandsAt job (gone_back m state)

@@ -41,7 +41,8 @@ body_entered whole kind around = option_map_or (λ stmt. body_in kind (out-Stmt 
 -- body is the whole one.
 abbrev pub enter : List Stmt → Spot → Level → Spot
 enter whole spot level =
-    let around = stmt_before spot.body spot.level.next in record { body = body_entered whole level.kind around; around = around; level = level }
+    let around = stmt_before spot.body spot.level.next in
+    record { body = body_entered whole level.kind around; around = around; level = level }
 
 -- what comes when a body is done: a loop's further turns, or its `while` again
 abbrev pub closing_of : LevelKind → ℕ → List Stmt → Option Stmt → List Item
@@ -51,12 +52,14 @@ closing_of _ turns body around = []
 
 -- what is to do of a level, before the rest
 abbrev pub level_todo : Spot → List Item → List Item
-level_todo spot rest = map Run (drop spot.level.next spot.body) ++ (closing_of spot.level.kind spot.level.turns spot.body spot.around ++ rest)
+level_todo spot rest = map Run (drop spot.level.next spot.body)
+    ++ (closing_of spot.level.kind spot.level.turns spot.body spot.around ++ rest)
 
 -- what is to do of further levels, before what is to do of the ones around them
 abbrev pub todo_from : List Stmt → Spot → List Item → List Level → List Item
 todo_from whole spot rest [] = rest
-todo_from whole spot rest (level ∷ levels) = todo_from whole (enter whole spot level) (level_todo (enter whole spot level) rest) levels
+todo_from whole spot rest (level ∷ levels) =
+    todo_from whole (enter whole spot level) (level_todo (enter whole spot level) rest) levels
 
 -- all that is to do of a body where its driver stands at these levels
 abbrev pub todo_of : List Stmt → List Level → List Item
@@ -83,12 +86,14 @@ holds_kind _ _ = false
 
 -- whether a level fits where it is entered
 abbrev pub fits_level : Spot → Bool
-fits_level spot = option_map_or (λ stmt. holds_kind spot.level.kind (out-Stmt stmt)) spot.around false && nat_le spot.level.next (length spot.body)
+fits_level spot = option_map_or (λ stmt. holds_kind spot.level.kind (out-Stmt stmt)) spot.around false
+    && nat_le spot.level.next (length spot.body)
 
 -- whether further levels are of the tree
 abbrev pub are_levels : List Stmt → Spot → List Level → Bool
 are_levels whole spot [] = true
-are_levels whole spot (level ∷ levels) = fits_level (enter whole spot level) && are_levels whole (enter whole spot level) levels
+are_levels whole spot (level ∷ levels) =
+    fits_level (enter whole spot level) && are_levels whole (enter whole spot level) levels
 
 -- whether a level is in the driver's own body
 abbrev pub is_driver : LevelKind → Bool
@@ -99,7 +104,8 @@ is_driver _ = false
 -- around it holds. No level is the path of a driver at its end.
 abbrev pub is_path : List Stmt → List Level → Bool
 is_path whole [] = true
-is_path whole (level ∷ levels) = is_driver level.kind && nat_le level.next (length whole) && are_levels whole (enter whole no_spot level) levels
+is_path whole (level ∷ levels) =
+    is_driver level.kind && nat_le level.next (length whole) && are_levels whole (enter whole no_spot level) levels
 
 -- ---- how deep a tree nests
 

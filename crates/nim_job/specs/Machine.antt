@@ -17,7 +17,8 @@ use Rattle.nim_job.specs.Objects.{first_object, parts_of}
 use Rattle.nim_job.specs.Quiet.{is_quiet, quiet_step}
 use Rattle.nim_job.specs.Step.{State}
 
--- the most statements that are counted, the whole body, where the variables' objects are, where the driver stands, which
+-- the most statements that are counted, the whole body, where the variables' objects are, where the driver stands,
+-- which
 -- kind of ask isn't answered, and whether too much was printed
 pub record Machine : Type 0 where
   pub steps : ℕ
@@ -37,7 +38,8 @@ spans_of vars = map (span_of vars) (range_with_len 0 (length vars))
 
 -- the object of a part, taken modulo the parts; object 0 where there is no such variable
 abbrev pub span_object : List Span → ℕ → ℕ → Object
-span_object spans var part = record { 0 = option_map_or (λ (span : Span). span.first + part % span.parts) (slice_get spans var) 0 }
+span_object spans var part =
+    record { 0 = option_map_or (λ (span : Span). span.first + part % span.parts) (slice_get spans var) 0 }
 
 -- a variable has parts, and its objects can be counted in 16 bits
 abbrev pub is_span : Span → Bool
@@ -45,11 +47,27 @@ is_span span = nat_le 1 span.parts && nat_le (span.first + span.parts) 512
 
 -- the machine of a job where it has asked nothing yet and stands at a state's driver
 abbrev pub machine_at : Job → State → Machine
-machine_at job state = record { steps = job.steps; body = job.body; spans = spans_of job.vars; driver = state.driver; asked = None; full = false }
+machine_at job state = record {
+  steps = job.steps;
+  body = job.body;
+  spans = spans_of job.vars;
+  driver =
+      state.driver;
+  asked = None;
+  full = false;
+}
 
 -- the machine of a job that was just made
 abbrev pub start_machine : Job → Machine
-start_machine job = record { steps = job.steps; body = job.body; spans = spans_of job.vars; driver = start_driver job; asked = None; full = false }
+start_machine job = record {
+  steps = job.steps;
+  body = job.body;
+  spans = spans_of job.vars;
+  driver =
+      start_driver job;
+  asked = None;
+  full = false;
+}
 
 -- so many quiet steps, or fewer where an item that asks comes first
 abbrev pub quiet_steps : ℕ → Driver → Driver
@@ -95,7 +113,8 @@ items_ask m (item ∷ rest) = if nat_le m.steps m.driver.count then Ask.Limit el
 -- where the machine stands once these items have asked
 abbrev pub items_asked : Machine → List Item → Machine
 items_asked m [] = m
-items_asked m (item ∷ rest) = if nat_le m.steps m.driver.count then m else record m { driver = quiet_step m.driver; asked = item_asked item }
+items_asked m (item ∷ rest) =
+    if nat_le m.steps m.driver.count then m else record m { driver = quiet_step m.driver; asked = item_asked item }
 
 -- what a machine asks by its first item, and where it stands then
 abbrev pub ask_now : Machine → Ask
@@ -120,7 +139,8 @@ told_cell _ scalars cell = scalars
 
 -- the ask is answered by this cell
 abbrev pub answered : Machine → ℤ → Machine
-answered m cell = record m { driver = record m.driver { scalars = told_cell m.asked m.driver.scalars cell }; asked = None }
+answered m cell =
+    record m { driver = record m.driver { scalars = told_cell m.asked m.driver.scalars cell }; asked = None }
 
 -- the ask is answered by this text, which is printed; where it would be too much nothing is, and the machine is full
 abbrev pub appended : Machine → List ℕ → Machine

@@ -19,8 +19,10 @@ again (suc turns) body rest = map Run body ++ Again turns body ∷ rest
 -- what a statement leaves to do before the rest: a `while` whose condition is met leaves its body and then itself
 abbrev pub stmt_left : List ℤ → Stmt → Stmt-F Stmt → List Item → List Item
 stmt_left scalars stmt (Stmt-F.Loop turns body) rest = again (turns_in (atom_of scalars turns)) body rest
-stmt_left scalars stmt (Stmt-F.While cond body) rest = if is_met scalars cond then map Run body ++ Run stmt ∷ rest else rest
-stmt_left scalars stmt (Stmt-F.If cond first second) rest = (if is_met scalars cond then map Run first else map Run second) ++ rest
+stmt_left scalars stmt (Stmt-F.While cond body) rest =
+    if is_met scalars cond then map Run body ++ Run stmt ∷ rest else rest
+stmt_left scalars stmt (Stmt-F.If cond first second) rest =
+    (if is_met scalars cond then map Run first else map Run second) ++ rest
 stmt_left scalars stmt _ rest = rest
 
 -- what the first of these items leaves to do

@@ -8,11 +8,14 @@ use Rattle.nim_job.specs.Machine.{Machine}
 
 -- the driver that a state stands for in a body
 abbrev pub driver_in : List Stmt → DriverState → Driver
-driver_in body state = record { todo = todo_of body state.levels; scalars = state.scalars; count = state.count; output = state.output }
+driver_in body state =
+    record { todo = todo_of body state.levels; scalars = state.scalars; count = state.count; output = state.output }
 
--- whether a state fits a machine: its path is one of the machine's body, it has as many scalars, and it is within the limits
+-- whether a state fits a machine: its path is one of the machine's body, it has as many scalars, and it is within the
+-- limits
 abbrev pub fits : Machine → DriverState → Bool
-fits m state = is_path m.body state.levels && (length state.scalars == length m.driver.scalars) && nat_le state.count m.steps
+fits m state =
+    is_path m.body state.levels && (length state.scalars == length m.driver.scalars) && nat_le state.count m.steps
     && nat_le (length state.output) output_limit
 
 -- the machine where it stood when a state was saved; nothing is unanswered

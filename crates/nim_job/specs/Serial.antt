@@ -27,7 +27,8 @@ is_limit state = not (is_nil state.driver.todo) || nat_lt output_limit (length s
 
 -- a limit is status 4 and prints nothing; else the status is 0, and the output is that at the end
 abbrev pub ending_of : State → Ending
-ending_of state = if is_limit state then record { status = 4; bytes = [] } else record { status = 0; bytes = state.driver.output }
+ending_of state =
+    if is_limit state then record { status = 4; bytes = [] } else record { status = 0; bytes = state.driver.output }
 
 -- the status and the bytes of a job
 abbrev pub serial_of : Job → Ending

@@ -37,7 +37,8 @@ written values _ _ = values
 -- what the objects hold after a task
 abbrev pub after_task : List Shape → List Grid → Task → List Grid
 after_task shapes values task =
-    written values task.writes (apply_of task.func task.params (map (value_at values) task.reads) (map (shape_at shapes) task.writes))
+    written values task.writes (apply_of task.func task.params (map (value_at values) task.reads)
+    (map (shape_at shapes) task.writes))
 
 -- what the objects hold after tasks, one after another
 abbrev pub after_tasks : List Shape → List Grid → List Task → List Grid
@@ -78,8 +79,12 @@ object_of_part vars var part = object_meant vars 0 (record { var = var; place = 
 -- what a statement that asks is told: a `get` its cell, 0 where there is none, and an `output` what it prints
 abbrev pub stmt_told : Job → State → Stmt-F Stmt → Driver → Driver
 stmt_told job state (Stmt-F.Get s var part row cell) driver =
-    record driver { scalars = slice_set driver.scalars s (cell_of (value_at state.values (object_of_part job.vars var part)) row cell) }
-stmt_told job state (Stmt-F.Output var) driver = record driver { output = driver.output ++ output_of job.vars state.values var }
+    record driver {
+      scalars = slice_set driver.scalars s
+          (cell_of (value_at state.values (object_of_part job.vars var part)) row cell);
+    }
+stmt_told job state (Stmt-F.Output var) driver =
+    record driver { output = driver.output ++ output_of job.vars state.values var }
 stmt_told job state _ driver = driver
 
 -- the driver once the first of these items is told what it asks for

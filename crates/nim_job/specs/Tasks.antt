@@ -36,7 +36,8 @@ form_of vars stage i = record {
 
 -- one task for each part of the first variable that is written, or one task
 abbrev pub task_count : List Var → Stage → ℕ
-task_count vars stage = if stage.each then option_map_or (λ ref. parts_of vars ref.var) (slice_get stage.writes 0) 0 else 1
+task_count vars stage =
+    if stage.each then option_map_or (λ ref. parts_of vars ref.var) (slice_get stage.writes 0) 0 else 1
 
 -- the tasks of a stage, in order
 abbrev pub stage_forms : List Var → Stage → List TaskForm

@@ -34,7 +34,8 @@ version_value job object v = value_at (values_after job v) object
 
 -- Each object that each task reads holds, right before the task, the content of the version that it reads.
 abbrev pub ReadsVersions : Job → Type 0
-ReadsVersions job = (k : ℕ) (object : Object) → value_at (values_after job k) object ≡ version_value job object (read_version job k object)
+ReadsVersions job = (k : ℕ) (object : Object) → value_at (values_after job k) object
+    ≡ version_value job object (read_version job k object)
 
 -- After each step the objects hold what the first so many tasks leave, as many as ran.
 abbrev pub KeepsVersions : Job → Type 0

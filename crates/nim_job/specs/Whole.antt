@@ -35,7 +35,8 @@ is_between low high n = nat_le low n && nat_le n high
 
 -- 1 to 64 parts, of 1 to 65,536 columns and rows and at most 65,536 cells
 abbrev pub is_var : Var → Bool
-is_var v = is_between 1 64 v.parts && is_between 1 65536 v.shape.width && is_between 1 65536 v.shape.rows && nat_le (v.shape.width * v.shape.rows) 65536
+is_var v = is_between 1 64 v.parts && is_between 1 65536 v.shape.width && is_between 1 65536 v.shape.rows
+    && nat_le (v.shape.width * v.shape.rows) 65536
 
 -- the cells of a variable
 abbrev pub cells_in : Var → ℕ
@@ -43,7 +44,8 @@ cells_in v = v.parts * (v.shape.width * v.shape.rows)
 
 -- at most 32 variables, 512 objects and 1,048,576 cells
 abbrev pub are_vars : List Var → Bool
-are_vars vars = nat_le (length vars) 32 && nat_le (objects_of vars) 512 && nat_le (sum_by cells_in vars) 1048576 && list_all is_var vars
+are_vars vars = nat_le (length vars) 32 && nat_le (objects_of vars) 512 && nat_le (sum_by cells_in vars) 1048576
+    && list_all is_var vars
 
 -- what a data file gives for a part: as wide as the variable, and with at most its rows
 abbrev pub is_loaded : Shape → Grid → Bool
@@ -86,17 +88,20 @@ are_distinct (object ∷ objects) = not (list_any (λ (o : Object). o.0 == objec
 
 -- no task of a stage writes an object twice
 abbrev pub has_distinct : List Var → Stage → Bool
-has_distinct vars stage = list_all (λ i. are_distinct (map (object_meant vars i) stage.writes)) (range_with_len 0 (task_count vars stage))
+has_distinct vars stage =
+    list_all (λ i. are_distinct (map (object_meant vars i) stage.writes)) (range_with_len 0 (task_count vars stage))
 
 -- its counts are its function's, what it names is there, and no task of it writes an object twice
 abbrev pub is_stage : List Var → ℕ → Stage → Bool
 is_stage vars args stage = has_counts stage.func (length stage.params) (length stage.reads) (length stage.writes)
-    && list_all (is_param args) stage.params && list_all (is_ref vars stage.each) stage.reads && list_all (is_ref vars stage.each) stage.writes
+    && list_all (is_param args) stage.params && list_all (is_ref vars stage.each) stage.reads
+    && list_all (is_ref vars stage.each) stage.writes
     && has_distinct vars stage
 
 -- at most 8 arguments and 1,024 tasks
 abbrev pub is_block : List Var → Block → Bool
-is_block vars block = nat_le block.args 8 && nat_le (sum_by (task_count vars) block.stages) 1024 && list_all (is_stage vars block.args) block.stages
+is_block vars block = nat_le block.args 8 && nat_le (sum_by (task_count vars) block.stages) 1024
+    && list_all (is_stage vars block.args) block.stages
 
 -- ---- statements
 
@@ -121,7 +126,8 @@ is_cond scalars cond = is_atom scalars cond.left && is_atom scalars cond.right
 
 -- A scalar is set that was set before, or the next one; there are at most 64.
 abbrev pub set_at : ℕ → ℕ → Option ℕ
-set_at scalars s = if nat_lt s scalars then Some scalars else if (s == scalars) && nat_lt s 64 then Some (scalars + 1) else None
+set_at scalars s =
+    if nat_lt s scalars then Some scalars else if (s == scalars) && nat_lt s 64 then Some (scalars + 1) else None
 
 -- a block is there and takes so many arguments
 abbrev pub is_call : Job → ℕ → ℕ → Bool
@@ -138,13 +144,19 @@ scan_body scans depth scalars = if nat_lt depth 16 then scan_all scans (depth + 
 
 -- a statement, of its parts
 abbrev pub scan_stmt : Job → Stmt-F Scan → Scan
-scan_stmt job (Stmt-F.Do block args) depth scalars = if is_call job block (length args) && list_all (is_atom scalars) args then Some scalars else None
-scan_stmt job (Stmt-F.Let s first rest) depth scalars = if is_atom scalars first && is_rest scalars rest then set_at scalars s else None
-scan_stmt job (Stmt-F.Get s var part row cell) depth scalars = if nat_lt var (length job.vars) then set_at scalars s else None
-scan_stmt job (Stmt-F.Loop turns body) depth scalars = if is_atom scalars turns then scan_body body depth scalars else None
-scan_stmt job (Stmt-F.While cond body) depth scalars = if is_cond scalars cond then scan_body body depth scalars else None
+scan_stmt job (Stmt-F.Do block args) depth scalars =
+    if is_call job block (length args) && list_all (is_atom scalars) args then Some scalars else None
+scan_stmt job (Stmt-F.Let s first rest) depth scalars =
+    if is_atom scalars first && is_rest scalars rest then set_at scalars s else None
+scan_stmt job (Stmt-F.Get s var part row cell) depth scalars =
+    if nat_lt var (length job.vars) then set_at scalars s else None
+scan_stmt job (Stmt-F.Loop turns body) depth scalars =
+    if is_atom scalars turns then scan_body body depth scalars else None
+scan_stmt job (Stmt-F.While cond body) depth scalars =
+    if is_cond scalars cond then scan_body body depth scalars else None
 scan_stmt job (Stmt-F.If cond first second) depth scalars =
-    if is_cond scalars cond then option_and_then (λ behind. scan_body second depth behind) (scan_body first depth scalars) else None
+    if is_cond scalars cond then option_and_then (λ behind. scan_body second depth behind)
+    (scan_body first depth scalars) else None
 scan_stmt job Stmt-F.Checkpoint depth scalars = Some scalars
 scan_stmt job (Stmt-F.Output var) depth scalars = if nat_lt var (length job.vars) then Some scalars else None
 

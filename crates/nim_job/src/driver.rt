@@ -29,7 +29,8 @@ const MOST_LEVELS: usize = 17;
 /// Takes a driver's statements in order: it asks for the next thing, and is answered. Contracts see it as the
 /// record `Machine` of `specs/Machine.antt`.
 ///
-/// It owns a copy of the body, and where it stands is a path of levels in this tree, outermost first: a statement's body
+/// It owns a copy of the body, and where it stands is a path of levels in this tree, outermost first: a statement's
+/// body
 /// is never copied, and there is room for all levels from the start.
 #[derive(Debug, Drop)]
 pub struct DriverMachine {

@@ -10,7 +10,8 @@ use std::alloc::Global;
 pub fn shapes(alloc: Global, job: &Job) -> Result<Vec<Shape>, NoMemory>
     requires whole { IsTrue (is_whole job.now) }
     ensures shapes { IfOk result (λ shapes. shapes.items ≡ shapes_of job.now.vars) }
-    ensures fits { IfOk result (λ shapes. (length shapes.items ≡ objects_of job.now.vars) × All (λ (s : Shape). 1 ≤ s.width) shapes.items) }
+    ensures fits { IfOk result (λ shapes. (length shapes.items ≡ objects_of job.now.vars)
+        × All (λ (s : Shape). 1 ≤ s.width) shapes.items) }
 {
     let mut shapes = Vec::new(alloc);
     for var in job.vars.as_slice() {

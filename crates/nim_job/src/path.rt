@@ -103,7 +103,8 @@ fn pass_stmt(
     ensures open { IsOpen whole.now (vec_capacity levels.new) levels.new.items }
     ensures quiet { result ≡ is_quiet_stmt (out-Stmt stmt.now) }
     ensures todo { let rest = todo_of whole.now (levels.old.items ++ moved_on last ∷ []) in
-        todo_of whole.now levels.new.items ≡ (if result then stmt_left scalars.old stmt.now (out-Stmt stmt.now) rest else Run stmt.now ∷ rest) }
+        todo_of whole.now levels.new.items ≡ (if result then stmt_left scalars.old stmt.now (out-Stmt stmt.now) rest
+        else Run stmt.now ∷ rest) }
     ensures scalars { scalars.new ≡ (if result then stmt_scalars scalars.old (out-Stmt stmt.now) else scalars.old) }
 {
     if !is_quiet(stmt) {
@@ -172,7 +173,8 @@ fn enter(whole: &[Stmt], levels: &mut Vec<Level>, stmt: &Stmt, kind: LevelKind, 
     requires holds { holds_kind kind (out-Stmt stmt.now) ≡ true }
     ensures open { IsOpen whole.now (vec_capacity levels.new) levels.new.items }
     ensures todo { let body = body_in kind (out-Stmt stmt.now) in
-        todo_of whole.now levels.new.items ≡ map Run body ++ (closing_of kind turns body (Some stmt.now) ++ todo_of whole.now levels.old.items) }
+        todo_of whole.now levels.new.items ≡ map Run body
+        ++ (closing_of kind turns body (Some stmt.now) ++ todo_of whole.now levels.old.items) }
 {
     let level = Level {
         next: 0,

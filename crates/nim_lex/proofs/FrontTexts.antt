@@ -76,7 +76,11 @@ sign_within text (Some sign) e =
 -- what stands at the front, case by case
 front_cases : (P : Front → Type 0) (b : ℕ) (rest : List ℕ)
     → (is_ascii_alphabetic b ≡ true → P (record { len = prefix_len is_name_byte (b ∷ rest); kind = Some Name }))
-    → (is_ascii_digit b ≡ true → P (record { len = prefix_len is_ascii_digit (b ∷ rest); kind = Some (Number (number_of (take_while is_ascii_digit (b ∷ rest)))) }))
+    → (is_ascii_digit b ≡ true → P (record {
+      len = prefix_len is_ascii_digit (b ∷ rest);
+      kind =
+          Some (Number (number_of (take_while is_ascii_digit (b ∷ rest))));
+    }))
     → P (record { len = 1; kind = None })
     → ((sign_length (b ∷ rest) ≡ 0 → ⊥) → P (record { len = sign_length (b ∷ rest); kind = Some Sign }))
     → P (front_of (b ∷ rest))

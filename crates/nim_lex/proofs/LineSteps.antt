@@ -37,7 +37,8 @@ pub step_token : (start i n : ℕ) (line : List ℕ) → i < length line → is_
     → pieces (start + i) 0 (drop i line) ≡ piece (start + i) (front_of (drop i line)) ∷ pieces (start + (i + n)) 0 (drop (i + n) line)
 step_token start i n line within no_hash no_blank some is_len =
     let P : List ℕ → Type 0 = λ xs. n ≡ (front_of xs).len → pieces (start + i) 0 xs ≡ piece (start + i) (front_of xs) ∷ pieces (start + i + n) 0 (drop n xs) in
-    let at_front : P (drop i line) = subst P (sym (drop-cons line i 0 within)) (token_at (start + i) n (get_or line i 0) (drop (suc i) line) no_hash no_blank some) in
+    let at_front : P (drop i line) =
+    subst P (sym (drop-cons line i 0 within)) (token_at (start + i) n (get_or line i 0) (drop (suc i) line) no_hash no_blank some) in
     rw (← drop-drop n i line, ← add_assoc start i n) (at_front is_len)
 
 pub at_hash : (start i : ℕ) (line : List ℕ) → i < length line → is_hash (get_or line i 0) ≡ true → pieces (start + i) 0 (drop i line) ≡ []
@@ -49,7 +50,8 @@ at_end start i line past = rw (drop_all i line past) refl
 -- the smallest rule that several pieces break
 tests : (a b c d e f : Bool)
     → cond (a || d) (Some 2) (cond (b || e) (Some 3) (cond (c || f) (Some 4) None))
-    ≡ smaller (cond (a || false) (Some 2) (cond (b || false) (Some 3) (cond (c || false) (Some 4) None))) (cond d (Some 2) (cond e (Some 3) (cond f (Some 4) None)))
+    ≡ smaller (cond (a || false) (Some 2) (cond (b || false) (Some 3) (cond (c || false) (Some 4) None)))
+    (cond d (Some 2) (cond e (Some 3) (cond f (Some 4) None)))
 tests true b c true e f = refl
 tests true b c false true f = refl
 tests true b c false false true = refl
@@ -108,4 +110,5 @@ pub after_token : (number len : ℕ) (p : Piece) (kind : TokenKind) (rest : List
     → tokens ++ filter_map (token_of number) (p ∷ rest) ≡ all
     → (tokens ++ record { line = number; at = p.at; len = len; kind = kind } ∷ []) ++ filter_map (token_of number) rest ≡ all
 after_token number len p kind rest tokens all is_len is_kind before =
-    append_assoc tokens (record { line = number; at = p.at; len = len; kind = kind } ∷ []) (filter_map (token_of number) rest) ∙ rw is_len (rw is_kind at before)
+    append_assoc tokens (record { line = number; at = p.at; len = len; kind = kind } ∷ []) (filter_map (token_of number) rest)
+    ∙ rw is_len (rw is_kind at before)

@@ -21,12 +21,14 @@ longer b k cs =
 first_line : (b : ℕ) (rest : List ℕ)
     → cut (b ∷ rest) ≡ take (position_or_len is_newline (b ∷ rest)) (b ∷ rest) ∷ cut (drop (position_or_len is_newline (b ∷ rest) + 1) (b ∷ rest))
 first_line b [] =
-    elim (is_newline b) as (λ t. cond t ([] ∷ []) (before_lines b []) ≡ take (cond (not t) (1 + 0) 0) (b ∷ []) ∷ cut (drop (cond (not t) (1 + 0) 0 + 1) (b ∷ [])))
+    elim (is_newline b) as (λ t. cond t ([] ∷ []) (before_lines b []) ≡ take (cond (not t) (1 + 0) 0) (b ∷ [])
+    ∷ cut (drop (cond (not t) (1 + 0) 0 + 1) (b ∷ [])))
     [ true ↦ refl | false ↦ refl ]
 first_line b (c ∷ rest) =
     let cs : List ℕ = c ∷ rest in
     let k : ℕ = position_or_len is_newline cs in
-    elim (is_newline b) as (λ t. cond t ([] ∷ cut cs) (before_lines b (cut cs)) ≡ take (cond (not t) (1 + k) 0) (b ∷ cs) ∷ cut (drop (cond (not t) (1 + k) 0 + 1) (b ∷ cs)))
+    elim (is_newline b) as (λ t. cond t ([] ∷ cut cs) (before_lines b (cut cs)) ≡ take (cond (not t) (1 + k) 0) (b ∷ cs)
+    ∷ cut (drop (cond (not t) (1 + k) 0 + 1) (b ∷ cs)))
     [ true ↦ refl | false ↦ ap (before_lines b) (first_line c rest) ∙ longer b k cs ]
 
 line_at : (number start n b : ℕ) (rest : List ℕ) → n ≡ position_or_len is_newline (b ∷ rest)
@@ -46,7 +48,8 @@ pub step_line : (number start n : ℕ) (bytes : List ℕ) → start < length byt
 step_line number start n bytes within is_len =
     let P : List ℕ → Type 0 = λ xs. n ≡ position_or_len is_newline xs → numbered number start (cut xs)
     ≡ record { number = number; at = start; bytes = take n xs } ∷ numbered (number + 1) (start + (n + 1)) (cut (drop (n + 1) xs)) in
-    let at_front : P (drop start bytes) = subst P (sym (drop-cons bytes start 0 within)) (line_at number start n (get_or bytes start 0) (drop (suc start) bytes)) in
+    let at_front : P (drop start bytes) =
+    subst P (sym (drop-cons bytes start 0 within)) (line_at number start n (get_or bytes start 0) (drop (suc start) bytes)) in
     rw (← drop-drop (n + 1) start bytes) (at_front is_len)
 
 -- a byte of a line

@@ -34,7 +34,11 @@ abbrev pub front_of : List ℕ → Front
 front_of [] = record { len = 1; kind = None }
 front_of (b ∷ rest) =
     if is_ascii_alphabetic b then record { len = prefix_len is_name_byte (b ∷ rest); kind = Some Name }
-    else (if is_ascii_digit b then record { len = prefix_len is_ascii_digit (b ∷ rest); kind = Some (Number (number_of (take_while is_ascii_digit (b ∷ rest)))) }
+    else (if is_ascii_digit b then record {
+      len = prefix_len is_ascii_digit (b ∷ rest);
+      kind =
+          Some (Number (number_of (take_while is_ascii_digit (b ∷ rest))));
+    }
     else (if sign_length (b ∷ rest) == 0 then record { len = 1; kind = None }
     else record { len = sign_length (b ∷ rest); kind = Some Sign }))
 

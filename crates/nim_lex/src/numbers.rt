@@ -18,7 +18,8 @@ pub fn number(digits: &[u8]) -> u64
 
 /// A number with its sign, where that is in the range of 64 bits with a sign.
 pub fn signed(negative: bool, number: u64) -> Option<i64>
-    ensures some { IfSome result (λ value. (spec.in_range negative number ≡ true) × (value ≡ spec.signed negative number)) }
+    ensures some { IfSome result (λ value. (spec.in_range negative number ≡ true)
+        × (value ≡ spec.signed negative number)) }
     ensures none { result ≡ None → spec.in_range negative number ≡ false }
 {
     if number <= MOST {

@@ -51,7 +51,8 @@ one_more opened (k ∷ ks) l now before may =
 abbrev Nests : State → Type 0
 Nests st = open_after [] st.sections.statements ≡ Some st.opened
 
-one_form : (st : State) (head : Head) (fits : Bool) (f : Option Form) → rule_of st (record { head = head; form = f; fits = fits }) ≡ None → Nests st → Nests (after_form st f)
+one_form : (st : State) (head : Head) (fits : Bool) (f : Option Form) → rule_of st (record { head = head; form = f; fits = fits }) ≡ None → Nests st
+    → Nests (after_form st f)
 one_form st head fits None sound before = before
 one_form st head fits (Some form.Header) sound before = before
 one_form st head fits (Some (form.Steps s)) sound before = before

@@ -66,11 +66,13 @@ abbrev pub after_lines : List ℕ → State → List (List Token) → State
 after_lines source st [] = st
 after_lines source st (line ∷ rest) = after_lines source (next source st line) rest
 
--- the first of some lines that a rule refuses, and the smallest that does; the end of the file has the line behind the last
+-- the first of some lines that a rule refuses, and the smallest that does; the end of the file has the line behind the
+-- last
 abbrev pub first_refusal : List ℕ → State → List (List Token) → Option Refusal
 first_refusal source st [] = refused (line_count source + 1) (rule_at_end st)
 first_refusal source st (line ∷ rest) =
-    option_or (refused (number_of line) (rule_of st (found source st line))) (first_refusal source (next source st line) rest)
+    option_or (refused (number_of line) (rule_of st (found source st line)))
+    (first_refusal source (next source st line) rest)
 
 -- ---- a driver
 

@@ -107,7 +107,8 @@ ends i = (left i == 0) || (sees (codes "with") i || sees (codes "each") i)
 -- more items, up to the end of the list. The number bounds the turns, and each takes a token.
 unfoldable pub some_from : {A : Type 0} → Parser A → ℕ → List A → Parser (List A)
 some_from item zero found = pure found
-some_from item (suc n) found = λ i. if ends i then Some (found, i) else (item >>= (λ x. some_from item n (found ++ x ∷ []))) i
+some_from item (suc n) found =
+    λ i. if ends i then Some (found, i) else (item >>= (λ x. some_from item n (found ++ x ∷ []))) i
 
 -- the items of a list up to its end, behind a first item
 abbrev pub some_after : {A : Type 0} → Parser A → A → Parser (List A)
@@ -135,7 +136,8 @@ each = do
 
 -- the signs that may stand between the two atoms of a `let`
 abbrev pub operators : List (List ℕ × Operator)
-operators = (codes "+", Add) ∷ (codes "-", Subtract) ∷ (codes "*", Multiply) ∷ (codes "/", Divide) ∷ (codes "%", Remainder) ∷ []
+operators = (codes "+", Add) ∷ (codes "-", Subtract) ∷ (codes "*", Multiply) ∷ (codes "/", Divide)
+    ∷ (codes "%", Remainder) ∷ []
 
 -- ["+"|"-"|"*"|"/"|"%"]
 unfoldable pub operator : Parser (Option Operator)
@@ -155,7 +157,8 @@ expression = do
 
 -- the signs that may stand between the two atoms of a condition
 abbrev pub relations : List (List ℕ × Relation)
-relations = (codes "<", Less) ∷ (codes "<=", AtMost) ∷ (codes "=", Equal) ∷ (codes "!=", NotEqual) ∷ (codes ">", Greater) ∷ (codes ">=", AtLeast) ∷ []
+relations = (codes "<", Less) ∷ (codes "<=", AtMost) ∷ (codes "=", Equal) ∷ (codes "!=", NotEqual)
+    ∷ (codes ">", Greater) ∷ (codes ">=", AtLeast) ∷ []
 
 -- ["<"|"<="|"="|"!="|">"|">="]
 unfoldable pub relation : Parser (Option Relation)
@@ -224,7 +227,15 @@ stage line = do
   given ← parameters
   turns ← each
   done
-  pure (form.Stage (record { line = line; function = function; reads = read; writes = written; parameters = given; each = turns }))
+  pure (form.Stage (record {
+    line = line;
+    function = function;
+    reads = read;
+    writes = written;
+    parameters =
+        given;
+    each = turns;
+  }))
 
 -- "end", of a block
 unfoldable pub block_end : Parser Form

@@ -30,7 +30,8 @@ token_code = token.the_row.coded
 
 -- a code that tells rests of lines apart, made of those of the three fields
 abbrev pub input_code : Coded Input
-input_code = code_by (List ℕ × (List Token × Bool)) (coded× (coded_list coded_ℕ) (coded× (coded_list token_code) coded_bool))
+input_code =
+    code_by (List ℕ × (List Token × Bool)) (coded× (coded_list coded_ℕ) (coded× (coded_list token_code) coded_bool))
     (λ i. (i.source, (i.tokens, i.fits))) (λ p. record { source = p.0; tokens = p.1.0; fits = p.1.1 }) (λ _. refl)
 
 -- a line of which nothing was read
@@ -147,7 +148,8 @@ sees_name i = is_some (first_name i.source i.tokens)
 
 -- A number with its sign. One that is out of the range is read as 0, and its line is refused.
 unfoldable pub with_sign : Bool → ℕ → Parser ℤ
-with_sign negative n = λ i. if in_range negative n then Some (signed negative n, i) else Some (pos 0, record i { fits = false })
+with_sign negative n =
+    λ i. if in_range negative n then Some (signed negative n, i) else Some (pos 0, record i { fits = false })
 
 -- ["-"] number
 unfoldable pub int : Parser ℤ

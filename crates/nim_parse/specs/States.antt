@@ -11,7 +11,13 @@ use Rattle.nim_parse.specs.Nesting.{nested}
 
 -- before the first line
 abbrev pub first : State
-first = record { phase = Start; opened = []; block = None; sections = record { steps = None; vars = []; blocks = []; statements = [] } }
+first = record {
+  phase = Start;
+  opened = [];
+  block = None;
+  sections =
+      record { steps = None; vars = []; blocks = []; statements = [] };
+}
 
 -- a block with one more stage
 abbrev pub longer : Stage → Option Block → Option Block
@@ -29,7 +35,12 @@ closed (Some b) = b ∷ []
 
 -- the block that is open goes to those before it
 abbrev pub with_block_end : State → State
-with_block_end st = record st { phase = Blocks; block = None; sections = record st.sections { blocks = st.sections.blocks ++ closed st.block } }
+with_block_end st = record st {
+  phase = Blocks;
+  block = None;
+  sections =
+      record st.sections { blocks = st.sections.blocks ++ closed st.block };
+}
 
 -- a statement goes behind those before it, and what is open changes with it
 abbrev pub with_statement : Line → State → State

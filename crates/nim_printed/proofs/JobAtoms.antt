@@ -89,11 +89,13 @@ value_known k first (Some rest) is rest_is =
     and_from (is_known (scalars k) (atom_for first)) (is_known (scalars k) (atom_for rest.1) && true) (atom_known k first is)
     (and_from (is_known (scalars k) (atom_for rest.1)) true (atom_known k rest.1 rest_is) refl)
 
-pub value_printed : (k : ℕ) → k ≤ 64 → (first : job_atom) (rest : Option (Arith × job_atom)) → whole.is_atom k first ≡ true → whole.is_rest k rest ≡ true → spelled.is_atom first ≡ true
+pub value_printed : (k : ℕ) → k ≤ 64 → (first : job_atom) (rest : Option (Arith × job_atom)) → whole.is_atom k first ≡ true → whole.is_rest k rest ≡ true
+    → spelled.is_atom first ≡ true
     → spelled.is_rest rest ≡ true → trees.is_value (value_for first rest) ≡ true
 value_printed k few first None is rest_is spells rest_spells = atom_printed k few first is spells
 value_printed k few first (Some rest) is rest_is spells rest_spells =
-    and_from (trees.is_atom (atom_for first)) (trees.is_atom (atom_for rest.1)) (atom_printed k few first is spells) (atom_printed k few rest.1 rest_is rest_spells)
+    and_from (trees.is_atom (atom_for first)) (trees.is_atom (atom_for rest.1)) (atom_printed k few first is spells)
+    (atom_printed k few rest.1 rest_is rest_spells)
 
 -- ---- conditions
 
@@ -122,7 +124,8 @@ pub cond_printed : (k : ℕ) → k ≤ 64 → (c : Cond) → whole.is_cond k c �
 cond_printed k few c is spells =
     let parts = and_parts (whole.is_atom k c.left) (whole.is_atom k c.right) is in
     let spelled_parts = and_parts (spelled.is_atom c.left) (spelled.is_atom c.right) spells in
-    and_from (trees.is_atom (atom_for c.left)) (trees.is_atom (atom_for c.right)) (atom_printed k few c.left parts.0 spelled_parts.0) (atom_printed k few c.right parts.1 spelled_parts.1)
+    and_from (trees.is_atom (atom_for c.left)) (trees.is_atom (atom_for c.right)) (atom_printed k few c.left parts.0 spelled_parts.0)
+    (atom_printed k few c.right parts.1 spelled_parts.1)
 
 -- ---- scalars that are set
 
@@ -151,7 +154,8 @@ sets k s behind few set =
             there = omega arith;
             grows = omega arith;
             few = omega arith;
-            scalars_are = cond-true (is_in (scalars k) (scalar_name s)) (scalars k) (scalars k ++ scalar_name s ∷ []) (name_in scalar_name k s old) ∙ ap scalars same;
+            scalars_are =
+                cond-true (is_in (scalars k) (scalar_name s)) (scalars k) (scalars k ++ scalar_name s ∷ []) (name_in scalar_name k s old) ∙ ap scalars same;
           }
       | inr later ↦
           let found = cond_some ((s == k) && nat_lt s 64) (k + 1) behind (sym (cond-false (nat_lt s k) (Some k) next (le-ltb s k later)) ∙ set) in

@@ -53,15 +53,18 @@ whole_block vars block is =
 
 -- ---- read back
 
-block_back : (vars : List job_var) (line : ℕ) (block : job_block) → has_twice (names_of_vars vars) ≡ false → is_free block.name ≡ true → is_block vars block ≡ true
+block_back : (vars : List job_var) (line : ℕ) (block : job_block) → has_twice (names_of_vars vars) ≡ false → is_free block.name ≡ true
+    → is_block vars block ≡ true
     → block_of (names_of_vars vars) (block_for vars line block) ≡ block
 block_back vars line block once free is =
     let whole = whole_block vars block is in
     let stages = map (stage_of (names_of_vars vars) (arguments block.args)) (stages_for vars (line + 1) block.stages) in
-    ap₂ (λ (name : Word) (args : ℕ). record block { name = name; args = args; stages = stages }) (text_same block.name free) (length-map-range_with_len argument_name 0 block.args)
+    ap₂ (λ (name : Word) (args : ℕ). record block { name = name; args = args; stages = stages }) (text_same block.name free)
+    (length-map-range_with_len argument_name 0 block.args)
     ∙ ap (λ (xs : List job_stage). record block { stages = xs }) (stages_back vars block.args (line + 1) block.stages once whole.few whole.stages)
 
-pub blocks_back : (vars : List job_var) (line : ℕ) (blocks : List job_block) → has_twice (names_of_vars vars) ≡ false → list_all is_free (names_of_blocks blocks) ≡ true
+pub blocks_back : (vars : List job_var) (line : ℕ) (blocks : List job_block) → has_twice (names_of_vars vars) ≡ false
+    → list_all is_free (names_of_blocks blocks) ≡ true
     → list_all (is_block vars) blocks ≡ true → map (block_of (names_of_vars vars)) (blocks_for vars line blocks) ≡ blocks
 blocks_back vars line [] once free all = refl
 blocks_back vars line (block ∷ blocks) once free all =
@@ -97,9 +100,11 @@ block_passes vars before block free new number few =
     (or_from (is_in (var_names vars) block.name || is_in (block_names before) block.name) (has_twice block.arguments)
     (or_from (is_in (var_names vars) block.name) (is_in (block_names before) block.name) new.0 new.1) new.2)
     (no_rule (rule_44 site) 44 _
-    (or_from (nat_lt 32 (length before + 1)) (nat_lt 8 (length block.arguments)) (le-ltb 32 (length before + 1) number) (le-ltb 8 (length block.arguments) few)) refl))
+    (or_from (nat_lt 32 (length before + 1)) (nat_lt 8 (length block.arguments)) (le-ltb 32 (length before + 1) number) (le-ltb 8 (length block.arguments) few))
+    refl))
 
-pub blocks_pass : (tree_vars : List Var) (vars : List job_var) (before : List Block) (done blocks : List job_block) (line : ℕ) → AreThere tree_vars vars → block_names before ≡ names_of_blocks done
+pub blocks_pass : (tree_vars : List Var) (vars : List job_var) (before : List Block) (done blocks : List job_block) (line : ℕ) → AreThere tree_vars vars
+    → block_names before ≡ names_of_blocks done
     → has_twice ((names_of_vars vars ++ names_of_blocks done) ++ names_of_blocks blocks) ≡ false → list_all is_free (names_of_blocks blocks) ≡ true
     → list_all (is_block vars) blocks ≡ true → length (done ++ blocks) ≤ 32 → first_refusal (block_sites tree_vars before (blocks_for vars line blocks)) ≡ None
 blocks_pass tree_vars vars before done [] line there named once free all few = refl
@@ -108,7 +113,8 @@ blocks_pass tree_vars vars before done (block ∷ blocks) line there named once 
     let frees = and_parts (is_free block.name) (list_all is_free (names_of_blocks blocks)) free in
     let parts = and_parts (is_block vars block) (list_all (is_block vars) blocks) all in
     let whole = whole_block vars block parts.0 in
-    let new = in_neither (names_of_vars vars) (names_of_blocks done) block.name (apart (names_of_vars vars ++ names_of_blocks done) block.name (names_of_blocks blocks) once) in
+    let new = in_neither (names_of_vars vars) (names_of_blocks done) block.name
+    (apart (names_of_vars vars ++ names_of_blocks done) block.name (names_of_blocks blocks) once) in
     let pushed : names_of_blocks (done ++ block ∷ []) ≡ names_of_blocks done ++ block.name ∷ [] = map_push (λ (x : job_block). x.name) done block in
     let named_next : block_names (before ++ b ∷ []) ≡ names_of_blocks (done ++ block ∷ []) =
     map_push (λ (x : Block). x.name) before b ∙ ap (λ (names : List Word). names ++ block.name ∷ []) named ∙ sym pushed in
@@ -119,20 +125,35 @@ blocks_pass tree_vars vars before done (block ∷ blocks) line there named once 
     ∙ ap has_twice (append_assoc (names ++ names_of_blocks done) (block.name ∷ []) (names_of_blocks blocks)) ∙ once in
     let few_next : length ((done ++ block ∷ []) ++ blocks) ≤ 32 = omega (arith, few, ap length (append_assoc done (block ∷ []) blocks)) in
     let number : length before + 1 ≤ 32 =
-    omega (arith, few, length-append done (block ∷ blocks), ap length named, length-map before (λ (x : Block). x.name), length-map done (λ (x : job_block). x.name)) in
+    omega (
+      arith,
+      few,
+      length-append done (block ∷ blocks),
+      ap length named,
+      length-map before (λ (x : Block). x.name),
+      length-map done
+          (λ (x : job_block). x.name),
+    ) in
     passes_both (block_site tree_vars before b) (block_sites tree_vars (before ++ b ∷ []) (blocks_for vars (line + block_lines block) blocks))
     (passes_on (at_block tree_vars before b) (stage_sites tree_vars b [] b.stages)
     (block_passes tree_vars before b
-    (or_from (is_in reserved block.name) (list_any (is_in reserved) b.arguments) (not_reserved block.name frees.0) (none_reserved b.arguments (all_free block.args whole.few)))
-    (ap (λ (ns : List Word). is_in ns block.name) there.named ∙ new.0, ap (λ (ns : List Word). is_in ns block.name) named ∙ new.1, arguments_apart block.args whole.few)
+    (or_from (is_in reserved block.name) (list_any (is_in reserved) b.arguments) (not_reserved block.name frees.0)
+    (none_reserved b.arguments (all_free block.args whole.few))) (
+      ap (λ (ns : List Word). is_in ns block.name) there.named ∙ new.0,
+      ap (λ (ns : List Word). is_in ns block.name) named
+          ∙ new.1,
+      arguments_apart block.args whole.few,
+    )
     number (omega (arith, length-map-range_with_len argument_name 0 block.args, whole.few)))
     (stages_pass tree_vars vars b block.args [] [] block.stages (line + 1) there refl whole.few refl whole.stages whole.tasks))
     (blocks_pass tree_vars vars (before ++ b ∷ []) (done ++ block ∷ []) blocks (line + block_lines block) there named_next once_next frees.1 parts.1 few_next)
 
 -- ---- they can be printed, and have their numbers
 
-pub blocks_printed : (vars : List job_var) (line : ℕ) (blocks : List job_block) → list_all is_free (names_of_vars vars) ≡ true → list_all is_free (names_of_blocks blocks) ≡ true
-    → list_all (is_block vars) blocks ≡ true → list_all (λ (b : job_block). list_all spelled.is_stage b.stages) blocks ≡ true → list_all trees.is_block (blocks_for vars line blocks) ≡ true
+pub blocks_printed : (vars : List job_var) (line : ℕ) (blocks : List job_block) → list_all is_free (names_of_vars vars) ≡ true
+    → list_all is_free (names_of_blocks blocks) ≡ true
+    → list_all (is_block vars) blocks ≡ true → list_all (λ (b : job_block). list_all spelled.is_stage b.stages) blocks ≡ true
+    → list_all trees.is_block (blocks_for vars line blocks) ≡ true
 blocks_printed vars line [] named free all spells = refl
 blocks_printed vars line (block ∷ blocks) named free all spells =
     let b = block_for vars line block in
@@ -152,16 +173,19 @@ block_length vars line block =
     let head = codes "block" ∷ block.name ∷ listed_words (map (λ (argument : Word). argument ∷ []) b.arguments) in
     omega (arith, length-append (head ∷ words) ((codes "end" ∷ []) ∷ []), length-map b.stages stage_words, stages_length vars (line + 1) block.stages)
 
-pub blocks_length : (vars : List job_var) (line : ℕ) (blocks : List job_block) → length (flat_map block_words (blocks_for vars line blocks)) ≡ blocks_lines blocks
+pub blocks_length : (vars : List job_var) (line : ℕ) (blocks : List job_block)
+    → length (flat_map block_words (blocks_for vars line blocks)) ≡ blocks_lines blocks
 blocks_length vars line [] = refl
 blocks_length vars line (block ∷ blocks) =
     length-append (block_words (block_for vars line block)) (flat_map block_words (blocks_for vars (line + block_lines block) blocks))
     ∙ ap₂ (λ (n m : ℕ). n + m) (block_length vars line block) (blocks_length vars (line + block_lines block) blocks)
 
-pub blocks_at_lines : (vars : List job_var) (line : ℕ) (blocks : List job_block) → blocks_numbered line (blocks_for vars line blocks) ≡ blocks_for vars line blocks
+pub blocks_at_lines : (vars : List job_var) (line : ℕ) (blocks : List job_block)
+    → blocks_numbered line (blocks_for vars line blocks) ≡ blocks_for vars line blocks
 blocks_at_lines vars line [] = refl
 blocks_at_lines vars line (block ∷ blocks) =
     let rest = blocks_for vars (line + block_lines block) blocks in
-    ap₂ (λ (stages : List Stage) (behind : ℕ). record (block_for vars line block) { stages = stages } ∷ blocks_numbered (line + behind) rest) (stages_at_lines vars (line + 1) block.stages)
+    ap₂ (λ (stages : List Stage) (behind : ℕ). record (block_for vars line block) { stages = stages } ∷ blocks_numbered (line + behind) rest)
+    (stages_at_lines vars (line + 1) block.stages)
     (block_length vars line block)
     ∙ ap (λ (bs : List Block). block_for vars line block ∷ bs) (blocks_at_lines vars (line + block_lines block) blocks)

@@ -78,7 +78,8 @@ open_cases P none some (kind ∷ more) = some kind more
 var_there : (job : Job) (var : ℕ) → nat_lt var (length job.vars) ≡ true → var < length (names_of_vars job.vars)
 var_there job var there = omega (arith, ltb-true var (length job.vars) there, length-map job.vars (λ (v : job_var). v.name))
 
-call_there : (blocks : List job_block) (block n : ℕ) → option_map_or (λ (b : job_block). n == b.args) (slice_get blocks block) false ≡ true → block < length blocks
+call_there : (blocks : List job_block) (block n : ℕ) → option_map_or (λ (b : job_block). n == b.args) (slice_get blocks block) false ≡ true
+    → block < length blocks
 call_there [] block n is = absurd (false≢true is)
 call_there (b ∷ blocks) zero n is = omega arith
 call_there (b ∷ blocks) (suc block) n is =
@@ -96,7 +97,8 @@ pub do_says : (job : Job) (blocks : List Block) (depth k block : ℕ) (args : Li
 do_says job blocks depth k block args named within call known spells =
     let name = block_name job.blocks block in
     let there = block_there job block (length args) call in
-    let place : place_in (block_names blocks) name ≡ block = ap (λ (names : List Word). place_in names name) named.named ∙ place_at (names_of_blocks job.blocks) block named.blocks_once there in
+    let place : place_in (block_names blocks) name ≡ block =
+    ap (λ (names : List Word). place_in names name) named.named ∙ place_at (names_of_blocks job.blocks) block named.blocks_once there in
     record {
       grows = omega arith;
       few = within;
@@ -105,21 +107,26 @@ do_says job blocks depth k block args named within call known spells =
         free = refl;
         few = omega (arith, within, scalars_length k);
         variable = refl;
-        block = ap₂ (λ (n at : ℕ). option_map_or (λ (b : Block). n == length b.arguments) (slice_get blocks at) false) (length-map args atom_for) place ∙ named.takes block (length args) call;
+        block = ap₂ (λ (n at : ℕ). option_map_or (λ (b : Block). n == length b.arguments) (slice_get blocks at) false) (length-map args atom_for) place
+            ∙ named.takes block (length args) call;
         known = all_mapped (is_known (scalars k)) atom_for (whole.is_atom k) (atom_known k) args known;
         shallow = refl;
       };
-      read = λ n more most bodies. put_rolled bodies (rolls-Do (place_in (names_of_blocks job.blocks) name) (map (atom_of (names_at job n)) (map atom_for args)))
-          ∙ ap₂ (λ (at : ℕ) (xs : List job_atom). onto (roll-Stmt (Stmt-F.Do at xs)) bodies) (place_at (names_of_blocks job.blocks) block named.blocks_once there)
+      read =
+          λ n more most bodies. put_rolled bodies (rolls-Do (place_in (names_of_blocks job.blocks) name) (map (atom_of (names_at job n)) (map atom_for args)))
+          ∙ ap₂ (λ (at : ℕ) (xs : List job_atom). onto (roll-Stmt (Stmt-F.Do at xs)) bodies)
+          (place_at (names_of_blocks job.blocks) block named.blocks_once there)
           (map_back atom_for (atom_of (names_at job n)) (whole.is_atom k) (atom_back job k n more most) args known);
       printed = and_from (is_free name) (list_all trees.is_atom (map atom_for args)) (free_at (names_of_blocks job.blocks) block there named.blocks_free)
           (all_mapped trees.is_atom atom_for (λ a. whole.is_atom k a && spelled.is_atom a)
           (λ a both. let parts = and_parts (whole.is_atom k a) (spelled.is_atom a) both in atom_printed k within a parts.0 parts.1) args
-          (all_of_both (whole.is_atom k) spelled.is_atom (λ a. whole.is_atom k a && spelled.is_atom a) (λ a x y. and_from (whole.is_atom k a) (spelled.is_atom a) x y) args known spells));
+          (all_of_both (whole.is_atom k) spelled.is_atom (λ a. whole.is_atom k a && spelled.is_atom a)
+          (λ a x y. and_from (whole.is_atom k a) (spelled.is_atom a) x y) args known spells));
       nests = λ open_now rest. open_cases (λ op. opened_after op (Do name (map atom_for args) ∷ rest) ≡ opened_after op rest) refl (λ kind more. refl) open_now;
     }
 
-pub let_says : (job : Job) (blocks : List Block) (depth k behind s : ℕ) (first : job_atom) (rest : Option (Arith × job_atom)) → k ≤ 64 → whole.is_atom k first ≡ true → whole.is_rest k rest ≡ true
+pub let_says : (job : Job) (blocks : List Block) (depth k behind s : ℕ) (first : job_atom) (rest : Option (Arith × job_atom)) → k ≤ 64
+    → whole.is_atom k first ≡ true → whole.is_rest k rest ≡ true
     → whole.set_at k s ≡ Some behind → spelled.is_atom first ≡ true → spelled.is_rest rest ≡ true
     → Says job blocks depth k behind (Let (scalar_name s) (value_for first rest)) (roll-Stmt (Stmt-F.Let s first rest))
 let_says job blocks depth k behind s first rest within is rest_is set spells rest_spells =
@@ -139,15 +146,20 @@ let_says job blocks depth k behind s first rest within is rest_is set spells res
       read = λ n more most bodies.
           let place : place_in (scalars n) (scalar_name s) ≡ s = name_place scalar_name n s (omega (arith, new.there, more)) (scalars_apart n most) in
           let within_n : k ≤ n = omega (arith, new.grows, more) in
-          put_rolled bodies (rolls-Let (place_in (scalars n) (scalar_name s)) (first_of (names_at job n) (value_for first rest)) (rest_of (names_at job n) (value_for first rest)))
-          ∙ ap (λ (at : ℕ). onto (roll-Stmt (Stmt-F.Let at (first_of (names_at job n) (value_for first rest)) (rest_of (names_at job n) (value_for first rest)))) bodies) place
-          ∙ ap₂ (λ (a : job_atom) (r : Option (Arith × job_atom)). onto (roll-Stmt (Stmt-F.Let s a r)) bodies) (first_back job k n within_n most first rest is) (rest_back job k n within_n most first rest rest_is);
+          put_rolled bodies (rolls-Let (place_in (scalars n) (scalar_name s)) (first_of (names_at job n) (value_for first rest))
+          (rest_of (names_at job n) (value_for first rest)))
+          ∙ ap (λ (at : ℕ). onto (roll-Stmt (Stmt-F.Let at (first_of (names_at job n) (value_for first rest))
+          (rest_of (names_at job n) (value_for first rest)))) bodies) place
+          ∙ ap₂ (λ (a : job_atom) (r : Option (Arith × job_atom)). onto (roll-Stmt (Stmt-F.Let s a r)) bodies) (first_back job k n within_n most first rest is)
+          (rest_back job k n within_n most first rest rest_is);
       printed = and_from (is_free (scalar_name s)) (trees.is_value (value_for first rest)) (scalar_free s (omega (arith, new.there, new.few)))
           (value_printed k within first rest is rest_is spells rest_spells);
-      nests = λ open_now more. open_cases (λ op. opened_after op (Let (scalar_name s) (value_for first rest) ∷ more) ≡ opened_after op more) refl (λ kind others. refl) open_now;
+      nests = λ open_now more. open_cases (λ op. opened_after op (Let (scalar_name s) (value_for first rest) ∷ more) ≡ opened_after op more) refl
+          (λ kind others. refl) open_now;
     }
 
-pub get_says : (job : Job) (blocks : List Block) (depth k behind s var part row cell : ℕ) → Named job blocks → k ≤ 64 → nat_lt var (length job.vars) ≡ true → whole.set_at k s ≡ Some behind
+pub get_says : (job : Job) (blocks : List Block) (depth k behind s var part row cell : ℕ) → Named job blocks → k ≤ 64 → nat_lt var (length job.vars) ≡ true
+    → whole.set_at k s ≡ Some behind
     → (is_small part ≡ true) × (is_small row ≡ true) × (is_small cell ≡ true)
     → Says job blocks depth k behind (Get (scalar_name s) (var_name job.vars var) part row cell) (roll-Stmt (Stmt-F.Get s var part row cell))
 get_says job blocks depth k behind s var part row cell named within there set small =
@@ -169,10 +181,13 @@ get_says job blocks depth k behind s var part row cell named within there set sm
       read = λ n more most bodies.
           let place : place_in (scalars n) (scalar_name s) ≡ s = name_place scalar_name n s (omega (arith, new.there, more)) (scalars_apart n most) in
           put_rolled bodies (rolls-Get (place_in (scalars n) (scalar_name s)) (place_in (names_of_vars job.vars) name) part row cell)
-          ∙ ap₂ (λ (scalar v : ℕ). onto (roll-Stmt (Stmt-F.Get scalar v part row cell)) bodies) place (place_at (names_of_vars job.vars) var named.vars_once at);
-      printed = from5 (is_free (scalar_name s)) (is_free name) (is_small part) (is_small row) (is_small cell) (scalar_free s (omega (arith, new.there, new.few)))
+          ∙ ap₂ (λ (scalar v : ℕ). onto (roll-Stmt (Stmt-F.Get scalar v part row cell)) bodies) place
+          (place_at (names_of_vars job.vars) var named.vars_once at);
+      printed =
+          from5 (is_free (scalar_name s)) (is_free name) (is_small part) (is_small row) (is_small cell) (scalar_free s (omega (arith, new.there, new.few)))
           (free_at (names_of_vars job.vars) var at named.vars_free) small.0 small.1 small.2;
-      nests = λ open_now more. open_cases (λ op. opened_after op (Get (scalar_name s) name part row cell ∷ more) ≡ opened_after op more) refl (λ kind others. refl) open_now;
+      nests = λ open_now more. open_cases (λ op. opened_after op (Get (scalar_name s) name part row cell ∷ more) ≡ opened_after op more) refl
+          (λ kind others. refl) open_now;
     }
 
 pub checkpoint_says : (job : Job) (blocks : List Block) (depth k : ℕ) → k ≤ 64 → Says job blocks depth k k Checkpoint (roll-Stmt Stmt-F.Checkpoint)
@@ -194,16 +209,26 @@ output_says job blocks depth k var named within there =
       grows = omega arith;
       few = within;
       past = refl;
-      sound = record { free = refl; few = omega (arith, within, scalars_length k); variable = in_at (names_of_vars job.vars) var at; block = refl; known = refl; shallow = refl };
+      sound = record {
+        free = refl;
+        few = omega (arith, within, scalars_length k);
+        variable = in_at (names_of_vars job.vars) var at;
+        block = refl;
+        known =
+            refl;
+        shallow = refl;
+      };
       read = λ n more most bodies. put_rolled bodies (rolls-Output (place_in (names_of_vars job.vars) (var_name job.vars var)))
           ∙ ap (λ (v : ℕ). onto (roll-Stmt (Stmt-F.Output v)) bodies) (place_at (names_of_vars job.vars) var named.vars_once at);
       printed = free_at (names_of_vars job.vars) var at named.vars_free;
-      nests = λ open_now more. open_cases (λ op. opened_after op (Output (var_name job.vars var) ∷ more) ≡ opened_after op more) refl (λ kind others. refl) open_now;
+      nests = λ open_now more. open_cases (λ op. opened_after op (Output (var_name job.vars var) ∷ more) ≡ opened_after op more) refl (λ kind others. refl)
+          open_now;
     }
 
 -- ---- lines that open a body
 
-pub loop_opens : (job : Job) (blocks : List Block) (depth k : ℕ) (turns : job_atom) → k ≤ 64 → depth < 16 → whole.is_atom k turns ≡ true → spelled.is_atom turns ≡ true
+pub loop_opens : (job : Job) (blocks : List Block) (depth k : ℕ) (turns : job_atom) → k ≤ 64 → depth < 16 → whole.is_atom k turns ≡ true
+    → spelled.is_atom turns ≡ true
     → Opens job blocks opening.Turns depth k (Loop (atom_for turns)) (λ body. roll-Stmt (Stmt-F.Loop turns body.first))
 loop_opens job blocks depth k turns within shallow is spells = record {
   past = refl;
@@ -218,7 +243,8 @@ loop_opens job blocks depth k turns within shallow is spells = record {
   read = λ n more most bodies. open_rolled bodies (λ body. rolls-Loop (atom_of (names_at job n) (atom_for turns)) body.first)
       ∙ ap (λ (t : job_atom). opened (λ (body : Body). roll-Stmt (Stmt-F.Loop t body.first)) bodies) (atom_back job k n more most turns is);
   printed = atom_printed k within turns is spells;
-  nests = λ open_now rest. open_cases (λ op. opened_after op (Loop (atom_for turns) ∷ rest) ≡ opened_after (opening.Turns ∷ op) rest) refl (λ kind others. refl) open_now;
+  nests = λ open_now rest. open_cases (λ op. opened_after op (Loop (atom_for turns) ∷ rest) ≡ opened_after (opening.Turns ∷ op) rest) refl (λ kind others. refl)
+      open_now;
 }
 
 pub while_opens : (job : Job) (blocks : List Block) (depth k : ℕ) (c : Cond) → k ≤ 64 → depth < 16 → whole.is_cond k c ≡ true → spelled.is_cond c ≡ true
@@ -236,7 +262,8 @@ while_opens job blocks depth k c within shallow is spells = record {
   read = λ n more most bodies. open_rolled bodies (λ body. rolls-While (cond_of (names_at job n) (condition_for c)) body.first)
       ∙ ap (λ (x : Cond). opened (λ (body : Body). roll-Stmt (Stmt-F.While x body.first)) bodies) (cond_back job k n more most c is);
   printed = cond_printed k within c is spells;
-  nests = λ open_now rest. open_cases (λ op. opened_after op (While (condition_for c) ∷ rest) ≡ opened_after (opening.Turns ∷ op) rest) refl (λ kind others. refl) open_now;
+  nests = λ open_now rest. open_cases (λ op. opened_after op (While (condition_for c) ∷ rest) ≡ opened_after (opening.Turns ∷ op) rest) refl
+      (λ kind others. refl) open_now;
 }
 
 pub if_opens : (job : Job) (blocks : List Block) (depth k : ℕ) (c : Cond) → k ≤ 64 → depth < 16 → whole.is_cond k c ≡ true → spelled.is_cond c ≡ true
@@ -254,11 +281,13 @@ if_opens job blocks depth k c within shallow is spells = record {
   read = λ n more most bodies. open_rolled bodies (λ body. rolls-If (cond_of (names_at job n) (condition_for c)) body.first body.second)
       ∙ ap (λ (x : Cond). opened (λ (body : Body). roll-Stmt (Stmt-F.If x body.first body.second)) bodies) (cond_back job k n more most c is);
   printed = cond_printed k within c is spells;
-  nests = λ open_now rest. open_cases (λ op. opened_after op (If (condition_for c) ∷ rest) ≡ opened_after (opening.If ∷ op) rest) refl (λ kind others. refl) open_now;
+  nests = λ open_now rest. open_cases (λ op. opened_after op (If (condition_for c) ∷ rest) ≡ opened_after (opening.If ∷ op) rest) refl (λ kind others. refl)
+      open_now;
 }
 
 -- an `else` stands only where something stands behind it
-pub if_holds : (job : Job) (blocks : List Block) (depth k between behind : ℕ) (xs : List Statement) (ss ts : List Stmt) → Shows job blocks (depth + 1) k between xs ss
+pub if_holds : (job : Job) (blocks : List Block) (depth k between behind : ℕ) (xs : List Statement) (ss ts : List Stmt)
+    → Shows job blocks (depth + 1) k between xs ss
     → Shows job blocks (depth + 1) between behind (joined (map (statements_of job) ts)) ts
     → Holds job blocks opening.If depth k behind (xs ++ else_for (map (statements_of job) ts)) (body_with ss ts)
 if_holds job blocks depth k between behind xs ss [] first second =

@@ -32,7 +32,8 @@ pub bodies_of_lines : (names : Names) (line : ℕ) (ss : List Statement) → bod
 bodies_of_lines names line [] = refl
 bodies_of_lines names line (s ∷ ss) = ap (with_line names s) (bodies_of_lines names (line + 1) ss)
 
-pub bodies_with-append : (names : Names) (xs ys : List Statement) (bodies : List Body) → bodies_with names (xs ++ ys) bodies ≡ bodies_with names xs (bodies_with names ys bodies)
+pub bodies_with-append : (names : Names) (xs ys : List Statement) (bodies : List Body)
+    → bodies_with names (xs ++ ys) bodies ≡ bodies_with names xs (bodies_with names ys bodies)
 bodies_with-append names [] ys bodies = refl
 bodies_with-append names (x ∷ xs) ys bodies = ap (with_line names x) (bodies_with-append names xs ys bodies)
 
@@ -84,12 +85,14 @@ abbrev pub AreSound : List Word → List Block → Past → List Statement → T
 AreSound vars blocks past [] = Unit {0}
 AreSound vars blocks past (s ∷ ss) = IsSound vars blocks past s × AreSound vars blocks (past_with past s) ss
 
-pub sound_both : (vars : List Word) (blocks : List Block) (past : Past) (xs ys : List Statement) → AreSound vars blocks past xs → AreSound vars blocks (past_after past xs) ys
+pub sound_both : (vars : List Word) (blocks : List Block) (past : Past) (xs ys : List Statement) → AreSound vars blocks past xs
+    → AreSound vars blocks (past_after past xs) ys
     → AreSound vars blocks past (xs ++ ys)
 sound_both vars blocks past [] ys first second = second
 sound_both vars blocks past (x ∷ xs) ys first second = (first.0, sound_both vars blocks (past_with past x) xs ys first.1 second)
 
-statement_passes : (tree : Sections) (past : Past) (line : Line) → IsSound (var_names tree.vars) tree.blocks past line.statement → rule_of (at_statement tree past line) ≡ None
+statement_passes : (tree : Sections) (past : Past) (line : Line) → IsSound (var_names tree.vars) tree.blocks past line.statement
+    → rule_of (at_statement tree past line) ≡ None
 unfolding rule_of
 statement_passes tree past line sound =
     let site = at_statement tree past line in

@@ -51,21 +51,24 @@ all_both p xs ys all more = list_all-append p xs ys ∙ and_from (list_all p xs)
 pub all_taken : {X : Type 0} (p : X → Bool) (k : ℕ) (xs : List X) → list_all p xs ≡ true → list_all p (take k xs) ≡ true
 all_taken p k xs all = (all_parts p (take k xs) (drop k xs) (ap (list_all p) (take-append-drop k xs) ∙ all)).0
 
-pub all_mapped : {X Y : Type 0} (p : Y → Bool) (f : X → Y) (q : X → Bool) → ((x : X) → q x ≡ true → p (f x) ≡ true) → (xs : List X) → list_all q xs ≡ true → list_all p (map f xs) ≡ true
+pub all_mapped : {X Y : Type 0} (p : Y → Bool) (f : X → Y) (q : X → Bool) → ((x : X) → q x ≡ true → p (f x) ≡ true) → (xs : List X) → list_all q xs ≡ true
+    → list_all p (map f xs) ≡ true
 all_mapped p f q each [] all = refl
 all_mapped p f q each (x ∷ xs) all =
     let parts = and_parts (q x) (list_all q xs) all in
     and_from (p (f x)) (list_all p (map f xs)) (each x parts.0) (all_mapped p f q each xs parts.1)
 
 -- two tests together
-pub all_of_both : {X : Type 0} (p q r : X → Bool) → ((x : X) → p x ≡ true → q x ≡ true → r x ≡ true) → (xs : List X) → list_all p xs ≡ true → list_all q xs ≡ true → list_all r xs ≡ true
+pub all_of_both : {X : Type 0} (p q r : X → Bool) → ((x : X) → p x ≡ true → q x ≡ true → r x ≡ true) → (xs : List X) → list_all p xs ≡ true
+    → list_all q xs ≡ true → list_all r xs ≡ true
 all_of_both p q r each [] all more = refl
 all_of_both p q r each (x ∷ xs) all more =
     let here = and_parts (p x) (list_all p xs) all in
     let also = and_parts (q x) (list_all q xs) more in
     and_from (r x) (list_all r xs) (each x here.0 also.0) (all_of_both p q r each xs here.1 also.1)
 
-pub none_mapped : {X Y : Type 0} (p : Y → Bool) (f : X → Y) (q : X → Bool) → ((x : X) → q x ≡ true → p (f x) ≡ false) → (xs : List X) → list_all q xs ≡ true → list_any p (map f xs) ≡ false
+pub none_mapped : {X Y : Type 0} (p : Y → Bool) (f : X → Y) (q : X → Bool) → ((x : X) → q x ≡ true → p (f x) ≡ false) → (xs : List X) → list_all q xs ≡ true
+    → list_any p (map f xs) ≡ false
 none_mapped p f q each [] all = refl
 none_mapped p f q each (x ∷ xs) all =
     let parts = and_parts (q x) (list_all q xs) all in
@@ -84,7 +87,8 @@ sum_same f g same [] = refl
 sum_same f g same (x ∷ xs) = sum_by-cons f x xs ∙ ap₂ (λ (n m : ℕ). n + m) (same x) (sum_same f g same xs) ∙ sym (sum_by-cons g x xs)
 
 -- what is read back item by item
-pub map_back : {X Y : Type 0} (f : X → Y) (g : Y → X) (q : X → Bool) → ((x : X) → q x ≡ true → g (f x) ≡ x) → (xs : List X) → list_all q xs ≡ true → map g (map f xs) ≡ xs
+pub map_back : {X Y : Type 0} (f : X → Y) (g : Y → X) (q : X → Bool) → ((x : X) → q x ≡ true → g (f x) ≡ x) → (xs : List X) → list_all q xs ≡ true
+    → map g (map f xs) ≡ xs
 map_back {X} f g q each [] all = refl
 map_back {X} f g q each (x ∷ xs) all =
     let parts = and_parts (q x) (list_all q xs) all in

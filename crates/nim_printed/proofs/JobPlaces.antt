@@ -24,7 +24,8 @@ first_unloaded vars var = ap objects_of (take-map without var vars) ∙ objects_
 
 object_unloaded : (vars : List job_var) (i : ℕ) (ref : job_ref) → object_meant (unloaded_vars vars) i ref ≡ object_meant vars i ref
 object_unloaded vars i ref =
-    ap₂ (λ (first parts : ℕ). let object : Object = record { 0 = first + part_of ref.place i parts } in object) (first_unloaded vars ref.var) (parts_unloaded vars ref.var)
+    ap₂ (λ (first parts : ℕ). let object : Object = record { 0 = first + part_of ref.place i parts } in object) (first_unloaded vars ref.var)
+    (parts_unloaded vars ref.var)
 
 written_unloaded : (vars : List job_var) (ref : Option job_ref)
     → option_map_or (λ (r : job_ref). parts_of (unloaded_vars vars) r.var) ref 0 ≡ option_map_or (λ (r : job_ref). parts_of vars r.var) ref 0
@@ -36,7 +37,8 @@ turns_unloaded vars stage = ap (λ (n : ℕ). if stage.each then n else 1) (writ
 
 pub distinct_unloaded : (vars : List job_var) (stage : job_stage) → has_distinct (unloaded_vars vars) stage ≡ has_distinct vars stage
 distinct_unloaded vars stage =
-    ap (λ (turns : ℕ). list_all (λ i. are_distinct (map (object_meant (unloaded_vars vars) i) stage.writes)) (range_with_len 0 turns)) (turns_unloaded vars stage)
+    ap (λ (turns : ℕ). list_all (λ i. are_distinct (map (object_meant (unloaded_vars vars) i) stage.writes)) (range_with_len 0 turns))
+    (turns_unloaded vars stage)
     ∙ all_same (λ i. are_distinct (map (object_meant (unloaded_vars vars) i) stage.writes)) (λ i. are_distinct (map (object_meant vars i) stage.writes))
     (λ i. ap are_distinct (map_same (object_meant (unloaded_vars vars) i) (object_meant vars i) (object_unloaded vars i) stage.writes))
     (range_with_len 0 (task_count vars stage))

@@ -20,7 +20,8 @@ job_read job checked spelled short =
     let lexed : IsLexed (tree_words (tree_for job)) = words_read (tree_words (tree_for job)) (tree_words_are (tree_for job) stands.printable) short in
     let parsed : IsParsed (tree_for job) = tree_read (tree_for job) stands.printable stands.numbers lexed in
     record {
-      accepted = ap (λ (r : Option Refusal). option_or (option_or r (parse.refusal_of (tree_text (tree_for job)))) (refusal_of (parse.tree_of (tree_text (tree_for job))))) lexed.sound
+      accepted = ap (λ (r : Option Refusal). option_or (option_or r (parse.refusal_of (tree_text (tree_for job))))
+          (refusal_of (parse.tree_of (tree_text (tree_for job))))) lexed.sound
           ∙ ap (λ (r : Option Refusal). option_or r (refusal_of (parse.tree_of (tree_text (tree_for job))))) parsed.sound
           ∙ ap refusal_of parsed.tree_is ∙ stands.sound;
       job_is = ap job_of parsed.tree_is ∙ stands.job_is;

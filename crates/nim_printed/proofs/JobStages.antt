@@ -60,7 +60,8 @@ place_back (Fixed n) = refl
 place_back (Plus n) = refl
 place_back (Minus n) = refl
 
-ref_back : (vars : List job_var) (each : Bool) → has_twice (names_of_vars vars) ≡ false → (ref : job_ref) → is_ref vars each ref ≡ true → ref_of (names_of_vars vars) (ref_for vars ref) ≡ ref
+ref_back : (vars : List job_var) (each : Bool) → has_twice (names_of_vars vars) ≡ false → (ref : job_ref) → is_ref vars each ref ≡ true
+    → ref_of (names_of_vars vars) (ref_for vars ref) ≡ ref
 ref_back vars each once ref is =
     let there : ref.var < length vars = ltb-true ref.var (length vars) (and_parts (nat_lt ref.var (length vars)) (is_place each ref.place) is).0 in
     ap₂ (λ (var : ℕ) (place : Place). record ref { var = var; place = place })
@@ -99,16 +100,21 @@ stage_back vars args line stage once few is =
     let writes = map (ref_of names) (map (ref_for vars) stage.writes) in
     let params = map (param_of (arguments args)) (map param_for stage.params) in
     ap (λ (f : Func). record stage { func = f; reads = reads; writes = writes; params = params }) (func_is stage.func)
-    ∙ ap (λ (rs : List job_ref). record stage { reads = rs; writes = writes; params = params }) (map_back (ref_for vars) (ref_of names) (is_ref vars stage.each) (ref_back vars stage.each once) stage.reads whole.reads)
-    ∙ ap (λ (ws : List job_ref). record stage { writes = ws; params = params }) (map_back (ref_for vars) (ref_of names) (is_ref vars stage.each) (ref_back vars stage.each once) stage.writes whole.writes)
-    ∙ ap (λ (ps : List Param). record stage { params = ps }) (map_back param_for (param_of (arguments args)) (is_param args) (param_back args few) stage.params whole.params)
+    ∙ ap (λ (rs : List job_ref). record stage { reads = rs; writes = writes; params = params })
+    (map_back (ref_for vars) (ref_of names) (is_ref vars stage.each) (ref_back vars stage.each once) stage.reads whole.reads)
+    ∙ ap (λ (ws : List job_ref). record stage { writes = ws; params = params })
+    (map_back (ref_for vars) (ref_of names) (is_ref vars stage.each) (ref_back vars stage.each once) stage.writes whole.writes)
+    ∙ ap (λ (ps : List Param). record stage { params = ps }) (map_back param_for (param_of (arguments args)) (is_param args) (param_back args few) stage.params
+    whole.params)
 
-pub stages_back : (vars : List job_var) (args line : ℕ) (stages : List job_stage) → has_twice (names_of_vars vars) ≡ false → args ≤ 8 → list_all (is_stage vars args) stages ≡ true
+pub stages_back : (vars : List job_var) (args line : ℕ) (stages : List job_stage) → has_twice (names_of_vars vars) ≡ false → args ≤ 8
+    → list_all (is_stage vars args) stages ≡ true
     → map (stage_of (names_of_vars vars) (arguments args)) (stages_for vars line stages) ≡ stages
 stages_back vars args line [] once few all = refl
 stages_back vars args line (stage ∷ stages) once few all =
     let parts = and_parts (is_stage vars args stage) (list_all (is_stage vars args) stages) all in
-    ap₂ (λ (x : job_stage) (xs : List job_stage). x ∷ xs) (stage_back vars args line stage once few parts.0) (stages_back vars args (line + 1) stages once few parts.1)
+    ap₂ (λ (x : job_stage) (xs : List job_stage). x ∷ xs) (stage_back vars args line stage once few parts.0)
+    (stages_back vars args (line + 1) stages once few parts.1)
 
 -- ---- no rule refuses them
 
@@ -144,17 +150,20 @@ record IsSound (vars : List Var) (block : Block) (before : List Stage) (stage : 
   pub known : list_all (is_known block.arguments) stage.parameters ≡ true
   pub tasks : sum_by (task_count (map var_of vars)) (map (stage_of (var_names vars) block.arguments) (before ++ stage ∷ [])) ≤ 1024
 
-stage_passes : (vars : List Var) (block : Block) (before : List Stage) (stage : Stage) → IsSound vars block before stage → rule_of (at_stage vars block before stage) ≡ None
+stage_passes : (vars : List Var) (block : Block) (before : List Stage) (stage : Stage) → IsSound vars block before stage
+    → rule_of (at_stage vars block before stage) ≡ None
 unfolding rule_of
 stage_passes vars block before stage sound =
     let site = at_stage vars block before stage in
     no_rule (rule_45 site) 45 _ sound.function
-    (no_rule (rule_46 site) 46 _ (not_from_true (has_counts (unwrap_or (func_of stage.function) func.Set) (length stage.parameters) (length stage.reads) (length stage.writes)) sound.counts)
+    (no_rule (rule_46 site) 46 _ (not_from_true (has_counts (unwrap_or (func_of stage.function) func.Set) (length stage.parameters) (length stage.reads)
+    (length stage.writes)) sound.counts)
     (no_rule (rule_47 site) 47 _ (not_from_true (list_all (λ (ref : Ref). is_in (var_names vars) ref.name) (refs_of stage)) sound.variables)
     (no_rule (rule_48 site) 48 _ sound.own
     (no_rule (rule_49 site) 49 _ (not_from_true (has_distinct (map var_of vars) (stage_of (var_names vars) block.arguments stage)) sound.distinct)
     (no_rule (rule_50 site) 50 _ (not_from_true (list_all (is_known block.arguments) stage.parameters) sound.known)
-    (no_rule (rule_51 site) 51 _ (le-ltb 1024 (sum_by (task_count (map var_of vars)) (map (stage_of (var_names vars) block.arguments) (before ++ stage ∷ []))) sound.tasks) refl))))))
+    (no_rule (rule_51 site) 51 _ (le-ltb 1024 (sum_by (task_count (map var_of vars)) (map (stage_of (var_names vars) block.arguments) (before ++ stage ∷ [])))
+    sound.tasks) refl))))))
 
 -- what the variables before a block are
 pub record AreThere (tree_vars : List Var) (vars : List job_var) : Type 0 where
@@ -162,7 +171,8 @@ pub record AreThere (tree_vars : List Var) (vars : List job_var) : Type 0 where
   pub back : map var_of tree_vars ≡ unloaded_vars vars
   pub once : has_twice (names_of_vars vars) ≡ false
 
-sound_stage : (tree_vars : List Var) (vars : List job_var) (block : Block) (args : ℕ) (before : List Stage) (done : List job_stage) (line : ℕ) (stage : job_stage) → AreThere tree_vars vars
+sound_stage : (tree_vars : List Var) (vars : List job_var) (block : Block) (args : ℕ) (before : List Stage) (done : List job_stage) (line : ℕ)
+    (stage : job_stage) → AreThere tree_vars vars
     → block.arguments ≡ arguments args → args ≤ 8 → map (stage_of (var_names tree_vars) block.arguments) before ≡ done → is_stage vars args stage ≡ true
     → sum_by (task_count vars) (done ++ stage ∷ []) ≤ 1024 → IsSound tree_vars block before (stage_for vars line stage)
 sound_stage tree_vars vars block args before done line stage there takes few is_done is total =
@@ -170,39 +180,48 @@ sound_stage tree_vars vars block args before done line stage there takes few is_
     let s = stage_for vars line stage in
     let counts = ap (λ (f : Func). has_counts f (length s.parameters) (length s.reads) (length s.writes)) (func_is stage.func)
     ∙ ap (λ (n : ℕ). has_counts stage.func n (length s.reads) (length s.writes)) (length-map stage.params param_for)
-    ∙ ap₂ (λ (n m : ℕ). has_counts stage.func (length stage.params) n m) (length-map stage.reads (ref_for vars)) (length-map stage.writes (ref_for vars)) ∙ whole.counts in
+    ∙ ap₂ (λ (n m : ℕ). has_counts stage.func (length stage.params) n m) (length-map stage.reads (ref_for vars)) (length-map stage.writes (ref_for vars))
+    ∙ whole.counts in
     let is_named = λ (ref : Ref). is_in (names_of_vars vars) ref.name in
     let back : stage_of (var_names tree_vars) block.arguments s ≡ stage =
     ap₂ (λ (names args : List Word). stage_of names args s) there.named takes ∙ stage_back vars args line stage there.once few is in
     let sums = ap (sum_by (task_count (map var_of tree_vars)))
     (map_push (stage_of (var_names tree_vars) block.arguments) before s ∙ ap₂ (λ (xs : List job_stage) (x : job_stage). xs ++ x ∷ []) is_done back)
-    ∙ ap (λ (vs : List job_var). sum_by (task_count vs) (done ++ stage ∷ [])) there.back ∙ sum_same (task_count (unloaded_vars vars)) (task_count vars) (turns_unloaded vars) (done ++ stage ∷ []) in
+    ∙ ap (λ (vs : List job_var). sum_by (task_count vs) (done ++ stage ∷ [])) there.back
+    ∙ sum_same (task_count (unloaded_vars vars)) (task_count vars) (turns_unloaded vars) (done ++ stage ∷ []) in
     record {
       function = ap is_none (func_back stage.func);
       counts = counts;
       variables = ap (λ (names : List Word). list_all (λ (ref : Ref). is_in names ref.name) (refs_of s)) there.named
           ∙ all_both is_named s.reads s.writes (all_mapped is_named (ref_for vars) (is_ref vars stage.each) (ref_in vars stage.each) stage.reads whole.reads)
           (all_mapped is_named (ref_for vars) (is_ref vars stage.each) (ref_in vars stage.each) stage.writes whole.writes);
-      own = ap (λ (refs : List Ref). not stage.each && list_any (λ (ref : Ref). is_own ref.index) refs) (sym (map-append (ref_for vars) stage.reads stage.writes))
+      own = ap (λ (refs : List Ref). not stage.each && list_any (λ (ref : Ref). is_own ref.index) refs)
+          (sym (map-append (ref_for vars) stage.reads stage.writes))
           ∙ none_own vars stage.each (stage.reads ++ stage.writes) (all_both (is_ref vars stage.each) stage.reads stage.writes whole.reads whole.writes);
       distinct = ap₂ has_distinct there.back back ∙ distinct_unloaded vars stage ∙ whole.distinct;
-      known = ap (λ (args : List Word). list_all (is_known args) s.parameters) takes ∙ all_mapped (is_known (arguments args)) param_for (is_param args) (param_known args) stage.params whole.params;
+      known = ap (λ (args : List Word). list_all (is_known args) s.parameters) takes
+          ∙ all_mapped (is_known (arguments args)) param_for (is_param args) (param_known args) stage.params whole.params;
       tasks = subst (λ (n : ℕ). n ≤ 1024) (sym sums) total;
     }
 
-pub stages_pass : (tree_vars : List Var) (vars : List job_var) (block : Block) (args : ℕ) (before : List Stage) (done stages : List job_stage) (line : ℕ) → AreThere tree_vars vars
-    → block.arguments ≡ arguments args → args ≤ 8 → map (stage_of (var_names tree_vars) block.arguments) before ≡ done → list_all (is_stage vars args) stages ≡ true
+pub stages_pass : (tree_vars : List Var) (vars : List job_var) (block : Block) (args : ℕ) (before : List Stage) (done stages : List job_stage) (line : ℕ)
+    → AreThere tree_vars vars
+    → block.arguments ≡ arguments args → args ≤ 8 → map (stage_of (var_names tree_vars) block.arguments) before ≡ done
+    → list_all (is_stage vars args) stages ≡ true
     → sum_by (task_count vars) (done ++ stages) ≤ 1024 → first_refusal (stage_sites tree_vars block before (stages_for vars line stages)) ≡ None
 stages_pass tree_vars vars block args before done [] line there takes few is_done all total = refl
 stages_pass tree_vars vars block args before done (stage ∷ stages) line there takes few is_done all total =
     let parts = and_parts (is_stage vars args stage) (list_all (is_stage vars args) stages) all in
     let s = stage_for vars line stage in
     let read = stage_of (var_names tree_vars) block.arguments in
-    let back : read s ≡ stage = ap₂ (λ (names args : List Word). stage_of names args s) there.named takes ∙ stage_back vars args line stage there.once few parts.0 in
-    let next : map read (before ++ s ∷ []) ≡ done ++ stage ∷ [] = map_push read before s ∙ ap₂ (λ (xs : List job_stage) (x : job_stage). xs ++ x ∷ []) is_done back in
+    let back : read s ≡ stage =
+    ap₂ (λ (names args : List Word). stage_of names args s) there.named takes ∙ stage_back vars args line stage there.once few parts.0 in
+    let next : map read (before ++ s ∷ []) ≡ done ++ stage ∷ [] =
+    map_push read before s ∙ ap₂ (λ (xs : List job_stage) (x : job_stage). xs ++ x ∷ []) is_done back in
     let total_next : sum_by (task_count vars) ((done ++ stage ∷ []) ++ stages) ≤ 1024 =
     subst (λ (xs : List job_stage). sum_by (task_count vars) xs ≤ 1024) (sym (append_assoc done (stage ∷ []) stages)) total in
-    let total_here : sum_by (task_count vars) (done ++ stage ∷ []) ≤ 1024 = omega (arith, total_next, sum_by-append (task_count vars) (done ++ stage ∷ []) stages) in
+    let total_here : sum_by (task_count vars) (done ++ stage ∷ []) ≤ 1024 =
+    omega (arith, total_next, sum_by-append (task_count vars) (done ++ stage ∷ []) stages) in
     passes_on (at_stage tree_vars block before s) (stage_sites tree_vars block (before ++ s ∷ []) (stages_for vars (line + 1) stages))
     (stage_passes tree_vars block before s (sound_stage tree_vars vars block args before done line stage there takes few is_done parts.0 total_here))
     (stages_pass tree_vars vars block args (before ++ s ∷ []) (done ++ stage ∷ []) stages (line + 1) there takes few next parts.1 total_next)
@@ -217,7 +236,8 @@ index_printed (Fixed n) is = is
 index_printed (Plus n) is = is
 index_printed (Minus n) is = is
 
-ref_printed : (vars : List job_var) (each : Bool) → list_all is_free (names_of_vars vars) ≡ true → (ref : job_ref) → is_ref vars each ref ≡ true → spelled.is_place ref.place ≡ true
+ref_printed : (vars : List job_var) (each : Bool) → list_all is_free (names_of_vars vars) ≡ true → (ref : job_ref) → is_ref vars each ref ≡ true
+    → spelled.is_place ref.place ≡ true
     → trees.is_ref (ref_for vars ref) ≡ true
 ref_printed vars each free ref is place =
     let there : ref.var < length vars = ltb-true ref.var (length vars) (and_parts (nat_lt ref.var (length vars)) (is_place each ref.place) is).0 in
@@ -242,24 +262,32 @@ all_refs : (vars : List job_var) (each : Bool) → list_all is_free (names_of_va
     → list_all (λ (ref : job_ref). spelled.is_place ref.place) refs ≡ true → list_all trees.is_ref (map (ref_for vars) refs) ≡ true
 all_refs vars each free refs are places =
     list_all-map trees.is_ref (ref_for vars) refs
-    ∙ all_of_both (is_ref vars each) (λ (ref : job_ref). spelled.is_place ref.place) (λ ref. trees.is_ref (ref_for vars ref)) (ref_printed vars each free) refs are places
+    ∙ all_of_both (is_ref vars each) (λ (ref : job_ref). spelled.is_place ref.place) (λ ref. trees.is_ref (ref_for vars ref)) (ref_printed vars each free) refs
+    are places
 
-stage_printed : (vars : List job_var) (args line : ℕ) (stage : job_stage) → list_all is_free (names_of_vars vars) ≡ true → args ≤ 8 → is_stage vars args stage ≡ true → spelled.is_stage stage ≡ true
+stage_printed : (vars : List job_var) (args line : ℕ) (stage : job_stage) → list_all is_free (names_of_vars vars) ≡ true → args ≤ 8
+    → is_stage vars args stage ≡ true → spelled.is_stage stage ≡ true
     → trees.is_stage (stage_for vars line stage) ≡ true
 stage_printed vars args line stage free few is spells =
     let whole = whole_stage vars args stage is in
     let s = stage_for vars line stage in
-    let spelled_parts = and_parts (list_all (λ (ref : job_ref). spelled.is_place ref.place) (stage.reads ++ stage.writes)) (list_all spelled.is_param stage.params) spells in
+    let spelled_parts =
+    and_parts (list_all (λ (ref : job_ref). spelled.is_place ref.place) (stage.reads ++ stage.writes)) (list_all spelled.is_param stage.params) spells in
     let places = all_parts (λ (ref : job_ref). spelled.is_place ref.place) stage.reads stage.writes spelled_parts.0 in
-    let counts = parts4 (length stage.params == params_of stage.func) (nat_le (fewest_reads stage.func) (length stage.reads)) (nat_le (length stage.reads) (most_reads stage.func))
+    let counts = parts4 (length stage.params == params_of stage.func) (nat_le (fewest_reads stage.func) (length stage.reads))
+    (nat_le (length stage.reads) (most_reads stage.func))
     (length stage.writes == writes_of stage.func) whole.counts in
-    let written : (length s.writes == writes_of stage.func) ≡ true = ap (λ (n : ℕ). n == writes_of stage.func) (length-map stage.writes (ref_for vars)) ∙ counts.3 in
-    from4 (is_free (func_name stage.func)) (list_all trees.is_ref s.reads) (trees.is_some_refs s.writes) (list_all trees.is_atom s.parameters) (func_free stage.func)
-    (all_refs vars stage.each free stage.reads whole.reads places.0) (some_refs stage.func s.writes written (all_refs vars stage.each free stage.writes whole.writes places.1))
+    let written : (length s.writes == writes_of stage.func) ≡ true =
+    ap (λ (n : ℕ). n == writes_of stage.func) (length-map stage.writes (ref_for vars)) ∙ counts.3 in
+    from4 (is_free (func_name stage.func)) (list_all trees.is_ref s.reads) (trees.is_some_refs s.writes) (list_all trees.is_atom s.parameters)
+    (func_free stage.func)
+    (all_refs vars stage.each free stage.reads whole.reads places.0)
+    (some_refs stage.func s.writes written (all_refs vars stage.each free stage.writes whole.writes places.1))
     (list_all-map trees.is_atom param_for stage.params
     ∙ all_of_both (is_param args) spelled.is_param (λ p. trees.is_atom (param_for p)) (param_printed args few) stage.params whole.params spelled_parts.1)
 
-pub stages_printed : (vars : List job_var) (args line : ℕ) (stages : List job_stage) → list_all is_free (names_of_vars vars) ≡ true → args ≤ 8 → list_all (is_stage vars args) stages ≡ true
+pub stages_printed : (vars : List job_var) (args line : ℕ) (stages : List job_stage) → list_all is_free (names_of_vars vars) ≡ true → args ≤ 8
+    → list_all (is_stage vars args) stages ≡ true
     → list_all spelled.is_stage stages ≡ true → list_all trees.is_stage (stages_for vars line stages) ≡ true
 stages_printed vars args line [] free few all spells = refl
 stages_printed vars args line (stage ∷ stages) free few all spells =
@@ -268,7 +296,8 @@ stages_printed vars args line (stage ∷ stages) free few all spells =
     and_from (trees.is_stage (stage_for vars line stage)) (list_all trees.is_stage (stages_for vars (line + 1) stages))
     (stage_printed vars args line stage free few parts.0 spelled_parts.0) (stages_printed vars args (line + 1) stages free few parts.1 spelled_parts.1)
 
-pub stages_at_lines : (vars : List job_var) (line : ℕ) (stages : List job_stage) → stages_numbered line (stages_for vars line stages) ≡ stages_for vars line stages
+pub stages_at_lines : (vars : List job_var) (line : ℕ) (stages : List job_stage)
+    → stages_numbered line (stages_for vars line stages) ≡ stages_for vars line stages
 stages_at_lines vars line [] = refl
 stages_at_lines vars line (stage ∷ stages) = ap (λ (rest : List Stage). stage_for vars line stage ∷ rest) (stages_at_lines vars (line + 1) stages)
 

@@ -55,7 +55,8 @@ shows_none job blocks depth k within = record {
   nests = λ open_now rest. refl;
 }
 
-pub shows_both : (job : Job) (blocks : List Block) (depth k between behind : ℕ) (xs ys : List Statement) (ss ts : List Stmt) → Shows job blocks depth k between xs ss
+pub shows_both : (job : Job) (blocks : List Block) (depth k between behind : ℕ) (xs ys : List Statement) (ss ts : List Stmt)
+    → Shows job blocks depth k between xs ss
     → Shows job blocks depth between behind ys ts → Shows job blocks depth k behind (xs ++ ys) (ss ++ ts)
 shows_both job blocks depth k between behind xs ys ss ts first second = record {
   grows = omega (arith, first.grows, second.grows);
@@ -91,7 +92,8 @@ holds_part job blocks kind depth k behind lines stmts shows = record {
   few = shows.few;
   past = shows.past;
   sound = shows.sound;
-  read = λ n more most bodies. shows.read n more most (no_body ∷ bodies) ∙ put_first stmts no_body bodies ∙ ap (λ (xs : List Stmt). body_with xs [] ∷ bodies) (append-nil stmts);
+  read = λ n more most bodies. shows.read n more most (no_body ∷ bodies) ∙ put_first stmts no_body bodies
+      ∙ ap (λ (xs : List Stmt). body_with xs [] ∷ bodies) (append-nil stmts);
   printed = shows.printed;
   nests = λ open_now rest. shows.nests (kind ∷ open_now) (End ∷ rest);
 }
@@ -118,7 +120,8 @@ end_sound vars blocks depth k within = record {
 }
 
 -- both parts of an `if` with an `else`
-pub holds_parts : (job : Job) (blocks : List Block) (depth k between behind : ℕ) (xs ys : List Statement) (ss ts : List Stmt) → Shows job blocks (depth + 1) k between xs ss
+pub holds_parts : (job : Job) (blocks : List Block) (depth k between behind : ℕ) (xs ys : List Statement) (ss ts : List Stmt)
+    → Shows job blocks (depth + 1) k between xs ss
     → Shows job blocks (depth + 1) between behind ys ts → Holds job blocks opening.If depth k behind (xs ++ Else ∷ ys) (body_with ss ts)
 holds_parts job blocks depth k between behind xs ys ss ts first second = record {
   grows = omega (arith, first.grows, second.grows);
@@ -146,8 +149,10 @@ pub record Opens (job : Job) (blocks : List Block) (kind : Open) (depth k : ℕ)
   pub printed : trees.is_statement head ≡ true
   pub nests : (open_now : List Open) (rest : List Statement) → opened_after open_now (head ∷ rest) ≡ opened_after (kind ∷ open_now) rest
 
-pub shows_opened : (job : Job) (blocks : List Block) (kind : Open) (depth k behind : ℕ) (head : Statement) (make : Body → Stmt) (lines : List Statement) (body : Body)
-    → Opens job blocks kind depth k head make → Holds job blocks kind depth k behind lines body → Shows job blocks depth k behind (head ∷ (lines ++ End ∷ [])) (make body ∷ [])
+pub shows_opened : (job : Job) (blocks : List Block) (kind : Open) (depth k behind : ℕ) (head : Statement) (make : Body → Stmt) (lines : List Statement)
+    (body : Body)
+    → Opens job blocks kind depth k head make → Holds job blocks kind depth k behind lines body
+    → Shows job blocks depth k behind (head ∷ (lines ++ End ∷ [])) (make body ∷ [])
 shows_opened job blocks kind depth k behind head make lines body opens holds =
     let vars = names_of_vars job.vars in
     let closed : depth + 1 - 1 ≡ depth = omega arith in
@@ -162,9 +167,11 @@ shows_opened job blocks kind depth k behind head make lines body opens holds =
             (sound_both vars blocks (past_at (depth + 1) k) lines (End ∷ []) holds.sound
             (subst (λ (p : Past). AreSound vars blocks p (End ∷ [])) (sym holds.past) (end_sound vars blocks (depth + 1) behind holds.few, tt))),
       );
-      read = λ n more most bodies. ap (with_line (names_at job n) head) (bodies_with-append (names_at job n) lines (End ∷ []) bodies ∙ holds.read n more most bodies)
+      read = λ n more most bodies. ap (with_line (names_at job n) head)
+          (bodies_with-append (names_at job n) lines (End ∷ []) bodies ∙ holds.read n more most bodies)
           ∙ opens.read n (omega (arith, holds.grows, more)) most (body ∷ bodies);
-      printed = and_from (trees.is_statement head) (list_all trees.is_statement (lines ++ End ∷ [])) opens.printed (all_both trees.is_statement lines (End ∷ []) holds.printed refl);
+      printed = and_from (trees.is_statement head) (list_all trees.is_statement (lines ++ End ∷ [])) opens.printed
+          (all_both trees.is_statement lines (End ∷ []) holds.printed refl);
       nests = λ open_now rest. opens.nests open_now ((lines ++ End ∷ []) ++ rest) ∙ ap (opened_after (kind ∷ open_now)) (append_assoc lines (End ∷ []) rest)
           ∙ holds.nests open_now rest;
     }

@@ -29,7 +29,8 @@ Shown job blocks stmt = (depth k behind : ℕ) → k ≤ 64 → scan_of job stmt
     → Shows job blocks depth k behind (statements_of job stmt) (stmt ∷ [])
 
 -- the same of statements one after another, each of which has its own proof beside it
-all_shown : (job : Job) (blocks : List Block) {E : Type 0} (stmt_of : E → Stmt) → ((e : E) → Shown job blocks (stmt_of e)) → (es : List E) (depth k behind : ℕ) → k ≤ 64
+all_shown : (job : Job) (blocks : List Block) {E : Type 0} (stmt_of : E → Stmt) → ((e : E) → Shown job blocks (stmt_of e)) → (es : List E) (depth k behind : ℕ)
+    → k ≤ 64
     → scan_all (map (scan_of job) (map stmt_of es)) depth k ≡ Some behind → all_true (map (fold-Stmt Bool is_stmt) (map stmt_of es)) ≡ true
     → Shows job blocks depth k behind (joined (map (statements_of job) (map stmt_of es))) (map stmt_of es)
 all_shown job blocks stmt_of shown [] depth k behind within set spells =
@@ -38,7 +39,8 @@ all_shown job blocks stmt_of shown (e ∷ es) depth k behind within set spells =
     let found = then_parts (λ (n : ℕ). scan_all (map (scan_of job) (map stmt_of es)) depth n) (scan_of job (stmt_of e) depth k) behind set in
     let parts = and_parts (fold-Stmt Bool is_stmt (stmt_of e)) (all_true (map (fold-Stmt Bool is_stmt) (map stmt_of es))) spells in
     let first = shown e depth k found.0 within found.1 parts.0 in
-    shows_both job blocks depth k found.0 behind (statements_of job (stmt_of e)) (joined (map (statements_of job) (map stmt_of es))) (stmt_of e ∷ []) (map stmt_of es) first
+    shows_both job blocks depth k found.0 behind (statements_of job (stmt_of e)) (joined (map (statements_of job) (map stmt_of es))) (stmt_of e ∷ [])
+    (map stmt_of es) first
     (all_shown job blocks stmt_of shown es depth found.0 behind first.few found.2 parts.1)
 
 -- what a statement is of its parts
@@ -50,13 +52,15 @@ ShownOut job blocks x = (depth k behind : ℕ) → k ≤ 64 → scan_stmt job (m
 rolled : (job : Job) (blocks : List Block) (x : Stmt-F Stmt) → ShownOut job blocks x → Shown job blocks (roll-Stmt x)
 rolled job blocks x shown = λ depth k behind within set spells.
     subst (λ (lines : List Statement). Shows job blocks depth k behind lines (roll-Stmt x ∷ [])) (sym (fold-roll-Stmt (List Statement) (stmt_for job) x))
-    (shown depth k behind within (sym (ap (λ (scan : Scan). scan depth k) (fold-roll-Stmt Scan (scan_stmt job) x)) ∙ set) (sym (fold-roll-Stmt Bool is_stmt x) ∙ spells))
+    (shown depth k behind within (sym (ap (λ (scan : Scan). scan depth k) (fold-roll-Stmt Scan (scan_stmt job) x)) ∙ set)
+    (sym (fold-roll-Stmt Bool is_stmt x) ∙ spells))
 
 -- a part with its proof
 abbrev Part : Job → List Block → Type 0
 Part job blocks = (stmt : Stmt) × Shown job blocks stmt
 
-step : (job : Job) (blocks : List Block) → Named job blocks → (y : Stmt-F (Part job blocks)) → Shown job blocks (roll-Stmt (map-Stmt (Part job blocks) Stmt (λ e. e.0) y))
+step : (job : Job) (blocks : List Block) → Named job blocks → (y : Stmt-F (Part job blocks))
+    → Shown job blocks (roll-Stmt (map-Stmt (Part job blocks) Stmt (λ e. e.0) y))
 step job blocks named (Stmt-F.Do block args) =
     rolled job blocks (Stmt-F.Do block args) (λ depth k behind within set spells.
     let found = taken (is_call job block (length args) && list_all (whole.is_atom k) args) (Some k) behind set in
@@ -103,7 +107,8 @@ step job blocks named (Stmt-F.If c es fs) =
     let firsts = map (λ (e : Part job blocks). e.0) es in
     let seconds = map (λ (e : Part job blocks). e.0) fs in
     rolled job blocks (Stmt-F.If c firsts seconds) (λ depth k behind within set spells.
-    let found = taken (whole.is_cond k c) (option_and_then (λ (n : ℕ). scan_body (map (scan_of job) seconds) depth n) (scan_body (map (scan_of job) firsts) depth k)) behind set in
+    let found = taken (whole.is_cond k c) (option_and_then (λ (n : ℕ). scan_body (map (scan_of job) seconds) depth n)
+    (scan_body (map (scan_of job) firsts) depth k)) behind set in
     let between = then_parts (λ (n : ℕ). scan_body (map (scan_of job) seconds) depth n) (scan_body (map (scan_of job) firsts) depth k) behind found.1 in
     let deep = taken (nat_lt depth 16) (scan_all (map (scan_of job) firsts) (depth + 1) k) between.0 between.1 in
     let deep_again = taken (nat_lt depth 16) (scan_all (map (scan_of job) seconds) (depth + 1) between.0) behind between.2 in
@@ -137,6 +142,7 @@ body_shown job blocks behind named set spells =
     let same = map-id job.body in
     let spells_all : all_true (map (fold-Stmt Bool is_stmt) job.body) ≡ true = list_all-map (λ part. part) (fold-Stmt Bool is_stmt) job.body ∙ spells in
     let shows = all_shown job blocks (λ (stmt : Stmt). stmt) (every_shown job blocks named) job.body 0 0 behind (omega arith)
-    (ap (λ (xs : List Stmt). scan_all (map (scan_of job) xs) 0 0) same ∙ set) (ap (λ (xs : List Stmt). all_true (map (fold-Stmt Bool is_stmt) xs)) same ∙ spells_all) in
+    (ap (λ (xs : List Stmt). scan_all (map (scan_of job) xs) 0 0) same ∙ set)
+    (ap (λ (xs : List Stmt). all_true (map (fold-Stmt Bool is_stmt) xs)) same ∙ spells_all) in
     subst (λ (lines : List Statement). Shows job blocks 0 0 behind lines job.body) (flat_map-map (λ (part : List Statement). part) (statements_of job) job.body)
     (subst (λ (xs : List Stmt). Shows job blocks 0 0 behind (joined (map (statements_of job) xs)) xs) same shows)

@@ -92,7 +92,8 @@ var_passes before v free new sized few =
     (no_rule (rule_44 (at_var before v)) 44 _ (not_from_true (are_few (map var_of (before ++ v ∷ []))) few) refl)))
 
 pub vars_pass : (before : List Var) (done vars : List job_var) (line : ℕ) → var_names before ≡ names_of_vars done → map var_of before ≡ unloaded_vars done
-    → list_all is_free (names_of_vars vars) ≡ true → has_twice (names_of_vars done ++ names_of_vars vars) ≡ false → list_all is_var vars ≡ true → are_few (done ++ vars) ≡ true
+    → list_all is_free (names_of_vars vars) ≡ true → has_twice (names_of_vars done ++ names_of_vars vars) ≡ false → list_all is_var vars ≡ true
+    → are_few (done ++ vars) ≡ true
     → first_refusal (var_sites before (vars_for line vars)) ≡ None
 vars_pass before done [] line named back free once sized few = refl
 vars_pass before done (v ∷ vars) line named back free once sized few =
@@ -106,9 +107,11 @@ vars_pass before done (v ∷ vars) line named back free once sized few =
     map_push var_of before w ∙ ap₂ (λ (xs : List job_var) (x : job_var). xs ++ x ∷ []) back (var_back line v frees.0) ∙ sym (map_push without done v) in
     let few_next : are_few ((done ++ v ∷ []) ++ vars) ≡ true = ap are_few (append_assoc done (v ∷ []) vars) ∙ few in
     let once_next : has_twice (names_of_vars (done ++ v ∷ []) ++ names_of_vars vars) ≡ false =
-    ap (λ (names : List Word). has_twice (names ++ names_of_vars vars)) pushed ∙ ap has_twice (append_assoc (names_of_vars done) (v.name ∷ []) (names_of_vars vars)) ∙ once in
+    ap (λ (names : List Word). has_twice (names ++ names_of_vars vars)) pushed
+    ∙ ap has_twice (append_assoc (names_of_vars done) (v.name ∷ []) (names_of_vars vars)) ∙ once in
     passes_on (at_var before w) (var_sites (before ++ w ∷ []) (vars_for (line + 1) vars))
-    (var_passes before w (not_reserved v.name frees.0) (ap (λ (names : List Word). is_in names v.name) named ∙ apart (names_of_vars done) v.name (names_of_vars vars) once)
+    (var_passes before w (not_reserved v.name frees.0) (ap (λ (names : List Word). is_in names v.name) named
+    ∙ apart (names_of_vars done) v.name (names_of_vars vars) once)
     (ap is_var (var_back line v frees.0) ∙ sizes.0) (ap are_few back_next ∙ few_unloaded (done ++ v ∷ []) (few_front (done ++ v ∷ []) vars few_next)))
     (vars_pass (before ++ w ∷ []) (done ++ v ∷ []) vars (line + 1) named_next back_next frees.1 once_next sizes.1 few_next)
 
@@ -125,7 +128,8 @@ sizes_small v is = grind (arith, nat_tests)
 pub small : (n : ℕ) → n ≤ 1000000 → is_small n ≡ true
 small n few = le-leb n 9223372036854775808 (omega arith)
 
-pub vars_printed : (line : ℕ) (vars : List job_var) → list_all is_free (names_of_vars vars) ≡ true → list_all is_var vars ≡ true → list_all (λ (v : job_var). is_init v.init) vars ≡ true
+pub vars_printed : (line : ℕ) (vars : List job_var) → list_all is_free (names_of_vars vars) ≡ true → list_all is_var vars ≡ true
+    → list_all (λ (v : job_var). is_init v.init) vars ≡ true
     → list_all trees.is_var (vars_for line vars) ≡ true
 vars_printed line [] free sized inits = refl
 vars_printed line (v ∷ vars) free sized inits =
@@ -135,7 +139,8 @@ vars_printed line (v ∷ vars) free sized inits =
     let few = sizes_small v sizes.0 in
     and_from (trees.is_var (var_for line v)) (list_all trees.is_var (vars_for (line + 1) vars))
     (from5 (is_free v.name) (is_small v.parts) (is_small v.shape.width) (is_small v.shape.rows) (trees.is_init (init_for v.init)) frees.0
-    (small v.parts (omega (arith, few.0))) (small v.shape.width (omega (arith, few.1))) (small v.shape.rows (omega (arith, few.2))) (init_printed v.init spelled.0))
+    (small v.parts (omega (arith, few.0))) (small v.shape.width (omega (arith, few.1))) (small v.shape.rows (omega (arith, few.2)))
+    (init_printed v.init spelled.0))
     (vars_printed (line + 1) vars frees.1 sizes.1 spelled.1)
 
 pub vars_at_lines : (line : ℕ) (vars : List job_var) → vars_numbered line (vars_for line vars) ≡ vars_for line vars

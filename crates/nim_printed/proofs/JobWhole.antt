@@ -56,7 +56,8 @@ record IsChecked (job : Job) : Type 0 where
 
 checked_job : (job : Job) → is_checked job ≡ true → IsChecked job
 checked_job job checked =
-    let parts = parts5 (is_between 1 1000000 job.steps) (are_vars job.vars) (nat_le (length job.blocks) 32) (list_all (is_block job.vars) job.blocks) (is_some (scalars_of job)) checked in
+    let parts = parts5 (is_between 1 1000000 job.steps) (are_vars job.vars) (nat_le (length job.blocks) 32) (list_all (is_block job.vars) job.blocks)
+    (is_some (scalars_of job)) checked in
     let vars = and_parts (are_few job.vars) (list_all is_var job.vars) parts.1 in
     record { steps = parts.0; few = vars.0; vars = vars.1; few_blocks = leb-true (length job.blocks) 32 parts.2; blocks = parts.3; body = parts.4 }
 
@@ -81,7 +82,8 @@ some_is None is = absurd (false≢true is)
 some_is (Some n) is = (n, refl)
 
 -- a block of the tree takes as many arguments as the job's
-takes_same : (vars : List job_var) (line : ℕ) (blocks : List job_block) (block n : ℕ) → option_map_or (λ (b : job_block). n == b.args) (slice_get blocks block) false ≡ true
+takes_same : (vars : List job_var) (line : ℕ) (blocks : List job_block) (block n : ℕ)
+    → option_map_or (λ (b : job_block). n == b.args) (slice_get blocks block) false ≡ true
     → option_map_or (λ (b : Block). n == length b.arguments) (slice_get (blocks_for vars line blocks) block) false ≡ true
 takes_same vars line [] block n is = is
 takes_same vars line (b ∷ blocks) zero n is = ap (λ (m : ℕ). n == m) (length-map-range_with_len argument_name 0 b.args) ∙ is
@@ -143,13 +145,18 @@ module _ (job : Job) (checked : IsChecked job) (spells : IsSpelled job) where
   numbers : numbered (tree_for job) ≡ tree_for job
   numbers =
       let tree = tree_for job in
-      let with_parts = λ (vars : List Var) (blocks : List Block) (statements : List Line). record tree { vars = vars; blocks = blocks; statements = statements } in
-      ap (λ (n : ℕ). with_parts (vars_numbered 3 tree.vars) (blocks_numbered (3 + n) tree.blocks) (lines_numbered (3 + n + length (flat_map block_words tree.blocks)) tree.statements))
+      let with_parts =
+      λ (vars : List Var) (blocks : List Block) (statements : List Line). record tree { vars = vars; blocks = blocks; statements = statements } in
+      ap (λ (n : ℕ). with_parts (vars_numbered 3 tree.vars) (blocks_numbered (3 + n) tree.blocks)
+      (lines_numbered (3 + n + length (flat_map block_words tree.blocks)) tree.statements))
       (vars_length 3 job.vars)
-      ∙ ap (λ (n : ℕ). with_parts (vars_numbered 3 tree.vars) (blocks_numbered (3 + length job.vars) tree.blocks) (lines_numbered (3 + length job.vars + n) tree.statements))
+      ∙ ap (λ (n : ℕ). with_parts (vars_numbered 3 tree.vars) (blocks_numbered (3 + length job.vars) tree.blocks)
+      (lines_numbered (3 + length job.vars + n) tree.statements))
       (blocks_length job.vars (3 + length job.vars) job.blocks)
-      ∙ ap (λ (vars : List Var). with_parts vars (blocks_numbered (3 + length job.vars) tree.blocks) (lines_numbered first_line tree.statements)) (vars_at_lines 3 job.vars)
-      ∙ ap₂ (λ (blocks : List Block) (statements : List Line). with_parts tree.vars blocks statements) (blocks_at_lines job.vars (3 + length job.vars) job.blocks) (lines_at_lines first_line lines)
+      ∙ ap (λ (vars : List Var). with_parts vars (blocks_numbered (3 + length job.vars) tree.blocks) (lines_numbered first_line tree.statements))
+      (vars_at_lines 3 job.vars)
+      ∙ ap₂ (λ (blocks : List Block) (statements : List Line). with_parts tree.vars blocks statements)
+      (blocks_at_lines job.vars (3 + length job.vars) job.blocks) (lines_at_lines first_line lines)
 
   sound : refusal_of (tree_for job) ≡ None
   sound =
@@ -169,8 +176,10 @@ module _ (job : Job) (checked : IsChecked job) (spells : IsSpelled job) where
   names_are =
       let tree = tree_for job in
       let with_names = λ (vars blocks set : List Word). let names : Names = record { vars = vars; blocks = blocks; scalars = set } in names in
-      ap₂ (λ (vars blocks : List Word). with_names vars blocks (sites.scalars_of tree.statements)) there.named (blocks_named job.vars (3 + length job.vars) job.blocks)
-      ∙ ap (λ (past : Past). with_names (names_of_vars job.vars) (names_of_blocks job.blocks) past.scalars) (past_of_lines no_past first_line lines ∙ shows.past)
+      ap₂ (λ (vars blocks : List Word). with_names vars blocks (sites.scalars_of tree.statements)) there.named
+      (blocks_named job.vars (3 + length job.vars) job.blocks)
+      ∙ ap (λ (past : Past). with_names (names_of_vars job.vars) (names_of_blocks job.blocks) past.scalars)
+      (past_of_lines no_past first_line lines ∙ shows.past)
 
   body_is : body_of (names_of (tree_for job)) (lines_for first_line lines) ≡ job.body
   body_is =

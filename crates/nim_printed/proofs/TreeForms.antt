@@ -34,7 +34,8 @@ header_reads : Reads header (codes "nimbus" ∷ codes "1" ∷ []) form.Header []
 unfolding header
 header_reads = then_reads _ (expects (codes "nimbus") _) (then_reads _ (expects (codes "1") []) (ended form.Header))
 
-steps_reads : (line : ℕ) (most : ℕ) → is_small most ≡ true → Reads (steps line) (codes "steps" ∷ decimal most ∷ []) (form.Steps (record { line = line; most = most })) []
+steps_reads : (line : ℕ) (most : ℕ) → is_small most ≡ true → Reads (steps line) (codes "steps" ∷ decimal most ∷ [])
+    (form.Steps (record { line = line; most = most })) []
 unfolding steps
 steps_reads line most small =
     then_reads _ (expects (codes "steps") _) (then_reads _ (number_reads most [] small) (ended (form.Steps (record { line = line; most = most }))))
@@ -95,7 +96,8 @@ alone_reads : (word : Word) (s : Statement) → Reads (alone word s) (word ∷ [
 unfolding alone
 alone_reads word s = then_reads _ (expects word []) (ended s)
 
-do_reads : (called : Word) (arguments : List Atom) → is_statement (Do called arguments) ≡ true → Reads do_line (statement_words (Do called arguments)) (Do called arguments) []
+do_reads : (called : Word) (arguments : List Atom) → is_statement (Do called arguments) ≡ true
+    → Reads do_line (statement_words (Do called arguments)) (Do called arguments) []
 unfolding do_line
 do_reads called arguments are =
     let both = and_parts (is_free called) _ are in
@@ -103,7 +105,8 @@ do_reads called arguments are =
     (then_reads _ (name_reads called _ (free_name called both.0))
     (then_reads _ (atoms_reads arguments both.1) (ended (Do called arguments))))
 
-let_reads : (scalar : Word) (value : Expression) → is_statement (Let scalar value) ≡ true → Reads let_line (statement_words (Let scalar value)) (Let scalar value) []
+let_reads : (scalar : Word) (value : Expression) → is_statement (Let scalar value) ≡ true
+    → Reads let_line (statement_words (Let scalar value)) (Let scalar value) []
 unfolding let_line
 let_reads scalar value are =
     let both = and_parts (is_free scalar) _ are in

@@ -40,7 +40,8 @@ begun_early : (steps : Option Steps) → is_early (begun_in steps) ≡ true
 begun_early None = refl
 begun_early (Some steps) = refl
 
-steps_go : (steps : Option Steps) → is_steps steps ≡ true → Goes (outside phase.Header [] empty) 2 (steps_lines steps) (outside (begun_in steps) [] (record empty { steps = steps_numbered steps }))
+steps_go : (steps : Option Steps) → is_steps steps ≡ true → Goes (outside phase.Header [] empty) 2 (steps_lines steps)
+    (outside (begun_in steps) [] (record empty { steps = steps_numbered steps }))
 steps_go None small = refl
 steps_go (Some steps) small = (outside phase.Vars [] (record empty { steps = steps_numbered (Some steps) }), steps_passes empty steps.most small, refl)
 
@@ -75,7 +76,8 @@ begun_blocks tree =
     middle_begun _ (moved_passes is_middle (moved (begun_in tree.steps) phase.Vars tree.vars) phase.Blocks tree.blocks (middle_vars tree) refl)
 
 begun_end : (tree : Sections) → is_begun (last_phase tree) ≡ true
-begun_end tree = moved_passes is_begun (moved (moved (begun_in tree.steps) phase.Vars tree.vars) phase.Blocks tree.blocks) phase.Statements tree.statements (begun_blocks tree) refl
+begun_end tree = moved_passes is_begun (moved (moved (begun_in tree.steps) phase.Vars tree.vars) phase.Blocks tree.blocks) phase.Statements tree.statements
+    (begun_blocks tree) refl
 
 -- no line of a tree is refused, and they make the tree with its lines' numbers
 tree_goes : (tree : Sections) → Parts tree → Goes first 1 (tree_words tree) (at_end tree)
@@ -116,7 +118,8 @@ tree_read tree printable same lexed =
     let groups : lines (tokens_of source) ≡ grouped 1 0 all = ap lines lexed.tokens ∙ lines_grouped 1 0 all are in
     let walk = walked source first 1 all (at_end tree) (grouped 1 0 all) goes (lines_spell source 1 0 all are lexed.texts) in
     record {
-      sound = ap (first_refusal source first) groups ∙ walk.1 ∙ ap (refused (line_count source + 1)) (sound_end (last_phase tree) (numbered tree) (begun_end tree));
+      sound = ap (first_refusal source first) groups ∙ walk.1 ∙ ap (refused (line_count source + 1))
+          (sound_end (last_phase tree) (numbered tree) (begun_end tree));
       tree_is = ap (λ (tss : List (List Token)). (after_lines source first tss).sections) groups ∙ ap (λ (st : State). st.sections) walk.0 ∙ same;
     }
 

@@ -75,7 +75,8 @@ pure_reads a words = record { reads = λ i spelled. record { remaining = i.token
 
 -- ---- the next token
 
-pub first_text : (text word : Word) (rest : List Word) (source : List ℕ) (ts : List Token) → Spells source ts (word ∷ rest) → has_text text source ts ≡ bytes_eq word text
+pub first_text : (text word : Word) (rest : List Word) (source : List ℕ) (ts : List Token) → Spells source ts (word ∷ rest)
+    → has_text text source ts ≡ bytes_eq word text
 first_text text word rest source [] spelled = absurd spelled
 first_text text word rest source (t ∷ ts) spelled = ap (λ (w : Word). bytes_eq w text) spelled.0.text
 
@@ -95,7 +96,8 @@ spelled_length source (t ∷ ts) [] spelled = absurd spelled
 spelled_length source (t ∷ ts) (word ∷ words) spelled = ap suc (spelled_length source ts words spelled.1)
 
 -- a production that is told how many tokens are left
-pub counted_reads : {A : Type 0} (f : ℕ → Parser A) {words rest : List Word} {a : A} → Reads (f (length words)) words a rest → Reads (λ i. f (left i) i) words a rest
+pub counted_reads : {A : Type 0} (f : ℕ → Parser A) {words rest : List Word} {a : A} → Reads (f (length words)) words a rest
+    → Reads (λ i. f (left i) i) words a rest
 unfolding left
 counted_reads f {words} before = record {
   reads = λ i spelled.
@@ -161,7 +163,8 @@ done_reads = record {
       record { remaining = i.tokens; gives = rw none refl; spells = spelled };
 }
 
-first_name_is : (word : Word) (rest : List Word) (source : List ℕ) (ts : List Token) → is_name word ≡ true → Spells source ts (word ∷ rest) → first_name source ts ≡ Some word
+first_name_is : (word : Word) (rest : List Word) (source : List ℕ) (ts : List Token) → is_name word ≡ true → Spells source ts (word ∷ rest)
+    → first_name source ts ≡ Some word
 first_name_is word rest source [] is spelled = absurd spelled
 first_name_is word rest source (t ∷ ts) is spelled = rw (spelled.0.kind, kind_name word is, spelled.0.text) refl
 
@@ -173,7 +176,8 @@ name_reads word rest is = record {
       record { remaining = drop 1 i.tokens; gives = rw found refl; spells = dropped word rest i.source i.tokens spelled };
 }
 
-first_number_is : (n : ℕ) (rest : List Word) (source : List ℕ) (ts : List Token) → is_small n ≡ true → Spells source ts (decimal n ∷ rest) → first_number ts ≡ Some n
+first_number_is : (n : ℕ) (rest : List Word) (source : List ℕ) (ts : List Token) → is_small n ≡ true → Spells source ts (decimal n ∷ rest)
+    → first_number ts ≡ Some n
 first_number_is n rest source [] small spelled = absurd spelled
 first_number_is n rest source (t ∷ ts) small spelled = rw (spelled.0.kind, kind_decimal n small) refl
 
@@ -190,7 +194,8 @@ pub sees_named : (word : Word) (rest : List Word) (i : Input) → is_name word �
 unfolding sees_name
 sees_named word rest i is spelled = rw (first_name_is word rest i.source i.tokens is spelled) refl
 
-no_name_at : (n : ℕ) (rest : List Word) (source : List ℕ) (ts : List Token) → is_small n ≡ true → Spells source ts (decimal n ∷ rest) → is_some (first_name source ts) ≡ false
+no_name_at : (n : ℕ) (rest : List Word) (source : List ℕ) (ts : List Token) → is_small n ≡ true → Spells source ts (decimal n ∷ rest)
+    → is_some (first_name source ts) ≡ false
 no_name_at n rest source [] small spelled = absurd spelled
 no_name_at n rest source (t ∷ ts) small spelled = rw (spelled.0.kind, kind_decimal n small) refl
 
@@ -220,7 +225,8 @@ minus_int n = omega (arith, ints)
 pub int_reads : (number : ℤ) (rest : List Word) → is_int number ≡ true → Reads int (int_words number ++ rest) number rest
 unfolding int
 int_reads (pos n) rest small =
-    then_reads (λ negative. number >>= with_sign negative) (passes_word (codes "-") (decimal n) rest (decimal_differs n (codes "-") (small_enough n small) refl))
+    then_reads (λ negative. number >>= with_sign negative) (passes_word (codes "-") (decimal n) rest
+    (decimal_differs n (codes "-") (small_enough n small) refl))
     (then_reads _ (number_reads n rest (small_enough n small)) (sign_reads false n rest small))
 int_reads (negsuc n) rest small =
     regives (minus_int n)

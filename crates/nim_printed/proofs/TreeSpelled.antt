@@ -138,7 +138,8 @@ relation_is_word NotEqual = refl
 relation_is_word Greater = refl
 relation_is_word AtLeast = refl
 
-two_atoms : (first second : Atom) (sign : Word) → is_atom first ≡ true → is_atom second ≡ true → is_word sign ≡ true → AreWords (atom_words first ++ sign ∷ atom_words second)
+two_atoms : (first second : Atom) (sign : Word) → is_atom first ≡ true → is_atom second ≡ true → is_word sign ≡ true
+    → AreWords (atom_words first ++ sign ∷ atom_words second)
 two_atoms first second sign are also word =
     all_both is_word (atom_words first) (sign ∷ atom_words second) (atom_words_are first are)
     (and_from (is_word sign) (list_all is_word (atom_words second)) word (atom_words_are second also))
@@ -186,7 +187,8 @@ stage_words_are s are =
     and_from _ _ (name_word s.function d.0)
     (all_both is_word ((read ++ codes "->" ∷ written) ++ given) (each_words s.each)
     (all_both is_word (read ++ codes "->" ∷ written) given
-    (all_both is_word read (codes "->" ∷ written) (each_of ref_words is_ref ref_words_are s.reads d.1) (each_of ref_words is_ref ref_words_are s.writes (some_refs s.writes b.1)))
+    (all_both is_word read (codes "->" ∷ written) (each_of ref_words is_ref ref_words_are s.reads d.1)
+    (each_of ref_words is_ref ref_words_are s.writes (some_refs s.writes b.1)))
     (with_words_are s.parameters a.1))
     (each_words_are s.each))
 
@@ -241,4 +243,5 @@ tree_words_are tree printable =
     (all_both (list_all is_word) (steps ++ vars) blocks
     (all_both (list_all is_word) steps vars (steps_lines_are tree.steps e.0) (lines_of var_words is_var var_words_are tree.vars e.1))
     (blocks_lines_are tree.blocks d.1))
-    (lines_of (λ (line : Line). statement_words line.statement) (λ (line : Line). is_statement line.statement) (λ line are. statement_words_are line.statement are) tree.statements b.1)
+    (lines_of (λ (line : Line). statement_words line.statement) (λ (line : Line). is_statement line.statement)
+    (λ line are. statement_words_are line.statement are) tree.statements b.1)

@@ -104,7 +104,8 @@ unfolding rule_of
 steps_sound t s = refl
 
 pub steps_passes : (t : Sections) (most : ℕ) → is_small most ≡ true
-    → Passes (outside phase.Header [] t) 2 (codes "steps" ∷ decimal most ∷ []) (outside phase.Vars [] (record t { steps = Some (record { line = 2; most = most }) }))
+    → Passes (outside phase.Header [] t) 2 (codes "steps" ∷ decimal most ∷ [])
+    (outside phase.Vars [] (record t { steps = Some (record { line = 2; most = most }) }))
 steps_passes t most small =
     line_passes (outside phase.Header [] t) 2 _ head.Steps (form.Steps (record { line = 2; most = most }))
     (begins_with head.Steps (codes "steps") _ refl) (steps_line 2 most small) (steps_sound t (record { line = 2; most = most }))
@@ -127,9 +128,11 @@ vars_go p t line (v ∷ vars) early are =
     let here : Var = record v { line = line } in
     let more : List Var = vars_numbered (line + 1) vars in
     let now : Sections = record t { vars = t.vars ++ here ∷ [] } in
-    let passes = line_passes (outside p [] t) line (var_words v) head.Var (form.Var here) (begins_with head.Var (codes "var") _ refl) (var_line line v both.0) (var_sound p t here early) in
+    let passes = line_passes (outside p [] t) line (var_words v) head.Var (form.Var here) (begins_with head.Var (codes "var") _ refl) (var_line line v both.0)
+    (var_sound p t here early) in
     let later = vars_go phase.Vars now (line + 1) vars refl both.1 in
-    let end : outside (moved phase.Vars phase.Vars vars) [] (record now { vars = now.vars ++ more }) ≡ outside phase.Vars [] (record t { vars = t.vars ++ here ∷ more }) =
+    let end : outside (moved phase.Vars phase.Vars vars) [] (record now { vars = now.vars ++ more })
+    ≡ outside phase.Vars [] (record t { vars = t.vars ++ here ∷ more }) =
     ap (λ q. outside q [] (record now { vars = now.vars ++ more })) (moved_same phase.Vars vars)
     ∙ ap (λ (vs : List Var). outside phase.Vars [] (record t { vars = vs })) (append_assoc t.vars (here ∷ []) more) in
     (outside phase.Vars [] now, passes, goes_same _ (line + 1) (map var_words vars) _ _ end later)
@@ -151,7 +154,8 @@ stages_go b t line (s ∷ stages) are =
     let here : Stage = record s { line = line } in
     let more : List Stage = stages_numbered (line + 1) stages in
     let now : Block = record b { stages = b.stages ++ here ∷ [] } in
-    let passes = line_passes (within b t) line (stage_words s) head.Other (form.Stage here) (free_headed s.function _ e.0) (stage_line line s both.0) (stage_sound b t here) in
+    let passes = line_passes (within b t) line (stage_words s) head.Other (form.Stage here) (free_headed s.function _ e.0) (stage_line line s both.0)
+    (stage_sound b t here) in
     let later = stages_go now t (line + 1) stages both.1 in
     let end : within (record now { stages = now.stages ++ more }) t ≡ within (record b { stages = b.stages ++ here ∷ more }) t =
     ap (λ (ss : List Stage). within (record b { stages = ss }) t) (append_assoc b.stages (here ∷ []) more) in
@@ -179,10 +183,12 @@ block_goes p t line b middle are =
     let front = and_parts (is_free b.name) (list_all is_free b.arguments) both.0 in
     let bare : Block = record b { line = line; stages = [] } in
     let whole : Block = block_numbered line b in
-    let opens = line_passes (outside p [] t) line (codes "block" ∷ b.name ∷ listed_words (map (λ argument. argument ∷ []) b.arguments)) head.Block (form.Block bare)
+    let opens =
+    line_passes (outside p [] t) line (codes "block" ∷ b.name ∷ listed_words (map (λ argument. argument ∷ []) b.arguments)) head.Block (form.Block bare)
     (begins_with head.Block (codes "block") _ refl) (block_line line b.name b.arguments front.0 front.1) (block_sound p t bare middle) in
     let last : ℕ = line + 1 + length (map stage_words b.stages) in
-    let closes = line_passes (within whole t) last (codes "end" ∷ []) head.End form.BlockEnd (begins_with head.End (codes "end") _ refl) (block_end_line last) (end_sound whole t) in (
+    let closes = line_passes (within whole t) last (codes "end" ∷ []) head.End form.BlockEnd (begins_with head.End (codes "end") _ refl) (block_end_line last)
+    (end_sound whole t) in (
       within bare t,
       opens,
       goes_on (within bare t) (line + 1) (map stage_words b.stages) (within whole t) last ((codes "end" ∷ []) ∷ []) _ refl
@@ -190,7 +196,8 @@ block_goes p t line b middle are =
     )
 
 pub blocks_go : (p : Phase) (t : Sections) (line : ℕ) (blocks : List Block) → is_middle p ≡ true → list_all is_block blocks ≡ true
-    → Goes (outside p [] t) line (flat_map block_words blocks) (outside (moved p phase.Blocks blocks) [] (record t { blocks = t.blocks ++ blocks_numbered line blocks }))
+    → Goes (outside p [] t) line (flat_map block_words blocks) (outside (moved p phase.Blocks blocks) []
+    (record t { blocks = t.blocks ++ blocks_numbered line blocks }))
 blocks_go p t line [] middle are = ap (λ (bs : List Block). outside p [] (record t { blocks = bs })) (sym (append-nil t.blocks))
 blocks_go p t line (b ∷ blocks) middle are =
     let both = and_parts (is_block b) (list_all is_block blocks) are in
@@ -199,7 +206,8 @@ blocks_go p t line (b ∷ blocks) middle are =
     let more : List Block = blocks_numbered next blocks in
     let now : Sections = record t { blocks = t.blocks ++ here ∷ [] } in
     let later = blocks_go phase.Blocks now next blocks refl both.1 in
-    let end : outside (moved phase.Blocks phase.Blocks blocks) [] (record now { blocks = now.blocks ++ more }) ≡ outside phase.Blocks [] (record t { blocks = t.blocks ++ here ∷ more }) =
+    let end : outside (moved phase.Blocks phase.Blocks blocks) [] (record now { blocks = now.blocks ++ more })
+    ≡ outside phase.Blocks [] (record t { blocks = t.blocks ++ here ∷ more }) =
     ap (λ q. outside q [] (record now { blocks = now.blocks ++ more })) (moved_same phase.Blocks blocks)
     ∙ ap (λ (bs : List Block). outside phase.Blocks [] (record t { blocks = bs })) (append_assoc t.blocks (here ∷ []) more) in
     goes_on _ line (block_words b) (outside phase.Blocks [] now) next (flat_map block_words blocks) _ refl

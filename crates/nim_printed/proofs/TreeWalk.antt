@@ -84,7 +84,8 @@ pub record Passes (st : State) (line : ℕ) (words : List Word) (now : State) : 
 abbrev pub as_found : Head → Form → Found
 as_found first f = record { head = first; form = Some f; fits = true }
 
-found_is : (st : State) (line : ℕ) (words : List Word) (first : Head) (f : Form) → Headed first words → Reads (line_form (is_some st.block) line first) words f []
+found_is : (st : State) (line : ℕ) (words : List Word) (first : Head) (f : Form) → Headed first words
+    → Reads (line_form (is_some st.block) line first) words f []
     → (source : List ℕ) (ts : List Token) → number_of ts ≡ line → Spells source ts words → found source st ts ≡ as_found first f
 unfolding found
 found_is st line words first f headed reading source ts numbered spelled =
@@ -94,12 +95,14 @@ found_is st line words first f headed reading source ts numbered spelled =
     ∙ ap (λ h. with_head h (line_form (is_some st.block) line h i)) (headed.headed i spelled)
     ∙ ap (with_head first) one.gives
 
-pub line_passes : (st : State) (line : ℕ) (words : List Word) (first : Head) (f : Form) → Headed first words → Reads (line_form (is_some st.block) line first) words f []
+pub line_passes : (st : State) (line : ℕ) (words : List Word) (first : Head) (f : Form) → Headed first words
+    → Reads (line_form (is_some st.block) line first) words f []
     → rule_of st (as_found first f) ≡ None → Passes st line words (after st f)
 line_passes st line words first f headed reading sound = record {
   some = headed.some;
   sound = λ source ts numbered spelled. ap (rule_of st) (found_is st line words first f headed reading source ts numbered spelled) ∙ sound;
-  now_is = λ source ts numbered spelled. ap (λ (line : Found). after_form st line.form) (found_is st line words first f headed reading source ts numbered spelled);
+  now_is =
+      λ source ts numbered spelled. ap (λ (line : Found). after_form st line.form) (found_is st line words first f headed reading source ts numbered spelled);
 }
 
 -- ---- several lines
@@ -124,7 +127,8 @@ goes_lines st line [] end goes = tt
 goes_lines st line (words ∷ more) end goes = (goes.1.some, goes_lines goes.0 (line + 1) more end goes.2)
 
 -- the state behind all lines, and what refuses them: the end of the file alone
-pub walked : (source : List ℕ) (st : State) (line : ℕ) (all : List (List Word)) (end : State) (tss : List (List Token)) → Goes st line all end → LinesSpell source line tss all
+pub walked : (source : List ℕ) (st : State) (line : ℕ) (all : List (List Word)) (end : State) (tss : List (List Token)) → Goes st line all end
+    → LinesSpell source line tss all
     → (after_lines source st tss ≡ end) × (first_refusal source st tss ≡ refused (line_count source + 1) (rule_at_end end))
 walked source st line [] end [] goes spelled = (goes, ap (λ (s : State). refused (line_count source + 1) (rule_at_end s)) goes)
 walked source st line [] end (ts ∷ tss) goes spelled = absurd spelled

@@ -143,7 +143,8 @@ record Known : Type 0 where
 found : (word : Word) (all : List Known) → list_any (bytes_eq word) (map (λ (one : Known). one.word) all) ≡ true → Reads word
 found word [] any = absurd (false≢true any)
 found word (one ∷ all) any =
-    elim (bytes_eq word one.word) as (λ t. bytes_eq word one.word ≡ t → (t || list_any (bytes_eq word) (map (λ (other : Known). other.word) all)) ≡ true → Reads word) [
+    elim (bytes_eq word one.word) as (λ t. bytes_eq word one.word ≡ t → (t || list_any (bytes_eq word) (map (λ (other : Known). other.word) all)) ≡ true
+    → Reads word) [
       | true ↦ λ same h. subst Reads (sym ((bytes_eq-Decides word one.word).0 same)) one.reads
       | false ↦ λ apart h. found word all h
     ] refl any

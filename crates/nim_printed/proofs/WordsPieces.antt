@@ -73,7 +73,8 @@ one_piece at (b ∷ rest) words reads =
     token_front at b rest (more_bytes words) (front_at (b ∷ rest) (kind_of (b ∷ rest)))
     (not-true (is_hash b) both.0) (not-true (is_blank b) both.1) (front_before (b ∷ rest) words reads) refl
 
-words_pieces : (at : ℕ) (word : Word) (words : List Word) → list_all is_word (word ∷ words) ≡ true → pieces at 0 (word ++ more_bytes words) ≡ pieces_for at (word ∷ words)
+words_pieces : (at : ℕ) (word : Word) (words : List Word) → list_all is_word (word ∷ words) ≡ true
+    → pieces at 0 (word ++ more_bytes words) ≡ pieces_for at (word ∷ words)
 words_pieces at word [] are = one_piece at word [] (word_reads word (and_parts (is_word word) true are).0)
 words_pieces at word (next ∷ words) are =
     let both = and_parts (is_word word) (list_all is_word (next ∷ words)) are in

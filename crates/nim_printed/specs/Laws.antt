@@ -60,4 +60,5 @@ pub record IsRead (job : Job) : Type 0 where
 
 -- what is printed of a job that can be written is read back, where it isn't longer than a driver may be
 abbrev pub JobIsRead : Job → Type 0
-JobIsRead job = is_checked job ≡ true → is_spelled job ≡ true → length (tree_text (tree_for job)) ≤ most_bytes → IsRead job
+JobIsRead job =
+    is_checked job ≡ true → is_spelled job ≡ true → length (tree_text (tree_for job)) ≤ most_bytes → IsRead job

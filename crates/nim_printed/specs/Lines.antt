@@ -111,25 +111,29 @@ steps_lines (Some steps) = (codes "steps" ∷ number_words steps.most) ∷ []
 -- the line that declares a variable
 abbrev pub var_words : Var → List Word
 var_words v =
-    codes "var" ∷ v.name ∷ codes "parts" ∷ number_words v.parts ++ codes "width" ∷ number_words v.width ++ codes "rows" ∷ number_words v.rows
+    codes "var" ∷ v.name ∷ codes "parts" ∷ number_words v.parts ++ codes "width" ∷ number_words v.width ++ codes "rows"
+    ∷ number_words v.rows
     ++ init_words v.init
 
 -- the line of a stage: function, reads and writes, then its parameters and its turns
 abbrev pub stage_words : Stage → List Word
 stage_words stage =
-    stage.function ∷ flat_map ref_words stage.reads ++ codes "->" ∷ flat_map ref_words stage.writes ++ with_words stage.parameters ++ each_words stage.each
+    stage.function ∷ flat_map ref_words stage.reads ++ codes "->" ∷ flat_map ref_words stage.writes
+    ++ with_words stage.parameters ++ each_words stage.each
 
 -- the lines of a block: its head, its stages, and an `end`
 abbrev pub block_words : Block → List (List Word)
 block_words block =
-    (codes "block" ∷ block.name ∷ listed_words (map (λ argument. argument ∷ []) block.arguments)) ∷ map stage_words block.stages ++ (codes "end" ∷ []) ∷ []
+    (codes "block" ∷ block.name ∷ listed_words (map (λ argument. argument ∷ []) block.arguments))
+    ∷ map stage_words block.stages ++ (codes "end" ∷ []) ∷ []
 
 -- the line of a statement; what it encloses stands on lines of its own
 abbrev pub statement_words : Statement → List Word
 statement_words (Do block arguments) = codes "do" ∷ block ∷ listed_words (map atom_words arguments)
 statement_words (Let name value) = codes "let" ∷ name ∷ codes "=" ∷ value_words value
 statement_words (Get name variable part row column) =
-    codes "get" ∷ name ∷ codes "=" ∷ variable ∷ codes "[" ∷ number_words part ++ codes "]" ∷ number_words row ++ number_words column
+    codes "get" ∷ name ∷ codes "=" ∷ variable ∷ codes "[" ∷ number_words part ++ codes "]" ∷ number_words row
+    ++ number_words column
 statement_words (Loop turns) = codes "loop" ∷ atom_words turns
 statement_words (While condition) = codes "while" ∷ condition_words condition
 statement_words (If condition) = codes "if" ∷ condition_words condition
@@ -141,7 +145,8 @@ statement_words (Output variable) = codes "output" ∷ variable ∷ []
 -- all lines of a tree
 abbrev pub tree_words : Sections → List (List Word)
 tree_words tree =
-    (codes "nimbus" ∷ codes "1" ∷ []) ∷ steps_lines tree.steps ++ map var_words tree.vars ++ flat_map block_words tree.blocks
+    (codes "nimbus" ∷ codes "1" ∷ []) ∷ steps_lines tree.steps ++ map var_words tree.vars
+    ++ flat_map block_words tree.blocks
     ++ map (λ (line : Line). statement_words line.statement) tree.statements
 
 -- ---- the numbers of the lines
@@ -160,7 +165,8 @@ stages_numbered line (stage ∷ stages) = record stage { line = line } ∷ stage
 abbrev pub blocks_numbered : ℕ → List Block → List Block
 blocks_numbered line [] = []
 blocks_numbered line (block ∷ blocks) =
-    record block { line = line; stages = stages_numbered (line + 1) block.stages } ∷ blocks_numbered (line + length (block_words block)) blocks
+    record block { line = line; stages = stages_numbered (line + 1) block.stages }
+    ∷ blocks_numbered (line + length (block_words block)) blocks
 
 -- statements on lines one after another, the first of them on this one
 abbrev pub lines_numbered : ℕ → List Line → List Line

@@ -94,7 +94,15 @@ init_for (init.Loaded values) = Load
 abbrev pub vars_for : ℕ → List job_var → List Var
 vars_for line [] = []
 vars_for line (v ∷ vars) =
-    record { line = line; name = v.name; parts = v.parts; width = v.shape.width; rows = v.shape.rows; init = init_for v.init } ∷ vars_for (line + 1) vars
+    record {
+      line = line;
+      name = v.name;
+      parts = v.parts;
+      width = v.shape.width;
+      rows = v.shape.rows;
+      init =
+          init_for v.init;
+    } ∷ vars_for (line + 1) vars
 
 -- which part a reference means: a number, or `i` with a number that is added or taken away
 abbrev pub index_for : Place → Index
@@ -204,7 +212,8 @@ statements_of job stmt = fold-Stmt (List Statement) (stmt_for job) stmt
 -- statements on lines one after another, the first of them with this number
 abbrev pub lines_for : ℕ → List Statement → List Line
 lines_for line [] = []
-lines_for line (statement ∷ statements) = record { line = line; statement = statement } ∷ lines_for (line + 1) statements
+lines_for line (statement ∷ statements) =
+    record { line = line; statement = statement } ∷ lines_for (line + 1) statements
 
 -- ---- jobs
 

@@ -54,7 +54,8 @@ is_param (param.Arg arg) = true
 
 -- all numbers in the references and parameters of a stage can be written
 abbrev pub is_stage : job_stage → Bool
-is_stage stage = list_all (λ (ref : job_ref). is_place ref.place) (stage.reads ++ stage.writes) && list_all is_param stage.params
+is_stage stage =
+    list_all (λ (ref : job_ref). is_place ref.place) (stage.reads ++ stage.writes) && list_all is_param stage.params
 
 -- an atom that is a number is one of 64 bits
 abbrev pub is_atom : job_atom → Bool

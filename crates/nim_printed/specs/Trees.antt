@@ -1,4 +1,5 @@
--- Which trees a printer can print: names are names that aren't reserved, numbers are in the ranges of the language, each
+-- Which trees a printer can print: names are names that aren't reserved, numbers are in the ranges of the language,
+-- each
 -- stage writes something, and statements nest.
 use Rattle.std.specs.Prelude.{Bool, true, false, ◌&&◌, List, [], ◌∷◌, Option, None, Some}
 use Rattle.std.specs.List.{list_all}
@@ -62,7 +63,8 @@ is_some_refs (ref ∷ refs) = list_all is_ref (ref ∷ refs)
 
 -- a name that isn't reserved, one write or more, and references and parameters that can be written
 abbrev pub is_stage : Stage → Bool
-is_stage stage = is_free stage.function && list_all is_ref stage.reads && is_some_refs stage.writes && list_all is_atom stage.parameters
+is_stage stage = is_free stage.function && list_all is_ref stage.reads && is_some_refs stage.writes
+    && list_all is_atom stage.parameters
 
 -- a block's name and its arguments aren't reserved, and each of its stages can be written
 abbrev pub is_block : Block → Bool
@@ -82,7 +84,8 @@ is_condition (Holds left relation right) = is_atom left && is_atom right
 abbrev pub is_statement : Statement → Bool
 is_statement (Do block arguments) = is_free block && list_all is_atom arguments
 is_statement (Let name value) = is_free name && is_value value
-is_statement (Get name variable part row column) = is_free name && is_free variable && is_small part && is_small row && is_small column
+is_statement (Get name variable part row column) =
+    is_free name && is_free variable && is_small part && is_small row && is_small column
 is_statement (Loop turns) = is_atom turns
 is_statement (While condition) = is_condition condition
 is_statement (If condition) = is_condition condition
@@ -99,4 +102,5 @@ is_closed (Some opened) = is_empty opened
 -- each line of a tree can be written, and its statements close all that they open
 abbrev pub is_printable : Sections → Bool
 is_printable tree = is_steps tree.steps && list_all is_var tree.vars && list_all is_block tree.blocks
-    && list_all (λ (line : Line). is_statement line.statement) tree.statements && is_closed (open_after [] tree.statements)
+    && list_all (λ (line : Line). is_statement line.statement) tree.statements
+    && is_closed (open_after [] tree.statements)

@@ -50,9 +50,11 @@ kind_of word = if is_name word then Name else if is_numeral word then Number (nu
 abbrev pub line_tokens_of : ℕ → ℕ → List Word → List Token
 line_tokens_of line at [] = []
 line_tokens_of line at (word ∷ words) =
-    record { line = line; at = at; len = length word; kind = kind_of word } ∷ line_tokens_of line (at + length word + 1) words
+    record { line = line; at = at; len = length word; kind = kind_of word }
+    ∷ line_tokens_of line (at + length word + 1) words
 
 -- the tokens of lines, the first of them of this number and at this place
 abbrev pub lines_tokens_of : ℕ → ℕ → List (List Word) → List Token
 lines_tokens_of line at [] = []
-lines_tokens_of line at (words ∷ lines) = line_tokens_of line at words ++ lines_tokens_of (line + 1) (at + length (line_text words)) lines
+lines_tokens_of line at (words ∷ lines) =
+    line_tokens_of line at words ++ lines_tokens_of (line + 1) (at + length (line_text words)) lines

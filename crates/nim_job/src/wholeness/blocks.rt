@@ -84,7 +84,8 @@ fn are_distinct(vars: &[Var], index: u32, refs: &[Ref]) -> bool
     true
 }
 
-/// Whether no task of a stage writes an object twice. Its meaning is `has_distinct` of `specs/Whole.antt`. Takes no memory.
+/// Whether no task of a stage writes an object twice. Its meaning is `has_distinct` of `specs/Whole.antt`. Takes no
+/// memory.
 pub fn has_distinct(vars: &[Var], stage: &Stage) -> bool
     requires vars { IsTrue (are_vars vars.now) }
     requires writes { IsTrue (list_all (is_ref vars.now stage.now.each) stage.now.writes) }

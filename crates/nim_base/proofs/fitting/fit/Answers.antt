@@ -7,4 +7,5 @@ from_cells-requires-clause-whole c = fitted_length _ _ _ _ _ c.in_ok-cells.ensur
 
 pub returns : goal.returns
 returns c =
-    fitted_is c.args.value.now c.args.shape _ _ _ _ _ c.cells.ensures.rows c.width.ensures (omega (arith, c.rows.ensures, c.min-rows.ensures)) c.in_ok-cells.ensures c.from_cells.ensures
+    fitted_is c.args.value.now c.args.shape _ _ _ _ _ c.cells.ensures.rows c.width.ensures (omega (arith, c.rows.ensures, c.min-rows.ensures))
+    c.in_ok-cells.ensures c.from_cells.ensures

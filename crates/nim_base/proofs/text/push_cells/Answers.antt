@@ -42,7 +42,8 @@ returns-clause-written c =
     ∙ c.loop-cell.invariant.same
     ∙ ap (λ (front : List ℕ). front ++ flat_map later rest) begun
     ∙ append_assoc c.args.text.now.items (signed_decimal first) (flat_map later rest)
-    ∙ ap (λ (back : List ℕ). c.args.text.now.items ++ back) (sym (ap (λ (cells : List ℤ). join_with_byte 32 (map signed_decimal cells)) row ∙ joined first rest))
+    ∙ ap (λ (back : List ℕ). c.args.text.now.items ++ back) (sym (ap (λ (cells : List ℤ). join_with_byte 32 (map signed_decimal cells)) row
+    ∙ joined first rest))
 
 pub returns-clause-fit : goal.returns-clause-fit
 returns-clause-fit c =

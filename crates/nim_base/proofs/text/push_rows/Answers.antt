@@ -31,7 +31,8 @@ loop-preserved c =
           ∙ append_assoc text (row_text (take width rest)) after
           ∙ ap (λ (back : List ℕ). text ++ back) (sym step)
           ∙ c.loop.invariant.same);
-      fit = λ more. c.loop.invariant.fit (fit_rows-step (SFits w64) n i width rest c.loop-test.true (rw c.split_at.ensures.front at c.in_ok-push_cells.ensures.fit) (rw c.split_at.ensures.back at more));
+      fit = λ more. c.loop.invariant.fit (fit_rows-step (SFits w64) n i width rest c.loop-test.true
+          (rw c.split_at.ensures.front at c.in_ok-push_cells.ensures.fit) (rw c.split_at.ensures.back at more));
       enough = rw c.split_at.ensures.back enough.1;
     }
 

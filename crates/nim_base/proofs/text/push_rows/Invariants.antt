@@ -9,7 +9,8 @@ use Rattle.nim_base.proofs.text.push_rows.Given as goal
 
 abbrev pub invariant-loop : goal.invariant-loop
 invariant-loop l = record {
-  same : l.text.items ++ flat_map row_text (rows_of (l.rows - l.counter) l.width l.rest) ≡ l.initial.text.items ++ flat_map row_text (rows_of l.rows l.width l.cells);
+  same : l.text.items ++ flat_map row_text (rows_of (l.rows - l.counter) l.width l.rest) ≡ l.initial.text.items
+      ++ flat_map row_text (rows_of l.rows l.width l.cells);
   fit : All (All (SFits w64)) (rows_of (l.rows - l.counter) l.width l.rest) → All (All (SFits w64)) (rows_of l.rows l.width l.cells);
   enough : (l.rows - l.counter) * l.width ≤ length l.rest;
 }

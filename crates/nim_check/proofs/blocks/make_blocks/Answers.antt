@@ -24,7 +24,8 @@ loop-at-preserved c =
     let blocks = c.args.blocks.now in
     let there : c.loop-at.at < length blocks = first_of (search rules, grind (arith, common_steps)) in
     record {
-      sites = sym (blocks_later vars blocks c.loop-at.at c.index-blocks-at.result there c.index-blocks-at.is c.in_ok-make_block.ensures.answers) ∙ c.loop-at.invariant.sites;
+      sites = sym (blocks_later vars blocks c.loop-at.at c.index-blocks-at.result there c.index-blocks-at.is c.in_ok-make_block.ensures.answers)
+          ∙ c.loop-at.invariant.sites;
       made = first_of (search rules, grind (arith, common_steps));
       whole = first_of (search rules, grind (arith, common_steps));
       few = omega (arith, c.in_ok-make_block.ensures.number, length-take c.loop-at.at blocks);

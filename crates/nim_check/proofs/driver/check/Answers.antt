@@ -57,7 +57,8 @@ returns-clause-answers c =
 pub returns-clause-checked : goal.returns-clause-checked
 returns-clause-checked c =
     let tree = c.args.tree.now in
-    let job : Job = record { steps = c.in_ok-steps.steps; vars = c.in_ok-job_vars.job_vars; blocks = c.in_ok-job_blocks.job_blocks; body = c.in_ok-body.body } in
+    let job : Job =
+    record { steps = c.in_ok-steps.steps; vars = c.in_ok-job_vars.job_vars; blocks = c.in_ok-job_blocks.job_blocks; body = c.in_ok-body.body } in
     let low : 1 ≤ job.steps = c.in_ok-steps.ensures.some in
     let high : job.steps ≤ 1000000 = c.in_ok-steps.ensures.few in
     let made : c.in_ok-job_vars.job_vars ≡ map var_of tree.vars = first_of (cc, search rules, grind (arith, common_steps)) in
@@ -66,7 +67,8 @@ returns-clause-checked c =
     let number : length c.in_ok-job_blocks.job_blocks ≤ 32 = c.in_ok-job_blocks.ensures.number in
     let each : list_all (is_block c.in_ok-job_vars.job_vars) c.in_ok-job_blocks.job_blocks ≡ true = first_of (cc, search rules, grind (arith, common_steps)) in
     let statements : first_refusal (statement_sites tree no_past tree.statements) ≡ None = first_of (cc, search rules, grind (arith, common_steps)) in
-    let body : c.in_ok-body.body ≡ body_of (names_for tree (past_of no_past tree.statements).scalars) tree.statements = first_of (cc, search rules, grind (arith, common_steps)) in
+    let body : c.in_ok-body.body ≡ body_of (names_for tree (past_of no_past tree.statements).scalars) tree.statements =
+    first_of (cc, search rules, grind (arith, common_steps)) in
     let names : length c.in_ok-job_vars.job_vars ≡ length (var_names tree.vars) = ap length made ∙ length-map tree.vars var_of ∙ sym (length_names tree.vars) in
     let ties : Ties tree job = record { vars = names; blocks = blocks } in
     job_whole job low high vars number each (body_whole tree job ties body c.sections-lines.ensures.nest statements)

@@ -4,4 +4,5 @@ use Rattle.nim_check.specs.Names.{func_among}
 use Rattle.nim_check.proofs.names.func_among.Given as goal
 
 abbrev pub invariant-loop-name : goal.invariant-loop-name
-invariant-loop-name l = func_among (map (λ f. (f.0.now, f.1)) (drop l.name-index l.functions)) l.word ≡ func_among (map (λ f. (f.0.now, f.1)) l.functions) l.word
+invariant-loop-name l =
+    func_among (map (λ f. (f.0.now, f.1)) (drop l.name-index l.functions)) l.word ≡ func_among (map (λ f. (f.0.now, f.1)) l.functions) l.word

@@ -21,7 +21,8 @@ returns-then-is_some c =
     let found : is_some (tree.get_by (λ k. slice_cmp nat_cmp c.as_slice.result.now k.now) c.loop-left.later) ≡ true =
     ap is_some (sym c.in_ok-insert.ensures.old) ∙ first_of (cc, search rules, grind (arith, common_steps)) in
     let inside : is_in (drop c.loop-left.left words) w ≡ true = sym (c.loop-left.invariant.later w) ∙ (rw key at found) in
-    let here : is_in (drop (n + 1) words) (get_or words n w) ≡ true = ap (is_in (drop (n + 1) words)) (sym read) ∙ ap (λ m. is_in (drop m words) w) turn ∙ inside in
+    let here : is_in (drop (n + 1) words) (get_or words n w) ≡ true =
+    ap (is_in (drop (n + 1) words)) (sym read) ∙ ap (λ m. is_in (drop m words) w) turn ∙ inside in
     sym (twice_back words n (twice_more words n w there ∙ ap (λ b. b || has_twice (drop (n + 1) words)) here))
 
 pub loop-left-preserved : goal.loop-left-preserved
@@ -36,7 +37,8 @@ loop-left-preserved c =
     let absent : is_some (tree.get_by (λ k. slice_cmp nat_cmp c.as_slice.result.now k.now) c.loop-left.later) ≡ false =
     ap is_some (sym c.in_ok-insert.ensures.old) ∙ first_of (cc, search rules, grind (arith, common_steps)) in
     let outside : is_in (drop c.loop-left.left words) w ≡ false = sym (c.loop-left.invariant.later w) ∙ (rw key at absent) in
-    let here : is_in (drop (n + 1) words) (get_or words n w) ≡ false = ap (is_in (drop (n + 1) words)) (sym read) ∙ ap (λ m. is_in (drop m words) w) turn ∙ outside in
+    let here : is_in (drop (n + 1) words) (get_or words n w) ≡ false =
+    ap (is_in (drop (n + 1) words)) (sym read) ∙ ap (λ m. is_in (drop m words) w) turn ∙ outside in
     let once : has_twice (drop (n + 1) words) ≡ false = ap (λ m. has_twice (drop m words)) turn ∙ c.loop-left.invariant.none in
     record {
       within = omega arith;

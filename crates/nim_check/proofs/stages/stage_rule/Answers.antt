@@ -25,7 +25,8 @@ returns-else-tasks-from-gt1024-clause-whole c = λ _.
     let args = c.args.block.now.arguments in
     let all : named vars (refs_of stage) ≡ true = first_of (cc, search rules) in
     let none : owned stage (refs_of stage) ≡ false = first_of (cc, search rules) in
-    let counts : has_counts (unwrap_or (func_of stage.function) func.Set) (length stage.parameters) (length stage.reads) (length stage.writes) ≡ true = first_of (cc, search rules) in
+    let counts : has_counts (unwrap_or (func_of stage.function) func.Set) (length stage.parameters) (length stage.reads) (length stage.writes) ≡ true =
+    first_of (cc, search rules) in
     let known : list_all (is_known args) stage.parameters ≡ true = first_of (cc, search rules) in
     let distinct : has_distinct c.args.job_vars.now c.args.made.now ≡ true = first_of (cc, search rules) in
     let here : has_distinct (map var_of vars) (stage_of (var_names vars) args stage) ≡ true = (rw (c.requires.vars, c.requires.made) at distinct) in

@@ -31,7 +31,8 @@ returns-in-Some-clause-answers c =
     let short : nat_lt 33554432 (length bytes) ≡ false = search rules in
     let broken : line_rule c.loop-at.reading line.bytes ≡ Some c.in-Some.rule = sym (rw text at c.in_ok-rule.ensures.rule) ∙ c.in-Some.is in
     refused_by (refusal_of ws bytes) (values_in bytes) _
-    (sym (of_file ws bytes short) ∙ sym c.loop-at.invariant.outcome ∙ ap (read_from end ws c.loop-at.reading) step ∙ refused_here end ws c.loop-at.reading line rest c.in-Some.rule broken)
+    (sym (of_file ws bytes short) ∙ sym c.loop-at.invariant.outcome ∙ ap (read_from end ws c.loop-at.reading) step
+    ∙ refused_here end ws c.loop-at.reading line rest c.in-Some.rule broken)
 
 pub loop-at-preserved : goal.loop-at-preserved
 loop-at-preserved c =
@@ -51,7 +52,8 @@ loop-at-preserved c =
     record {
       within = omega (arith, prefix_len-le-length (λ b. not (is_newline b)) (drop i bytes), length-drop i bytes);
       counted = omega arith;
-      outcome = rw moved (sym (passed_here end ws c.loop-at.reading line rest sound) ∙ sym (ap (read_from end ws c.loop-at.reading) step) ∙ c.loop-at.invariant.outcome);
+      outcome = rw moved (sym (passed_here end ws c.loop-at.reading line rest sound) ∙ sym (ap (read_from end ws c.loop-at.reading) step)
+          ∙ c.loop-at.invariant.outcome);
     }
 
 pub end_line-requires : goal.end_line-requires
@@ -64,9 +66,11 @@ returns c =
     let end = line_count bytes + 1 in
     let short : nat_lt 33554432 (length bytes) ≡ false = search rules in
     let none : drop c.loop-at.at bytes ≡ [] = drop_all c.loop-at.at bytes (omega (arith, c.loop-at-test.false)) in
-    let whole : ended end ws c.loop-at.reading ≡ judge (refusal_of ws bytes) (values_in bytes) = (rw none at c.loop-at.invariant.outcome) ∙ of_file ws bytes short in
+    let whole : ended end ws c.loop-at.reading ≡ judge (refusal_of ws bytes) (values_in bytes) =
+    (rw none at c.loop-at.invariant.outcome) ∙ of_file ws bytes short in
     let gave : Gave (judge (refusal_of ws bytes) (values_in bytes)) c.ended.result =
-    subst (λ (o : Result (List Grid) Refusal). Gave o c.ended.result) (ap (λ (e : ℕ). ended e ws c.loop-at.reading) c.end_line.ensures ∙ whole) c.ended.ensures in
+    subst (λ (o : Result (List Grid) Refusal). Gave o c.ended.result) (ap (λ (e : ℕ). ended e ws c.loop-at.reading) c.end_line.ensures ∙ whole) c.ended.ensures
+    in
     record {
       answers = gave_answers (refusal_of ws bytes) (values_in bytes) c.ended.result gave;
       values = gave_values (refusal_of ws bytes) (values_in bytes) c.ended.result gave;

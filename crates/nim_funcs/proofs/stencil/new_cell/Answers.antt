@@ -19,5 +19,7 @@ returns c =
     c.cell_or_zero-3.result c.divided.result c.ranges.divisor c.divided.ensures
     ∙ ap (λ x. quotient (plus (plus (plus (plus here x) c.cell_or_zero-2.result) c.left_cell.result) c.cell_or_zero-3.result) divisor) up
     ∙ ap (λ x. quotient (plus (plus (plus (plus here (cell_at c.args.up.now c.args.column)) x) c.left_cell.result) c.cell_or_zero-3.result) divisor) down
-    ∙ ap (λ x. quotient (plus (plus (plus (plus here (cell_at c.args.up.now c.args.column)) (cell_at c.args.down.now c.args.column)) x) c.cell_or_zero-3.result) divisor) left
-    ∙ ap (λ x. quotient (plus (plus (plus (plus here (cell_at c.args.up.now c.args.column)) (cell_at c.args.down.now c.args.column)) (left_of c.args.row.now c.args.column)) x) divisor) right
+    ∙ ap (λ x. quotient (plus (plus (plus (plus here (cell_at c.args.up.now c.args.column)) (cell_at c.args.down.now c.args.column)) x) c.cell_or_zero-3.result)
+    divisor) left
+    ∙ ap (λ x. quotient (plus (plus (plus (plus here (cell_at c.args.up.now c.args.column)) (cell_at c.args.down.now c.args.column))
+    (left_of c.args.row.now c.args.column)) x) divisor) right

@@ -7,4 +7,5 @@ use Rattle.nim_funcs.proofs.stencil.stencil.Given as goal
 abbrev pub invariant-loop-row : goal.invariant-loop-row
 invariant-loop-row l =
     l.cells.items
-    ≡ cells_of (grid_by l.row l.width (λ row. stencil_cell l.factor l.divisor (row_above l.above l.middle row) (line_of l.middle row) (row_below l.middle l.below row))).rows
+    ≡ cells_of (grid_by l.row l.width (λ row. stencil_cell l.factor l.divisor (row_above l.above l.middle row) (line_of l.middle row)
+    (row_below l.middle l.below row))).rows

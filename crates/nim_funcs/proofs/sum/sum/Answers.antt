@@ -16,7 +16,8 @@ pub loop-at-preserved : goal.loop-at-preserved
 loop-at-preserved c =
     let reads = c.args.reads.now in
     subst (λ grids. IsSumOf grids c.in_ok-sums-2.sums)
-    (read_added c.args.values.now reads c.loop-at.at c.index-values-reads-in-loop-at.result c.requires.inside c.loop-at-test.true c.index-values-reads-in-loop-at.is)
+    (read_added c.args.values.now reads c.loop-at.at c.index-values-reads-in-loop-at.result c.requires.inside c.loop-at-test.true
+    c.index-values-reads-in-loop-at.is)
     (c.in_ok-sums-2.ensures (reads_of c.args.values.now (take c.loop-at.at reads)) c.loop-at.invariant)
 
 pub returns : goal.returns

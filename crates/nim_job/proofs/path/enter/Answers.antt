@@ -7,7 +7,8 @@ use Rattle.nim_job.proofs.path.enter.Goals as goal
 
 pub put-requires : goal.put-requires
 put-requires c =
-    entered_open c.args.whole.now (vec_capacity c.args.levels.now) c.args.levels.now.items c.args.stmt.now c.args.kind c.args.turns c.requires.open c.requires.behind c.requires.holds
+    entered_open c.args.whole.now (vec_capacity c.args.levels.now) c.args.levels.now.items c.args.stmt.now c.args.kind c.args.turns c.requires.open
+    c.requires.behind c.requires.holds
 
 pub returns-clause-todo : goal.returns-clause-todo
 returns-clause-todo c =

@@ -26,7 +26,8 @@ returns-in_default-clause-open c =
     let whole = c.args.whole.now in
     let outer = c.pop.new.self.items in
     left_open whole (vec_capacity c.pop.new.self) outer c.in-Some.last
-    (same_open whole (vec_capacity c.args.levels.now) (vec_capacity c.pop.new.self) c.args.levels.now.items (outer ++ c.in-Some.last ∷ []) c.requires.open c.in-Some.ensures.capacity
+    (same_open whole (vec_capacity c.args.levels.now) (vec_capacity c.pop.new.self) c.args.levels.now.items (outer ++ c.in-Some.last ∷ []) c.requires.open
+    c.in-Some.ensures.capacity
     (sym c.in-Some.ensures.items))
 
 pub returns-in_default-clause-todo : goal.returns-in_default-clause-todo

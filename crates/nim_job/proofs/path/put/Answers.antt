@@ -10,5 +10,6 @@ push_reserved-requires c =
 
 pub returns-clause-open : goal.returns-clause-open
 returns-clause-open c =
-    same_open c.args.whole.now (vec_capacity c.args.levels.now) (vec_capacity c.push_reserved.new.self) (c.args.levels.now.items ++ c.args.level ∷ []) c.push_reserved.new.self.items
+    same_open c.args.whole.now (vec_capacity c.args.levels.now) (vec_capacity c.push_reserved.new.self) (c.args.levels.now.items ++ c.args.level ∷ [])
+    c.push_reserved.new.self.items
     c.requires c.push_reserved.ensures.capacity c.push_reserved.ensures.items

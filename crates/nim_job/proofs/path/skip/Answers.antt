@@ -15,4 +15,5 @@ prove-unreachable-requires c =
     omega (arith, within, ap length c.requires.body)
 
 pub put-requires : goal.put-requires
-put-requires c = moved_open c.args.whole.now (vec_capacity c.args.levels.now) c.args.levels.now.items c.args.last c.args.stmt.now c.requires.open c.requires.next
+put-requires c =
+    moved_open c.args.whole.now (vec_capacity c.args.levels.now) c.args.levels.now.items c.args.last c.args.stmt.now c.requires.open c.requires.next

@@ -12,4 +12,5 @@ returns-in-Some-clause-todo c =
     let last = c.in-Some.last in
     ap (λ (levels : List Level). Run c.args.stmt.now ∷ todo_of whole levels) c.skip.ensures.items
     ∙ sym (ap (todo_of whole) c.in-Some.ensures.items
-    ∙ todo_taken whole outer last c.args.stmt.now (sym (ap (λ (levels : List Level). stmt_next (spot_of whole levels)) c.in-Some.ensures.items) ∙ c.requires.next))
+    ∙ todo_taken whole outer last c.args.stmt.now (sym (ap (λ (levels : List Level). stmt_next (spot_of whole levels)) c.in-Some.ensures.items)
+    ∙ c.requires.next))

@@ -18,7 +18,8 @@ put-requires c =
     let room = vec_capacity c.args.levels.now in
     let other = vec_capacity c.pop.new.self in
     back_open whole other outer c.in-Some.around c.args.last c.requires.kind
-    (same_open whole room other (c.args.levels.now.items ++ c.args.last ∷ []) ((outer ++ c.in-Some.around ∷ []) ++ c.args.last ∷ []) c.requires.open c.in-Some.ensures.capacity
+    (same_open whole room other (c.args.levels.now.items ++ c.args.last ∷ []) ((outer ++ c.in-Some.around ∷ []) ++ c.args.last ∷ []) c.requires.open
+    c.in-Some.ensures.capacity
     (ap (λ (levels : List Level). levels ++ c.args.last ∷ []) (sym c.in-Some.ensures.items)))
 
 pub returns-in-Some-clause-todo : goal.returns-in-Some-clause-todo

@@ -17,7 +17,8 @@ loop-var-preserved c =
     let i = c.loop-var.var-index in
     let v = c.var-item.result in
     record {
-      spans = spans_more vars c.loop-var.spans.items c.push.new.self.items (record { first = c.loop-var.first; parts = v.parts }) i c.in_ok-push.ensures.items c.loop-var.invariant.spans
+      spans = spans_more vars c.loop-var.spans.items c.push.new.self.items (record { first = c.loop-var.first; parts = v.parts }) i c.in_ok-push.ensures.items
+          c.loop-var.invariant.spans
           (span_at vars i c.loop-var.first v c.loop-var-test.true c.var-item.is c.loop-var.invariant.first);
       first = (let more = objects_more vars i v c.loop-var-test.true c.var-item.is in omega (arith, more, c.loop-var.invariant.first));
     }

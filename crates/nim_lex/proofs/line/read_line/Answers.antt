@@ -25,7 +25,8 @@ loop-at-preserved c =
     let text : take (length line - i) (drop i line) ≡ drop i line = take_rest line i in
     let no_hash : is_hash (get_or line i 0) ≡ false = search rules in
     let is_len : len ≡ (front_of (drop i line)).len = (rw text at c.front-found.ensures.len) in
-    let step = step_token c.args.start i len line c.loop-at-test.true no_hash (sym c.is_blank.ensures ∙ c.if-is_blank.false) c.front-found.ensures.some is_len in
+    let step =
+    step_token c.args.start i len line c.loop-at-test.true no_hash (sym c.is_blank.ensures ∙ c.if-is_blank.false) c.front-found.ensures.some is_len in
     let p = piece (c.args.start + i) (front_of (drop i line)) in
     let rest = pieces (c.args.start + (i + len)) 0 (drop (i + len) line) in
     let within = (rw text at c.front-found.ensures.within) in
@@ -39,13 +40,15 @@ loop-at-preserved c =
             within = omega (arith, length-drop i line);
             broken = rw w.broken-is (after_sound c.loop-at.broken p rest (pieces c.args.start 0 line) here (rw step at c.loop-at.invariant.broken));
             tokens = λ none. rw (w.tokens-is, w.in_ok-push-in-Ok.ensures.items)
-                (after_token c.args.number len p w.in-Ok.kind rest c.loop-at.tokens.items _ is_len (rw w.in-Ok.is at token) (rw step at (c.loop-at.invariant.tokens (sym w.broken-is ∙ none))));
+                (after_token c.args.number len p w.in-Ok.kind rest c.loop-at.tokens.items _ is_len (rw w.in-Ok.is at token)
+                (rw step at (c.loop-at.invariant.tokens (sym w.broken-is ∙ none))));
           }
       | in-Err w ↦
           let here : broken_by (p ∷ []) ≡ Some w.in-Err.rule = broken-piece (c.args.start + i) (front_of (drop i line)) ∙ (rw w.in-Err.is at broken) in
           record {
             within = omega (arith, length-drop i line);
-            broken = rw (w.broken-is, w.smaller-broken.ensures) (after_broken c.loop-at.broken p rest (pieces c.args.start 0 line) w.in-Err.rule here (rw step at c.loop-at.invariant.broken));
+            broken = rw (w.broken-is, w.smaller-broken.ensures) (after_broken c.loop-at.broken p rest (pieces c.args.start 0 line) w.in-Err.rule here
+                (rw step at c.loop-at.invariant.broken));
             tokens = λ none. absurd (smaller-some c.loop-at.broken w.in-Err.rule (sym w.smaller-broken.ensures ∙ sym w.broken-is ∙ none));
           }
     ]

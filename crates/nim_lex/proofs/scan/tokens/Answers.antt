@@ -23,7 +23,8 @@ returns-in-Some-clause-answers c =
     let rest = numbered (number + 1) (i + (len + 1)) (cut (drop (i + (len + 1)) bytes)) in
     let short : is_too_long bytes ≡ false = search rules in
     let broken : broken_by (pieces_of line) ≡ Some c.in-Some.rule = sym (rw text at c.in_ok-rule.ensures.rule) ∙ c.in-Some.is in
-    rw short (sym c.loop-at.invariant.refusal ∙ ap first_refusal (step_line number i len bytes c.loop-at-test.true is_len) ∙ refusal_here line rest c.in-Some.rule broken)
+    rw short (sym c.loop-at.invariant.refusal ∙ ap first_refusal (step_line number i len bytes c.loop-at-test.true is_len)
+    ∙ refusal_here line rest c.in-Some.rule broken)
 
 pub loop-at-preserved : goal.loop-at-preserved
 loop-at-preserved c =

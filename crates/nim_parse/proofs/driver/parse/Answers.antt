@@ -21,9 +21,11 @@ returns-in-Some-clause-answers c =
     let line = take len (drop at ts) in
     let rest = lines (drop (at + len) ts) in
     let step = step_lines ts at len c.loop-at-test.true is_len in
-    let broken : rule_of c.loop-at.state (found source c.loop-at.state line) ≡ Some c.in-Some.rule = sym (rw text at c.in_ok-rule.ensures.rule) ∙ c.in-Some.is in
+    let broken : rule_of c.loop-at.state (found source c.loop-at.state line) ≡ Some c.in-Some.rule =
+    sym (rw text at c.in_ok-rule.ensures.rule) ∙ c.in-Some.is in
     let number : c.number_of-line.result ≡ number_of line = (rw text at c.number_of-line.ensures) in
-    rw (number, ← c.requires.tokens) (sym c.loop-at.invariant.refusal ∙ ap (first_refusal source c.loop-at.state) step ∙ refusal_here source c.loop-at.state line rest c.in-Some.rule broken)
+    rw (number, ← c.requires.tokens) (sym c.loop-at.invariant.refusal ∙ ap (first_refusal source c.loop-at.state) step
+    ∙ refusal_here source c.loop-at.state line rest c.in-Some.rule broken)
 
 pub loop-at-preserved : goal.loop-at-preserved
 loop-at-preserved c =
@@ -41,7 +43,8 @@ loop-at-preserved c =
     let inside : len ≤ length (drop at ts) = (rw text at c.line_len-len.ensures.within) in
     record {
       within = omega (arith, length-drop at ts);
-      refusal = rw moved (sym (refusal_later source c.loop-at.state line rest sound) ∙ sym (ap (first_refusal source c.loop-at.state) step) ∙ c.loop-at.invariant.refusal);
+      refusal = rw moved (sym (refusal_later source c.loop-at.state line rest sound) ∙ sym (ap (first_refusal source c.loop-at.state) step)
+          ∙ c.loop-at.invariant.refusal);
       tree = rw moved (sym (ap (after_lines source c.loop-at.state) step) ∙ c.loop-at.invariant.tree);
     }
 

@@ -7,4 +7,5 @@ from_cells-requires-clause-whole c = fitted_length _ _ _ _ _ c.in_ok-cells.ensur
 
 pub returns : goal.returns
 returns c =
-    fitted_is c.args.self c.args.shape _ _ _ _ _ c.into_cells.ensures.rows c.width-width.ensures (omega (arith, c.rows.ensures, c.min-rows.ensures)) c.in_ok-cells.ensures c.from_cells.ensures
+    fitted_is c.args.self c.args.shape _ _ _ _ _ c.into_cells.ensures.rows c.width-width.ensures (omega (arith, c.rows.ensures, c.min-rows.ensures))
+    c.in_ok-cells.ensures c.from_cells.ensures

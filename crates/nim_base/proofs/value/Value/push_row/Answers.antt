@@ -7,5 +7,6 @@ overflow_add-self c = let fits = count_seen _ _ _ _ c.self.view_is in omega (ari
 
 pub returns-clause-ok : goal.returns-clause-ok
 returns-clause-ok c =
-    pushed_seen c.self.inside.width c.self.inside.rows c.self.inside.cells.items c.args.row.now _ c.args.self.now c.self.view_is c.self.invariant.1 c.requires.width
+    pushed_seen c.self.inside.width c.self.inside.rows c.self.inside.cells.items c.args.row.now _ c.args.self.now c.self.view_is c.self.invariant.1
+    c.requires.width
     (search rules)

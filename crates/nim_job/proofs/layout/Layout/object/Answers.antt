@@ -5,10 +5,16 @@ use Rattle.nim_job.proofs.Whole.{ref_fits, ref_there}
 use Rattle.nim_job.proofs.layout.Layout.object.Goals as goal
 
 pub part-part-requires-clause-parts : goal.part-part-requires-clause-parts
-part-part-requires-clause-parts c = omega (arith, (ref_fits c.args.self.now.vars.now c.args.reference c.args.self.now.whole c.requires.reference).0, c.parts.ensures)
+part-part-requires-clause-parts c =
+    omega (arith, (ref_fits c.args.self.now.vars.now c.args.reference c.args.self.now.whole c.requires.reference).0, c.parts.ensures)
 
 pub overflow_cast-result : goal.overflow_cast-result
-overflow_cast-result c = omega (arith, (ref_fits c.args.self.now.vars.now c.args.reference c.args.self.now.whole c.requires.reference).1, c.parts.ensures, c.part-part.ensures.within)
+overflow_cast-result c = omega (
+  arith,
+  (ref_fits c.args.self.now.vars.now c.args.reference c.args.self.now.whole c.requires.reference).1,
+  c.parts.ensures,
+  c.part-part.ensures.within,
+)
 
 pub overflow_add-result : goal.overflow_add-result
 overflow_add-result c =

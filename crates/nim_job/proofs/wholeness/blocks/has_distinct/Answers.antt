@@ -17,11 +17,17 @@ pub are_distinct-requires-clause-index : goal.are_distinct-requires-clause-index
 are_distinct-requires-clause-index c =
     let vars = c.args.vars.now in
     let stage = c.args.stage.now in
-    omega (arith, writes_few vars stage c.requires.vars (refs_of vars stage.each stage.writes c.requires.writes), c.task_count-index-end.ensures, c.loop-index-test.true)
+    omega (
+      arith,
+      writes_few vars stage c.requires.vars (refs_of vars stage.each stage.writes c.requires.writes),
+      c.task_count-index-end.ensures,
+      c.loop-index-test.true,
+    )
 
 pub returns-then-not-are_distinct : goal.returns-then-not-are_distinct
 returns-then-not-are_distinct c =
-    all_not (λ i. are_distinct (map (object_meant c.args.vars.now i) c.args.stage.now.writes)) _ c.loop-index.index (omega (arith, c.task_count-index-end.ensures, c.loop-index-test.true))
+    all_not (λ i. are_distinct (map (object_meant c.args.vars.now i) c.args.stage.now.writes)) _ c.loop-index.index
+    (omega (arith, c.task_count-index-end.ensures, c.loop-index-test.true))
     (sym (c.are_distinct.ensures ∙ ap (λ (refs : List Ref). are_distinct (map (object_meant c.args.vars.now c.loop-index.index) refs)) c.as_slice.ensures)
     ∙ c.if-not-are_distinct.true)
 

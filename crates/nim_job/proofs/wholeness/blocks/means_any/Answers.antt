@@ -7,5 +7,6 @@ use Rattle.nim_job.specs.Tasks.{object_meant}
 use Rattle.nim_job.proofs.wholeness.blocks.means_any.Goals as goal
 
 pub returns-then-object-sought : goal.returns-then-object-sought
-returns-then-object-sought c = any_mapped (λ (o : Object). o.0 == c.args.sought.0) (object_meant c.args.vars.now c.args.index) c.args.refs.now c.loop-reference.reference-index _ c.loop-reference-test.true
+returns-then-object-sought c = any_mapped (λ (o : Object). o.0 == c.args.sought.0) (object_meant c.args.vars.now c.args.index) c.args.refs.now
+    c.loop-reference.reference-index _ c.loop-reference-test.true
     (eq-eqb _ c.args.sought.0 (ap (λ (o : Object). o.0) (sym c.object.ensures) ∙ c.if-object-sought.true))
