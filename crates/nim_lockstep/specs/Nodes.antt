@@ -27,13 +27,15 @@ has_any {X} xs = not (length xs == 0)
 abbrev pub frames_from : ℕ → Node → List Data
 frames_from from node = slice_index_or node.frames from []
 
--- whether a worker may take its next order, the controller its next report, and it the next frame from a worker
+-- whether a worker may take its next order
 abbrev pub may_order : Node → Bool
 may_order node = has_any node.orders
 
+-- whether the controller may take its next report
 abbrev pub may_report : Node → Bool
 may_report node = has_any node.reports
 
+-- whether the worker may take the next frame from another
 abbrev pub may_frame : ℕ → Node → Bool
 may_frame from node = has_any (frames_from from node)
 

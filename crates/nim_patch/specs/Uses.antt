@@ -11,15 +11,19 @@ use Rattle.nim_patch.specs.declared.patch.PatchCopy.{PatchCopy}
 abbrev pub Use : Type 0
 Use = Key × Kept
 
+-- what a patch is kept under: the block of the instance before, and that of the next
 abbrev pub key_of : ℕ → ℕ → Key
 key_of previous next = record { previous = previous; next = next }
 
+-- a use of a patch with these copies, by its key and its number
 abbrev pub use_of : Key → ℕ → List PatchCopy → Use
 use_of key number copies = (key, record { number = number; patch = record { copies = copies } })
 
+-- whether two keys are the same
 abbrev pub same_key : Key → Key → Bool
 same_key a b = (a.previous == b.previous) && (a.next == b.next)
 
+-- whether two copies are the same
 abbrev pub same_copy : PatchCopy → PatchCopy → Bool
 same_copy a b = (a.from.0 == b.from.0) && ((a.to.0 == b.to.0) && (a.object.0 == b.object.0))
 

@@ -47,6 +47,7 @@ abbrev pub receive_of : Versions → ℕ → Worker → Moved → Worker × Comm
 receive_of versions number owner moved =
     (owner, record { id = entry_number number 1 moved.index; kind = Kind.Receive (main_slot moved.object) (latest_of versions moved.object); before = [] })
 
+-- what moves for a task: each Send, and its Receive right behind it
 abbrev pub copies_of : Versions → ℕ → Worker → List Moved → List (Worker × Command)
 copies_of versions number owner moved = flat_map (λ (m : Moved). send_of number owner m ∷ receive_of versions number owner m ∷ []) moved
 

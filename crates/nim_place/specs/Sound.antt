@@ -110,15 +110,17 @@ AreFound job plane (c ∷ cs) =
 
 -- ---- the commands together
 
--- where a Send goes to: the worker, the number of the entry that receives it, and the object; and those of a Receive
+-- where a Send goes to: the worker, the number of the entry that receives it, and the object
 abbrev pub end_sent : Kind → List (Worker × ℕ × Object)
 end_sent (Send slot peer entry) = (peer, entry, object_of slot) ∷ []
 end_sent _ = []
 
+-- where a Receive is: its worker, its number and the object
 abbrev pub end_received : Worker → ℕ → Kind → List (Worker × ℕ × Object)
 end_received worker number (Receive slot version) = (worker, number, object_of slot) ∷ []
 end_received worker number _ = []
 
+-- whether two of them are the same
 abbrev pub is_end : Worker × ℕ × Object → Worker × ℕ × Object → Bool
 is_end first second = (first.0.0 == second.0.0) && (first.1 == second.1) && (first.2.0 == second.2.0)
 

@@ -26,6 +26,7 @@ pub record Key : Type 0 where
   pub object : Object
   pub version : ℕ
 
+-- whether two keys are the same
 abbrev pub is_key : Key → Key → Bool
 is_key first second =
     (first.epoch == second.epoch) && (first.instance == second.instance) && (first.entry == second.entry)

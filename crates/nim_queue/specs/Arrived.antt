@@ -72,5 +72,6 @@ HaveArrived kept used first past [] = Unit {0}
 HaveArrived kept used first past (a ∷ rest) =
     HasArrived (sight_of kept used first past) (first + length past) a × HaveArrived kept used first (past ++ a.command ∷ []) rest
 
+-- the commands that have arrived
 abbrev pub commands_of : List Arrival → List Command
 commands_of arrived = map (λ (a : Arrival). a.command) arrived

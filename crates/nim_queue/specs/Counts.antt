@@ -20,10 +20,11 @@ times ticket tickets = length (filter (λ other. ticket == other) tickets)
 abbrev pub IsRising : List ℕ → Type 0
 IsRising tickets = IsNonDecreasingBy (λ ticket. ticket) tickets
 
--- those below a ticket, and the others
+-- the tickets below one
 abbrev pub below : ℕ → List ℕ → List ℕ
 below ticket tickets = filter (λ other. nat_lt other ticket) tickets
 
+-- those that aren't below it
 abbrev pub not_below : ℕ → List ℕ → List ℕ
 not_below ticket tickets = filter (λ other. not (nat_lt other ticket)) tickets
 
@@ -43,10 +44,11 @@ fewer count w = record w { pending = w.pending - count }
 abbrev pub is_free : Option Waiting → Bool
 is_free kept = option_map_or (λ (w : Waiting). w.pending == 0) kept false
 
--- the tickets below a number of those that wait, and of those of them that wait for nothing
+-- the tickets below a number whose commands wait
 abbrev pub kept_ones : (ℕ → Option Waiting) → ℕ → List ℕ
 kept_ones kept n = filter (λ ticket. is_some (kept ticket)) (range_with_len 0 n)
 
+-- those of them that wait for nothing
 abbrev pub free_ones : (ℕ → Option Waiting) → ℕ → List ℕ
 free_ones kept n = filter (λ ticket. is_free (kept ticket)) (range_with_len 0 n)
 
@@ -61,9 +63,10 @@ pub record AreReleased (kept : ℕ → Option Waiting) (released : Tickets) (n :
 abbrev pub AreWithin : {X : Type 0} → (X → List ℕ) → (ℕ → Option X) → ℕ → Type 0
 AreWithin {X} own kept most = (number : ℕ) (x : X) → kept number ≡ Some x → length (own x) ≤ most
 
--- no waiting command has more followers, and no slot more readers
+-- no waiting command has more followers than this
 abbrev pub AreShort : (ℕ → Option Waiting) → ℕ → Type 0
 AreShort = AreWithin (λ (w : Waiting). w.followers)
 
+-- no slot has more readers than this
 abbrev pub AreBrief : (ℕ → Option SlotUse) → ℕ → Type 0
 AreBrief = AreWithin (λ (u : SlotUse). u.readers)

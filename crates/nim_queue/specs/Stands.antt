@@ -74,10 +74,11 @@ abbrev pub does_use_last : (Kind → Slot → Bool) → List Member → ℕ → 
 does_use_last uses members place slot =
     option_map_or (λ (m : Member). uses m.command.kind slot && not (is_written_by (drop (place + 1) members) slot)) (slice_get members place) false
 
--- whether a slot's last writer is the command of a ticket, and whether that is among its readers
+-- whether a slot's last writer is the command of a ticket
 abbrev pub is_writer : ℕ → Option SlotUse → Bool
 is_writer ticket used = option_map_or (λ (u : SlotUse). option_map_or (λ writer. ticket == writer) u.writer false) used false
 
+-- whether the command of a ticket is among a slot's readers
 abbrev pub is_reader : ℕ → Option SlotUse → Bool
 is_reader ticket used = option_map_or (λ (u : SlotUse). is_in ticket u.readers) used false
 

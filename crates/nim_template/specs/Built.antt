@@ -33,6 +33,7 @@ abbrev pub effect_at : Worker × Object → Option ℕ → List (Worker × Slot 
 effect_at slot None = []
 effect_at slot (Some offset) = if offset == 0 then [] else (slot.0, main_slot slot.1, offset_for offset) ∷ []
 
+-- the effect on a main slot, by the offset that it has in the end
 abbrev pub effect_here : Versions → Worker × Object → List (Worker × Slot × ℕ)
 effect_here offsets slot = effect_at slot (held_at offsets slot.0 (main_slot slot.1))
 

@@ -23,6 +23,7 @@ copy_from offsets need None = []
 copy_from offsets need (Some from) =
     record { from = from; to = need.0; object = need.1; offset = offset_for (latest_of offsets need.1) } ∷ []
 
+-- the closing copy that a need asks for, if any
 abbrev pub closing_for : Versions → Worker × Object → List Closing
 closing_for offsets need = copy_from offsets need (closing_from offsets need)
 
@@ -31,6 +32,7 @@ abbrev pub received_from : Versions → Worker × Object → Option Worker → V
 received_from offsets need None = offsets
 received_from offsets need (Some from) = with_offset need.0 need.1 (latest_of offsets need.1) offsets
 
+-- what main slots have behind the closing copy for a need
 abbrev pub closed_for : Versions → Worker × Object → Versions
 closed_for offsets need = received_from offsets need (closing_from offsets need)
 
@@ -47,9 +49,11 @@ after_closings offsets needs = fold closed_for offsets needs
 abbrev pub closing_number : ℕ → ℕ
 closing_number copy = min (65536 + copy) (2 ^ 32 - 1)
 
+-- the entry that sends a closing copy, by the copy's number
 abbrev pub closing_send : ℕ → Closing → Worker × Entry
 closing_send copy c = (c.from, entry_of (closing_number copy) (EntryKind.Send (main_slot c.object) c.to (closing_number copy)))
 
+-- the entry that receives it
 abbrev pub closing_receive : ℕ → Closing → Worker × Entry
 closing_receive copy c = (c.to, entry_of (closing_number copy) (EntryKind.Receive (main_slot c.object) c.offset))
 

@@ -9,6 +9,7 @@ use Rattle.nim_place.specs.Schedule.{scheduled}
 use Rattle.nim_place.specs.Versions.{Versions, after_commands, no_versions, version_of}
 use Rattle.nim_template.specs.Again.{IsBefore}
 
+-- Maps of versions stay before the positions that their commands reach.
 pub record MapsStayBefore : Type 0 where
   -- a new map is before each position
   pub new : (workers objects base : ℕ) → base < 2 ^ 64 → IsBefore workers objects base (no_versions workers objects)

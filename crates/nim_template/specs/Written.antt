@@ -27,8 +27,10 @@ abbrev pub item_of : Worker × Object → Option ℕ → List (Worker × Slot ×
 item_of slot None = []
 item_of slot (Some offset) = (slot.0, main_slot slot.1, offset) ∷ []
 
+-- the item of a main slot, by what the half of its worker wrote last
 abbrev pub item_for : List (List Entry) → Worker × Object → List (Worker × Slot × ℕ)
 item_for halves slot = item_of slot (last_written (slice_index_or halves slot.0.0 []) (main_slot slot.1))
 
+-- A template's effect is what its halves write last, over the main slots of so many workers and objects.
 abbrev pub HasEffect : ℕ → ℕ → WorkerTemplate → Type 0
 HasEffect workers objects template = template.effect ≡ flat_map (item_for template.halves) (all_slots workers objects)

@@ -47,6 +47,7 @@ pub record Outside : Type 0 where
   pub written : Option (List ℕ)
   pub write_faults : ℕ
 
+-- the outside with these four
 abbrev pub outside : Option (List (List ℕ × List ℕ)) → ℕ → Option (List ℕ) → ℕ → Outside
 outside told read_faults written write_faults =
     record { told = told; read_faults = read_faults; written = written; write_faults = write_faults }

@@ -61,11 +61,12 @@ IsUnread old new _ = ⊥
 
 -- ---- what is read
 
--- the fault of a driver or its data, and that of a schedule
+-- the fault of a driver or its data
 abbrev pub of_read : ReadFault → InputFault
 of_read (read_fault.At input refusal) = fault.At (file_of input) refusal
 of_read read_fault.NoMemory = fault.NoMemory
 
+-- the fault of a schedule
 abbrev pub of_schedule : ScheduleFault → InputFault
 of_schedule (schedule_fault.Refused refusal) = fault.At Schedule refusal
 of_schedule schedule_fault.NoMemory = fault.NoMemory
@@ -133,5 +134,6 @@ abbrev pub LeavesIf : Bool → Plan → Setup → ℕ → Option Cluster → Opt
 LeavesIf true plan setup status old new = IsSomeAnd new (IsRunOf plan.job plan.schedule.items setup status)
 LeavesIf false plan setup status old new = new ≡ old
 
+-- what is kept, by the status: a plan was followed where the job has run
 abbrev pub Leaves : Plan → Setup → ℕ → Option Cluster → Option Cluster → Type 0
 Leaves plan setup status old new = LeavesIf (has_run status) plan setup status old new

@@ -25,6 +25,7 @@ pub record Texts : Type 0 where
   pub data_file : List ℕ
   pub schedule : List ℕ
 
+-- these three texts
 abbrev pub texts : List ℕ → List ℕ → List ℕ → Texts
 texts driver data_file schedule = record { driver = driver; data_file = data_file; schedule = schedule }
 
@@ -68,6 +69,7 @@ abbrev pub file_of : Input → InputFile
 file_of input.Driver = Driver
 file_of input.Data = Data
 
+-- what refuses a driver or its data, as the refusal of a file
 abbrev pub of_job : check.FileRefusal → FileRefusal
 of_job refusal = record { file = file_of refusal.input; refusal = refusal.refusal }
 
@@ -81,12 +83,13 @@ refusal_of t =
     option_or (option_map of_job (refused t.driver t.data_file))
     (option_map of_schedule (schedule.refusal_of t.schedule))
 
--- the line that tells a refusal
+-- how the line that tells a refusal names a file
 abbrev pub file_name : InputFile → List ℕ
 file_name Driver = codes "driver"
 file_name Data = codes "data"
 file_name Schedule = codes "schedule"
 
+-- the line that tells which line of which file is refused, and by which rule
 abbrev pub refusal_line : FileRefusal → List ℕ
 refusal_line refusal =
     codes "nimbus: "

@@ -56,6 +56,7 @@ replay_app =
     (option_rule (codes "schedule")))
     (positional_rule (codes "driver"))
 
+-- the words that a command takes
 abbrev pub app_for : Verb → App
 app_for Check = check_app
 app_for Replay = replay_app
@@ -98,13 +99,15 @@ behind words = drop 1 words
 abbrev pub given_as : Text → Verb → List Text → Option Text
 given_as name verb words = first_of name (found verb (behind words))
 
--- the name of the driver's file, of the data file and of the schedule, where the words have one
+-- the name of the driver's file, where the words have one
 abbrev pub driver_given : Verb → List Text → Option Text
 driver_given verb words = given_as (codes "driver") verb words
 
+-- the name of the data file
 abbrev pub data_given : Verb → List Text → Option Text
 data_given verb words = given_as (codes "data") verb words
 
+-- the name of the schedule
 abbrev pub schedule_given : Verb → List Text → Option Text
 schedule_given verb words = given_as (codes "schedule") verb words
 
@@ -151,6 +154,7 @@ setup_said verb words =
     (λ (workers : ℕ). option_map (setup_with workers) (place_said (given_as (codes "place") verb words)))
     (workers_said (given_as (codes "workers") verb words))
 
+-- how a job is run by words in form; else on four workers, cyclic
 abbrev pub setup_of : Verb → List Text → Setup
 setup_of verb words = unwrap_or (setup_said verb words) (setup_with 4 Cyclic)
 

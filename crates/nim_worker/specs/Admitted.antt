@@ -64,6 +64,7 @@ ended_at groups ran place =
 abbrev pub one_less : OpenGroup → OpenGroup
 one_less group = record group { left = group.left - 1 }
 
+-- a group, as long as commands of it are left
 abbrev pub while_left : OpenGroup → Option OpenGroup
 while_left group = if group.left == 0 then None else Some group
 

@@ -18,10 +18,11 @@ use Rattle.nim_worker.specs.Admitted.{IsAdmitted}
 use Rattle.nim_worker.specs.Chains.{AreWorks}
 use Rattle.nim_worker.specs.Works.{Begun, begun_as}
 
--- what works were begun for, by their tickets, and what happens when they are complete, in order
+-- the tickets that works were begun for
 abbrev pub tickets_of : List Work → List ℕ
 tickets_of works = map (λ (w : Work). w.ticket) works
 
+-- what happens when the commands at these places are complete, in order
 abbrev pub completions : List ℕ → List Happening
 completions places = map Completed places
 
@@ -33,6 +34,7 @@ after_completions state places = fold after_happening state (completions places)
 abbrev pub begun_at : List Group → ℕ → List Begun
 begun_at groups place = option_map_or (λ (asked : Asked). begun_as place asked.command.kind ∷ []) (asked_at groups place) []
 
+-- what the works of these commands were begun for, in order
 abbrev pub begun_of : List Group → List ℕ → List Begun
 begun_of groups places = flat_map (begun_at groups) places
 
@@ -77,6 +79,7 @@ abbrev pub IsOut : WorkerCore → Bool → Batch → WorkerState → Type 0
 IsOut core true batch state = IsAtRest core state
 IsOut core false batch state = IsAtWork core batch.works.items state × (core.begun ≡ true → HasRoom batch)
 
+-- A batch may be out: the core is at rest where none is.
 abbrev pub MayBeOut : WorkerCore → Option Batch → WorkerState → Type 0
 MayBeOut core None state = (core.stale ≡ false) × IsAtRest core state
 MayBeOut core (Some batch) state = IsOut core core.stale batch state

@@ -20,6 +20,7 @@ pub record Begun : Type 0 where
   pub ticket : ℕ
   pub kind : Kind
 
+-- what the work of a command is begun for
 abbrev pub begun_as : ℕ → Kind → Begun
 begun_as ticket kind = record { ticket = ticket; kind = kind }
 
@@ -28,20 +29,23 @@ abbrev pub position_of : Kind → Option ℕ
 position_of (Run position func params reads writes) = Some position
 position_of _ = None
 
--- The function that a command applies, and the parameters that it takes, the slots that its inputs are taken from and those
--- that its results go to: nothing where it is no Run, or its counts aren't its function's.
+-- The function that a command applies. This and what follows: nothing where it is no Run, or its counts aren't its
+-- function's.
 abbrev pub func_taken : Kind → Option Func
 func_taken (Run position func params reads writes) = if has_counts func (length params) (length reads) (length writes) then Some func else None
 func_taken _ = None
 
+-- the parameters that it takes
 abbrev pub params_taken : Kind → List ℤ
 params_taken (Run position func params reads writes) = if has_counts func (length params) (length reads) (length writes) then params else []
 params_taken _ = []
 
+-- the slots that its inputs are taken from
 abbrev pub reads_taken : Kind → List Slot
 reads_taken (Run position func params reads writes) = if has_counts func (length params) (length reads) (length writes) then reads else []
 reads_taken _ = []
 
+-- the slots that its results go to
 abbrev pub writes_taken : Kind → List Slot
 writes_taken (Run position func params reads writes) = if has_counts func (length params) (length reads) (length writes) then writes else []
 writes_taken _ = []
