@@ -251,10 +251,6 @@ get_goes job m next p object row cell told whole open_at is telling same =
 output_apart : (var : ℕ) → Ask.Output var ≡ Ask.Limit → ⊥
 output_apart var is = cc
 
--- the variable that is asked for is there
-pub output_allowed : (job : Job) (m : Machine) (p : ℕ) (var : ℕ) → is_whole job ≡ true → IsOpenAt job m p → ask_of m ≡ Ask.Output var → var < length job.vars
-output_allowed job m p var whole open_at is = subst (IsThere job) is (followed job m p (Ask.Output var) whole open_at is (output_apart var)).asks.there
-
 -- the texts of a variable were appended
 pub output_goes : (job : Job) (m next : Machine) (p : ℕ) (var : ℕ) (text : List ℕ) → is_whole job ≡ true → IsOpenAt job m p → ask_of m ≡ Ask.Output var
     → text ≡ output_of job.vars (values_after job p) var → next ≡ appended (after_ask m) text → IsOpenAt job next p
