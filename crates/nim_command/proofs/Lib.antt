@@ -1,3 +1,5 @@
 pub mod ByRule
+pub mod LastUses
 pub mod Lists
+pub mod Rises
 pub mod Walk

@@ -48,3 +48,14 @@ filter_twice {X} p q r both (x ∷ xs) =
 pub filter_all : {X : Type 0} (p : X → Bool) → ((x : X) → p x ≡ true) → (xs : List X) → filter p xs ≡ xs
 filter_all p all [] = refl
 filter_all {X} p all (x ∷ xs) = ap₂ (λ (b : Bool) (rest : List X). if b then x ∷ rest else rest) (all x) (filter_all p all xs)
+
+mixed : (a b c d : Bool) → ((a || b) || (c || d)) ≡ ((a || c) || (b || d))
+mixed true b c d = refl
+mixed false true true d = refl
+mixed false true false d = refl
+mixed false false c d = refl
+
+-- one of two tests
+pub any_or : {X : Type 0} (p q : X → Bool) (xs : List X) → list_any (λ x. p x || q x) xs ≡ (list_any p xs || list_any q xs)
+any_or p q [] = refl
+any_or p q (x ∷ xs) = ap (λ (b : Bool). (p x || q x) || b) (any_or p q xs) ∙ mixed (p x) (q x) (list_any p xs) (list_any q xs)

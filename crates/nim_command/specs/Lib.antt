@@ -5,6 +5,7 @@ pub mod Edits
 pub mod Expansion
 pub mod Free
 pub mod Holds
+pub mod LastUses
 pub mod Numbers
 pub mod Ranks
 pub mod Ruled

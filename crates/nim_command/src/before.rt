@@ -1,9 +1,10 @@
-ghost use Rattle.std.specs.Prelude.{◌≡◌, ℕ, ◌∷◌, [], ◌++◌, List, if◌then◌else◌, map, IfOk, OnOk};
-ghost use Rattle.std.specs.List.{filter};
+ghost use Rattle.std.specs.Prelude.{◌≡◌, [], ◌++◌, map, IfOk, OnOk};
 ghost use Rattle.nim_command.specs.Before as spec;
-ghost use Rattle.nim_command.specs.Free as free_spec;
+ghost use Rattle.nim_command.specs.LastUses as uses_spec;
+ghost use Rattle.nim_command.specs.LastUses.{IsPastOf};
 ghost use Rattle.nim_command.specs.Ruled as ruled;
 
+use crate::last_uses::LastUses;
 use crate::{Command, Entry};
 use nim_base::{NoMemory, Short, Slot};
 use std::alloc::Global;
@@ -56,84 +57,16 @@ impl Waits for Entry {
     }
 }
 
-/// The before set of one that comes behind these: the numbers of those that it has to wait for, in order. Walks down
-/// with the slots that it touches and none passed so far writes.
-pub(crate) fn before_set<T: Waits>(
-    alloc: Global,
-    past: &[T],
-    later: &T,
-) -> Result<Short<u32, 8>, NoMemory>
-    ensures { IfOk result (λ before. before ≡ spec.before_of (map T.footprint past.now) (T.footprint later.now)) }
-{
-    let mut free = Vec::from_slice(alloc, later.reads())?;
-    free.extend_from_slice(later.writes())?;
-    let mut numbers = Vec::new(alloc);
-    let mut at = past.len();
-    while at > 0 {
-        at -= 1;
-        let earlier = &past[at];
-        let waited = is_waited(earlier, free.as_slice(), later);
-        keep_free(&mut free, earlier.writes());
-        push_if(&mut numbers, waited, earlier.number())?;
-    }
-    numbers.reverse();
-    Short::from_slice(alloc, numbers.as_slice())
-}
-
-/// Whether one waits for an earlier one while these slots are free.
-fn is_waited<T: Waits>(earlier: &T, free: &[Slot], later: &T) -> bool
-    ensures { result ≡ free_spec.is_before_free (T.footprint earlier.now) free.now (T.footprint later.now) }
-{
-    has_free(free, earlier.writes()) || has_rewritten(free, later.writes(), earlier.reads())
-}
-
-/// Drops the slots that are written.
-fn keep_free(slots: &mut Vec<Slot>, written: &[Slot])
-    ensures { slots.new.items ≡ free_spec.kept_free written.now slots.old.items }
-{
-    slots.retain(|slot| !is_among(written, *slot));
-}
-
-fn push_if(numbers: &mut Vec<u32>, waited: bool, number: u32) -> Result<(), NoMemory>
-    ensures { OnOk result (numbers.new.items ≡ numbers.old.items ++ (if waited then number ∷ [] else [])) }
-{
-    if waited {
-        numbers.push(number)?;
-    }
-    Ok(())
-}
-
-/// Whether a free slot is one of these.
-fn has_free(free: &[Slot], slots: &[Slot]) -> bool
-    ensures { result ≡ free_spec.has_free free.now slots.now }
-{
-    slots.iter().any(|slot| is_among(free, *slot))
-}
-
-/// Whether a free slot is one of these and is written.
-fn has_rewritten(free: &[Slot], written: &[Slot], slots: &[Slot]) -> bool
-    ensures { result ≡ free_spec.has_rewritten free.now written.now slots.now }
-{
-    slots
-        .iter()
-        .any(|slot| is_among(free, *slot) && is_among(written, *slot))
-}
-
-/// Whether a slot is one of these.
-pub(crate) fn is_among(slots: &[Slot], slot: Slot) -> bool
-    ensures { result ≡ free_spec.is_among slots.now slot }
-{
-    slots.iter().any(|one| one.0 == slot.0)
-}
-
 /// Entries, each with the before set of the rule in place of its own. Their meaning is `entries_by_rule` of
 /// `specs/Ruled.antt`.
 pub fn entries_by_rule(alloc: Global, entries: Vec<Entry>) -> Result<Vec<Entry>, NoMemory>
     ensures { IfOk result (λ all. all.items ≡ ruled.entries_by_rule [] entries.items) }
 {
     let mut done = Vec::new(alloc);
+    let mut uses = LastUses::new(alloc);
     for entry in entries {
-        let before = before_set(alloc, done.as_slice(), &entry)?;
+        let before = before_set(alloc, &uses, done.as_slice(), &entry)?;
+        uses.note(done.len(), &entry)?;
         done.push(entry_with(entry, before))?;
     }
     Ok(done)
@@ -155,8 +88,10 @@ pub(crate) fn commands_by_rule(
     ensures { IfOk result (λ all. all.items ≡ ruled.commands_by_rule [] commands.items) }
 {
     let mut done = Vec::new(alloc);
+    let mut uses = LastUses::new(alloc);
     for command in commands {
-        let before = before_set(alloc, done.as_slice(), &command)?;
+        let before = before_set(alloc, &uses, done.as_slice(), &command)?;
+        uses.note(done.len(), &command)?;
         done.push(command_with(command, before))?;
     }
     Ok(done)
@@ -168,4 +103,48 @@ fn command_with(command: Command, before: Short<u32, 8>) -> Command
 {
     let Command { id, kind, .. } = command;
     Command { id, kind, before }
+}
+
+/// The before set of one that comes behind these, whose last uses these are: the numbers of those that it has to wait
+/// for, in order.
+fn before_set<T: Waits>(
+    alloc: Global,
+    uses: &LastUses,
+    past: &[T],
+    later: &T,
+) -> Result<Short<u32, 8>, NoMemory>
+    requires { IsPastOf uses.now (map T.footprint past.now) }
+    ensures { IfOk result (λ before. before ≡ spec.before_of (map T.footprint past.now) (T.footprint later.now)) }
+{
+    let places = uses.places(later)?;
+    numbers_at(alloc, past, places.as_slice())
+}
+
+/// The numbers of those at these places.
+fn numbers_at<T: Waits>(
+    alloc: Global,
+    all: &[T],
+    places: &[usize],
+) -> Result<Short<u32, 8>, NoMemory>
+    ensures { IfOk result (λ numbers. numbers ≡ uses_spec.numbers_at (map T.footprint all.now) places.now) }
+{
+    let mut numbers = Short::new(alloc);
+    for place in places {
+        push_number(&mut numbers, all, *place)?;
+    }
+    Ok(numbers)
+}
+
+/// The number of the one at this place, where there is one.
+fn push_number<T: Waits>(
+    numbers: &mut Short<u32, 8>,
+    all: &[T],
+    place: usize,
+) -> Result<(), NoMemory>
+    ensures { OnOk result (numbers.new ≡ numbers.old ++ uses_spec.number_at (map T.footprint all.now) place) }
+{
+    if let Some(one) = all.get(place) {
+        numbers.push(one.number())?;
+    }
+    Ok(())
 }

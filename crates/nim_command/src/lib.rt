@@ -9,6 +9,7 @@ mod edited;
 mod entry;
 mod expansion;
 mod half;
+mod last_uses;
 mod moved;
 mod numbers;
 mod rank;
