@@ -3,7 +3,6 @@ pub mod Covered
 pub mod Created
 pub mod Edits
 pub mod Expansion
-pub mod Free
 pub mod Holds
 pub mod LastUses
 pub mod Numbers
