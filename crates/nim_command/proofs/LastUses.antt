@@ -111,7 +111,8 @@ swapped q xs (y ∷ ys) =
     any_same (λ (s : Slot). ((y.0 == s.0) || is_among ys s) && q s) (λ (s : Slot). ((s.0 == y.0) && q y) || (is_among ys s && q s))
     (λ s. spread (y.0 == s.0) (is_among ys s) (q s)
     ∙ ap (λ (b : Bool). b || (is_among ys s && q s))
-    (guarded (y.0 == s.0) (q s) (q y) (λ is. ap q (sym (same_slot y s is))) ∙ ap (λ (b : Bool). b && q y) (both_ways y.0 s.0 (y.0 == s.0) (s.0 == y.0) refl refl)))
+    (guarded (y.0 == s.0) (q s) (q y) (λ is. ap q (sym (same_slot y s is)))
+    ∙ ap (λ (b : Bool). b && q y) (both_ways y.0 s.0 (y.0 == s.0) (s.0 == y.0) refl refl)))
     xs
     ∙ any_or (λ (s : Slot). (s.0 == y.0) && q y) (λ (s : Slot). is_among ys s && q s) xs
     ∙ ap₂ (λ (a b : Bool). a || b) (any_and (λ (s : Slot). s.0 == y.0) (q y) xs) (swapped q xs ys)
@@ -126,12 +127,14 @@ last_of : (used : Footprint → List Slot) (from : ℕ) (f : Footprint) (fs : Li
     ≡ ((p == from && list_any (λ (s : Slot). is_among xs s && not (is_rewritten fs s)) (used f)) || list_any (λ slot. is_last used (suc from) fs slot p) xs)
 last_of used from f fs p xs =
     any_guarded (p == from) (λ (s : Slot). is_among (used f) s && not (is_rewritten fs s)) (λ (s : Slot). is_last used (suc from) fs s p) xs
-    ∙ ap (λ (b : Bool). (p == from && b) || list_any (λ (s : Slot). is_last used (suc from) fs s p) xs) (swapped (λ (s : Slot). not (is_rewritten fs s)) xs (used f))
+    ∙ ap (λ (b : Bool). (p == from && b) || list_any (λ (s : Slot). is_last used (suc from) fs s p) xs)
+    (swapped (λ (s : Slot). not (is_rewritten fs s)) xs (used f))
 
 -- the rule, for what the later one reads and what it writes
 before_split : (f : Footprint) (fs : List Footprint) (later : Footprint)
     → is_before f fs later
-    ≡ ((list_any (λ (s : Slot). is_among later.reads s && not (is_rewritten fs s)) f.writes || list_any (λ (s : Slot). is_among later.writes s && not (is_rewritten fs s)) f.writes)
+    ≡ ((list_any (λ (s : Slot). is_among later.reads s && not (is_rewritten fs s)) f.writes
+    || list_any (λ (s : Slot). is_among later.writes s && not (is_rewritten fs s)) f.writes)
     || list_any (λ (s : Slot). is_among later.writes s && not (is_rewritten fs s)) f.reads)
 before_split f fs later =
     ap (λ (b : Bool). b || list_any (λ (s : Slot). is_among later.writes s && not (is_rewritten fs s)) f.reads)
@@ -153,7 +156,8 @@ gathered true false false false a' b' c' = refl
 -- one waits for another by the rule where it touches a slot that the other wrote last, or writes one that it read since
 waited_split : (from : ℕ) (past : List Footprint) (later : Footprint) (p : ℕ)
     → is_waited from past later p
-    ≡ ((list_any (λ slot. is_last (λ (f : Footprint). f.writes) from past slot p) later.reads || list_any (λ slot. is_last (λ (f : Footprint). f.writes) from past slot p) later.writes)
+    ≡ ((list_any (λ slot. is_last (λ (f : Footprint). f.writes) from past slot p) later.reads
+    || list_any (λ slot. is_last (λ (f : Footprint). f.writes) from past slot p) later.writes)
     || list_any (λ slot. is_last (λ (f : Footprint). f.reads) from past slot p) later.writes)
 waited_split from [] later p =
     let none : (xs : List Slot) → false ≡ list_any (λ (s : Slot). false) xs = λ xs. sym (any_nothing (λ (s : Slot). false) (λ s. refl) xs) in
@@ -170,7 +174,8 @@ waited_split from (f ∷ fs) later p =
     (list_any (λ (s : Slot). is_last wrote (suc from) fs s p) later.reads)
     (list_any (λ (s : Slot). is_last wrote (suc from) fs s p) later.writes)
     (list_any (λ (s : Slot). is_last read (suc from) fs s p) later.writes)
-    ∙ sym (ap₂ (λ (a b : Bool). a || b) (ap₂ (λ (a b : Bool). a || b) (last_of wrote from f fs p later.reads) (last_of wrote from f fs p later.writes)) (last_of read from f fs p later.writes))
+    ∙ sym (ap₂ (λ (a b : Bool). a || b) (ap₂ (λ (a b : Bool). a || b) (last_of wrote from f fs p later.reads) (last_of wrote from f fs p later.writes))
+    (last_of read from f fs p later.writes))
 
 -- what the last uses tell of a later one is the rule
 pub met_waited : (uses : LastUses) (past : List Footprint) (later : Footprint) (p : ℕ) → IsPastOf uses past → is_met uses later p ≡ is_waited 0 past later p
@@ -180,7 +185,8 @@ met_waited uses past later p of =
     (any_same (λ (s : Slot). is_in p (readers_of uses s)) (λ (s : Slot). is_last (λ (f : Footprint). f.reads) 0 past s p) (λ s. of.since s p) later.writes)
     ∙ sym (waited_split 0 past later p)
   where
-    wrote : (xs : List Slot) → list_any (λ (s : Slot). is_writer p (writer_of uses s)) xs ≡ list_any (λ (s : Slot). is_last (λ (f : Footprint). f.writes) 0 past s p) xs
+    wrote : (xs : List Slot) → list_any (λ (s : Slot). is_writer p (writer_of uses s)) xs
+        ≡ list_any (λ (s : Slot). is_last (λ (f : Footprint). f.writes) 0 past s p) xs
     wrote xs = any_same (λ (s : Slot). is_writer p (writer_of uses s)) (λ (s : Slot). is_last (λ (f : Footprint). f.writes) 0 past s p) (λ s. of.writers s p) xs
 
 -- the last uses of a list, behind which one comes that uses the same slots as another

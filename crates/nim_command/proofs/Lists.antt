@@ -34,7 +34,8 @@ pub any_and : {X : Type 0} (p : X → Bool) (b : Bool) (xs : List X) → list_an
 any_and {X} p true xs = any_same (λ (x : X). p x && true) p (λ x. and_true (p x)) xs ∙ sym (and_true (list_any p xs))
 any_and {X} p false xs = any_nothing (λ (x : X). p x && false) (λ x. and_false (p x)) xs ∙ sym (and_false (list_any p xs))
 
-kept_twice : {X : Type 0} (p : X → Bool) (x : X) (rest : List X) (q : Bool) → filter p (if q then x ∷ rest else rest) ≡ (if q && p x then x ∷ filter p rest else filter p rest)
+kept_twice : {X : Type 0} (p : X → Bool) (x : X) (rest : List X) (q : Bool)
+    → filter p (if q then x ∷ rest else rest) ≡ (if q && p x then x ∷ filter p rest else filter p rest)
 kept_twice p x rest true = refl
 kept_twice p x rest false = refl
 

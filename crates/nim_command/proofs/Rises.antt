@@ -57,7 +57,8 @@ below_in from (x ∷ xs) p up less =
 below_waited : (from : ℕ) (past : List Footprint) (later : Footprint) (p : ℕ) → p < from → is_waited from past later p ≡ false
 below_waited from [] later p less = refl
 below_waited from (f ∷ fs) later p less =
-    ap₂ (λ (a b : Bool). (a && is_before f fs later) || b) (ne_eqb p from (λ is. omega (arith, is, less))) (below_waited (suc from) fs later p (omega (arith, less)))
+    ap₂ (λ (a b : Bool). (a && is_before f fs later) || b) (ne_eqb p from (λ is. omega (arith, is, less)))
+    (below_waited (suc from) fs later p (omega (arith, less)))
 
 -- the numbers of a list, from a place on
 abbrev Names : (ℕ → List ℕ) → ℕ → List Footprint → Type 0

@@ -26,7 +26,8 @@ swapped false false second eq = refl
 pub among_filter : (f : Slot → Bool) (xs : List Slot) (s : Slot) → is_among (filter f xs) s ≡ (is_among xs s && f s)
 among_filter f xs s =
     any_filter (λ (x : Slot). x.0 == s.0) f xs
-    ∙ any_same (λ (x : Slot). f x && (x.0 == s.0)) (λ (x : Slot). (x.0 == s.0) && f s) (λ x. swapped (x.0 == s.0) (f x) (f s) (λ test. ap f (same_slot x s test))) xs
+    ∙ any_same (λ (x : Slot). f x && (x.0 == s.0)) (λ (x : Slot). (x.0 == s.0) && f s)
+    (λ x. swapped (x.0 == s.0) (f x) (f s) (λ test. ap f (same_slot x s test))) xs
     ∙ any_and (λ (x : Slot). x.0 == s.0) (f s) xs
 
 pub rewritten : (r w f : Bool) → (((r || w) && f) && w) ≡ (w && f)

@@ -23,13 +23,15 @@ is_rewritten between slot = list_any (λ (f : Footprint). is_among f.writes slot
 -- between them writes this slot.
 abbrev pub is_before : Footprint → List Footprint → Footprint → Bool
 is_before earlier between later =
-    list_any (λ slot. (is_among later.reads slot || is_among later.writes slot) && not (is_rewritten between slot)) earlier.writes
+    list_any (λ slot. (is_among later.reads slot || is_among later.writes slot) && not (is_rewritten between slot))
+    earlier.writes
     || list_any (λ slot. is_among later.writes slot && not (is_rewritten between slot)) earlier.reads
 
 -- the before set of one that comes behind these: the numbers of those that it has to wait for, in order
 abbrev pub before_of : List Footprint → Footprint → List ℕ
 before_of [] later = []
-before_of (first ∷ rest) later = if is_before first rest later then first.number ∷ before_of rest later else before_of rest later
+before_of (first ∷ rest) later =
+    if is_before first rest later then first.number ∷ before_of rest later else before_of rest later
 
 -- the before sets of a list, behind others
 abbrev pub befores_behind : List Footprint → List Footprint → List (List ℕ)

@@ -33,13 +33,15 @@ entry_of number kind = record { id = number; kind = kind; before = [] }
 -- at the home, what the new owner lacks is sent there
 abbrev pub forward_send : ℕ → Worker → FirstRead → Entry
 forward_send task to read =
-    entry_of (entry_number task 2 read.index) (EntryKind.Send (main_slot read.object) to (entry_number task 3 read.index))
+    entry_of (entry_number task 2 read.index) (EntryKind.Send (main_slot read.object) to
+    (entry_number task 3 read.index))
 
 -- at the new owner, what a read needs is received into its scratch slot, or copied there
 abbrev pub forward_receive : ℕ → FirstRead → Entry
 forward_receive task read =
     entry_of (entry_number task 3 read.index)
-    (if read.there then EntryKind.Copy (main_slot read.object) (scratch_slot read.object) else EntryKind.Receive (scratch_slot read.object) read.offset)
+    (if read.there then EntryKind.Copy (main_slot read.object) (scratch_slot read.object)
+    else EntryKind.Receive (scratch_slot read.object) read.offset)
 
 -- the scratch slot of an object, or its main slot
 abbrev pub slot_for : Bool → Object → Slot
@@ -56,26 +58,31 @@ written_slots scratch objects = map (slot_for scratch) objects
 -- the run, over scratch slots or over main slots
 abbrev pub run_over : Bool → ℕ → Spec → Entry
 run_over scratch task spec =
-    entry_of (entry_number task 4 0) (EntryKind.Run spec.func spec.params (read_slots scratch spec.reads) (written_slots scratch spec.writes))
+    entry_of (entry_number task 4 0) (EntryKind.Run spec.func spec.params (read_slots scratch spec.reads)
+    (written_slots scratch spec.writes))
 
 -- at the new owner, what the task wrote is sent to the home
 abbrev pub return_sends : ℕ → Worker → ℕ → List Object → List Entry
 return_sends task home index [] = []
 return_sends task home index (object ∷ objects) =
-    entry_of (entry_number task 5 index) (EntryKind.Send (scratch_slot object) home (entry_number task 6 index)) ∷ return_sends task home (index + 1) objects
+    entry_of (entry_number task 5 index) (EntryKind.Send (scratch_slot object) home (entry_number task 6 index))
+    ∷ return_sends task home (index + 1) objects
 
 -- at the home, it is received into the main slots
 abbrev pub return_receives : ℕ → ℕ → List Object → List Entry
 return_receives task index [] = []
 return_receives task index (object ∷ objects) =
-    entry_of (entry_number task 6 index) (EntryKind.Receive (main_slot object) (offset_after task)) ∷ return_receives task (index + 1) objects
+    entry_of (entry_number task 6 index) (EntryKind.Receive (main_slot object) (offset_after task))
+    ∷ return_receives task (index + 1) objects
 
 -- the entries that an edit puts
 abbrev pub put_by : Edit → List Entry
 put_by (Away task to mask spec) =
-    map (forward_send task to) (filter (λ (r : FirstRead). not r.there) (first_reads [] mask spec.reads)) ++ return_receives task 0 spec.writes
+    map (forward_send task to) (filter (λ (r : FirstRead). not r.there) (first_reads [] mask spec.reads))
+    ++ return_receives task 0 spec.writes
 put_by (Here task from mask spec) =
-    map (forward_receive task) (first_reads [] mask spec.reads) ++ run_over true task spec ∷ return_sends task from 0 spec.writes
+    map (forward_receive task) (first_reads [] mask spec.reads) ++ run_over true task spec
+    ∷ return_sends task from 0 spec.writes
 put_by (Gone task) = []
 put_by (Home task spec) = run_over false task spec ∷ []
 

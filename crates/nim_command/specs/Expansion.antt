@@ -38,19 +38,22 @@ taken_after taken kind = if takes_version kind then taken + 1 else taken
 
 -- the command of an entry
 abbrev pub command_for : ℕ → List ℤ → ℕ → Entry → Command
-command_for base args named entry = record { id = entry.id; kind = kind_for base args named entry.id entry.kind; before = entry.before }
+command_for base args named entry =
+    record { id = entry.id; kind = kind_for base args named entry.id entry.kind; before = entry.before }
 
 -- The commands of entries once so many versions are taken: with the position of the block's task 0, the arguments,
 -- and the versions that the order names. A missing version is 0.
 abbrev pub expanded : ℕ → List ℤ → List ℕ → ℕ → List Entry → List Command
 expanded base args versions taken [] = []
 expanded base args versions taken (entry ∷ entries) =
-    command_for base args (slice_index_or versions taken 0) entry ∷ expanded base args versions (taken_after taken entry.kind) entries
+    command_for base args (slice_index_or versions taken 0) entry
+    ∷ expanded base args versions (taken_after taken entry.kind) entries
 
 -- what one end of a copy does, with the version that the order names for it
 abbrev pub part_kind : ℕ → PatchPart → Kind
 part_kind named part =
-    if part.receives then Kind.Receive (main_slot part.object) named else Kind.Send (main_slot part.object) part.peer (patch_number part.number)
+    if part.receives then Kind.Receive (main_slot part.object) named
+    else Kind.Send (main_slot part.object) part.peer (patch_number part.number)
 
 -- how many versions are taken once a copy has its own
 abbrev pub taken_past : ℕ → PatchPart → ℕ

@@ -39,4 +39,5 @@ left_by (Fetch slot ticket) before = before
 abbrev pub holds : List Command → ℕ → Slot → Content
 holds commands zero slot = None
 holds commands (suc place) slot =
-    option_map_or (λ (c : Command). left_by c.kind (holds commands place) slot) (slice_get commands place) (holds commands place slot)
+    option_map_or (λ (c : Command). left_by c.kind (holds commands place) slot) (slice_get commands place)
+    (holds commands place slot)

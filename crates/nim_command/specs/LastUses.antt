@@ -21,7 +21,8 @@ is_writer place writer = option_map_or (λ other. place == other) writer false
 abbrev pub is_last : (Footprint → List Slot) → ℕ → List Footprint → Slot → ℕ → Bool
 is_last used from [] slot place = false
 is_last used from (next ∷ rest) slot place =
-    (place == from && (is_among (used next) slot && not (is_rewritten rest slot))) || is_last used (suc from) rest slot place
+    (place == from && (is_among (used next) slot && not (is_rewritten rest slot)))
+    || is_last used (suc from) rest slot place
 
 -- whether the one at a place of a list writes the slot, and none behind it does
 abbrev pub is_last_writer : List Footprint → Slot → ℕ → Bool

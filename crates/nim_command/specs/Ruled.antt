@@ -13,10 +13,12 @@ entry_footprint entry = record { number = entry.id; reads = entry_reads entry.ki
 abbrev pub entries_by_rule : List Footprint → List Entry → List Entry
 entries_by_rule past [] = []
 entries_by_rule past (entry ∷ entries) =
-    record entry { before = before_of past (entry_footprint entry) } ∷ entries_by_rule (past ++ entry_footprint entry ∷ []) entries
+    record entry { before = before_of past (entry_footprint entry) }
+    ∷ entries_by_rule (past ++ entry_footprint entry ∷ []) entries
 
 -- the same of commands
 abbrev pub commands_by_rule : List Footprint → List Command → List Command
 commands_by_rule past [] = []
 commands_by_rule past (command ∷ commands) =
-    record command { before = before_of past (footprint_of command) } ∷ commands_by_rule (past ++ footprint_of command ∷ []) commands
+    record command { before = before_of past (footprint_of command) }
+    ∷ commands_by_rule (past ++ footprint_of command ∷ []) commands

@@ -21,7 +21,8 @@ pub record Group : Type 0 where
 
 -- what a Single stands for
 abbrev pub single_group : ℕ → ℕ → List Command → Group
-single_group epoch instance commands = record { epoch = epoch; instance = instance; source = FromSingle; commands = commands }
+single_group epoch instance commands =
+    record { epoch = epoch; instance = instance; source = FromSingle; commands = commands }
 
 -- a command, and which of the groups it is of
 pub record Member : Type 0 where
@@ -50,8 +51,10 @@ is_written_by members slot = list_any (λ (m : Member). does_write m.command.kin
 -- command between them writes this slot.
 abbrev pub is_border : Member → List Member → Member → Bool
 is_border earlier between later =
-    list_any (λ slot. does_touch later.command.kind slot && not (is_written_by between slot)) (writes_of earlier.command.kind)
-    || list_any (λ slot. does_write later.command.kind slot && not (is_written_by between slot)) (reads_of earlier.command.kind)
+    list_any (λ slot. does_touch later.command.kind slot && not (is_written_by between slot))
+    (writes_of earlier.command.kind)
+    || list_any (λ slot. does_write later.command.kind slot && not (is_written_by between slot))
+    (reads_of earlier.command.kind)
 
 -- Whether a command waits for an earlier one: in its own group where it names its number, else where they border.
 abbrev pub is_waited : Member → List Member → Member → Bool
@@ -63,7 +66,8 @@ is_waited earlier between later =
 abbrev pub waits_for : List Member → ℕ → ℕ → Bool
 waits_for members later earlier =
     option_map_or
-    (λ (l : Member). option_map_or (λ (e : Member). is_waited e (slice_range members (earlier + 1) later) l) (slice_get members earlier) false)
+    (λ (l : Member). option_map_or (λ (e : Member). is_waited e (slice_range members (earlier + 1) later) l)
+    (slice_get members earlier) false)
     (slice_get members later)
     false
 

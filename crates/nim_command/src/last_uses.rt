@@ -151,7 +151,8 @@ fn push_writer(
     writers: &HashMap<u16, usize>,
     slot: Slot,
 ) -> Result<(), NoMemory>
-    ensures { OnOk result ((p : ℕ) → is_in p places.new.items ≡ (is_in p places.old.items || is_writer p (get nat_eq writers.now slot.0))) }
+    ensures { OnOk result ((p : ℕ) → is_in p places.new.items
+        ≡ (is_in p places.old.items || is_writer p (get nat_eq writers.now slot.0))) }
 {
     if let Some(writer) = writers.get(&slot.0) {
         places.push(*writer)?;

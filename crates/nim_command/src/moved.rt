@@ -52,7 +52,9 @@ fn away(
     mask: u8,
     moved: &Spec,
 ) -> Result<Vec<Entry>, NoMemory>
-    ensures { IfOk result (λ entries. entries.items ≡ map (spec.forward_send task to) (filter (λ (r : read_type). not r.there) (spec.first_reads [] mask moved.now.reads))
+    ensures { IfOk result (λ entries. entries.items
+        ≡ map (spec.forward_send task to) (filter (λ (r : read_type). not r.there)
+        (spec.first_reads [] mask moved.now.reads))
         ++ spec.return_receives task 0 moved.now.writes) }
 {
     let reads = first_reads(alloc, moved.reads.as_slice(), mask)?;
@@ -70,7 +72,9 @@ fn here(
     mask: u8,
     moved: &Spec,
 ) -> Result<Vec<Entry>, NoMemory>
-    ensures { IfOk result (λ entries. entries.items ≡ map (spec.forward_receive task) (spec.first_reads [] mask moved.now.reads) ++ spec.run_over true task moved.now ∷ spec.return_sends task from 0 moved.now.writes) }
+    ensures { IfOk result (λ entries. entries.items
+        ≡ map (spec.forward_receive task) (spec.first_reads [] mask moved.now.reads)
+        ++ spec.run_over true task moved.now ∷ spec.return_sends task from 0 moved.now.writes) }
 {
     let reads = first_reads(alloc, moved.reads.as_slice(), mask)?;
     let mut entries = forward_receives(alloc, task, reads.as_slice())?;
@@ -112,7 +116,8 @@ fn forward_sends(
     to: Worker,
     reads: &[FirstRead],
 ) -> Result<Vec<Entry>, NoMemory>
-    ensures { IfOk result (λ entries. entries.items ≡ map (spec.forward_send task to) (filter (λ (r : read_type). not r.there) reads.now)) }
+    ensures { IfOk result (λ entries. entries.items
+        ≡ map (spec.forward_send task to) (filter (λ (r : read_type). not r.there) reads.now)) }
 {
     let sends = reads
         .iter()

@@ -65,7 +65,8 @@ entry_bytes entry = 5 + entry_kind_bytes entry.kind + list_bytes 2 4 (length ent
 
 -- a moved task: function, parameters, the objects that it reads with their offsets, and those that it writes
 abbrev pub spec_bytes : Spec → ℕ
-spec_bytes spec = 1 + params_bytes spec.params + list_bytes 1 4 (length spec.reads) + list_bytes 1 2 (length spec.writes)
+spec_bytes spec =
+    1 + params_bytes spec.params + list_bytes 1 4 (length spec.reads) + list_bytes 1 2 (length spec.writes)
 
 -- kind, task, and where the edit has them a worker, a mask and the moved task
 abbrev pub edit_bytes : Edit → ℕ

@@ -31,7 +31,8 @@ with_list number list lists = λ other. if other == number then list else lists 
 
 -- after a Reset
 abbrev pub new_session : ℕ → List Shape → Session
-new_session epoch shapes = record { begun = true; epoch = epoch; shapes = shapes; halves = none_yet; patches = none_yet; groups = [] }
+new_session epoch shapes =
+    record { begun = true; epoch = epoch; shapes = shapes; halves = none_yet; patches = none_yet; groups = [] }
 
 -- before the first Reset
 abbrev pub no_session : Session
@@ -56,7 +57,13 @@ with_patch session patch copies = record session { patches = with_list patch cop
 -- what an instance of a block with this half stands for
 abbrev pub instance_group : ℕ → ℕ → ℕ → List ℤ → List ℕ → List Entry → Group
 instance_group epoch instance base args versions half =
-    record { epoch = epoch; instance = instance; source = FromInstance base; commands = expanded base args versions 0 half }
+    record {
+      epoch = epoch;
+      instance = instance;
+      source = FromInstance base;
+      commands =
+          expanded base args versions 0 half;
+    }
 
 -- what a run of a patch with these copies stands for
 abbrev pub patch_group : ℕ → ℕ → List ℕ → List PatchPart → Group
@@ -85,7 +92,8 @@ counted session (Instantiate epoch instance block base args versions edits) =
     let half : List Entry = edited_by edits (session.halves block) in
     with_group (with_half session block half) (instance_group epoch instance base args versions half)
 counted session (InstallPatch epoch patch copies) = with_patch session patch copies
-counted session (RunPatch epoch instance patch versions) = with_group session (patch_group epoch instance versions (session.patches patch))
+counted session (RunPatch epoch instance patch versions) =
+    with_group session (patch_group epoch instance versions (session.patches patch))
 counted session (Reset epoch worker workers shapes) = session
 counted session Stop = session
 

@@ -77,7 +77,8 @@ is_entry_kind (EntryKind.Send slot peer entry) = is_slot slot && is_worker peer
 is_entry_kind (EntryKind.Receive slot offset) = is_slot slot && nat_le offset 1024
 is_entry_kind (EntryKind.Copy from to) = is_slot from && is_slot to
 is_entry_kind (EntryKind.Run func params reads writes) =
-    has_counts func (length params) (length reads) (length writes) && list_all is_param params && list_all is_slot reads && list_all is_slot writes
+    has_counts func (length params) (length reads) (length writes) && list_all is_param params && list_all is_slot reads
+    && list_all is_slot writes
 
 -- an entry's fields are in range, and a count can say the length of its before set
 abbrev pub is_entry : Entry → Bool
@@ -119,10 +120,13 @@ is_patch patch = nat_lt patch 64
 -- the fields of an order; a count of entries has 32 bits
 abbrev pub is_order : ToWorker → Bool
 is_order (ToWorker.Single epoch instance commands) = is_counted (length commands) && list_all is_command commands
-is_order (ToWorker.InstallTemplate epoch block entries) = is_block block && nat_lt (length entries) 4294967296 && list_all is_entry entries
+is_order (ToWorker.InstallTemplate epoch block entries) =
+    is_block block && nat_lt (length entries) 4294967296 && list_all is_entry entries
 is_order (ToWorker.Instantiate epoch instance block base args versions edits) =
-    is_block block && nat_le (length args) 8 && is_counted (length versions) && nat_le (length edits) 4 && list_all is_edit edits
-is_order (ToWorker.InstallPatch epoch patch copies) = is_patch patch && nat_le (length copies) 8191 && list_all is_part copies
+    is_block block && nat_le (length args) 8 && is_counted (length versions) && nat_le (length edits) 4
+    && list_all is_edit edits
+is_order (ToWorker.InstallPatch epoch patch copies) =
+    is_patch patch && nat_le (length copies) 8191 && list_all is_part copies
 is_order (ToWorker.RunPatch epoch instance patch versions) = is_patch patch && is_counted (length versions)
 is_order (ToWorker.Reset epoch worker workers shapes) =
     is_worker worker && nat_le 1 workers && nat_le workers 16 && is_counted (length shapes) && list_all is_shape shapes

@@ -37,7 +37,8 @@ closed_longer commands more done none closed place complete =
       | inr past ↦ absurd (both_ways (done place) (none place past) complete)
     ]
 
-pub released_longer : (commands more : List Command) (done : ℕ → Bool) (place : ℕ) → IsReleasedAt commands done place → IsReleasedAt (commands ++ more) done place
+pub released_longer : (commands more : List Command) (done : ℕ → Bool) (place : ℕ) → IsReleasedAt commands done place
+    → IsReleasedAt (commands ++ more) done place
 released_longer commands more done place released = record {
   within = omega (arith, released.within, length-append commands more);
   waiting = released.waiting;

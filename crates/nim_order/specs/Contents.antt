@@ -12,14 +12,16 @@ Leave X = Command → (Slot → X) → Slot → X
 -- A command leaves all slots as they were but those that it writes, and what it leaves in these depends on nothing but
 -- the slots that it touches.
 pub record IsLocal {X : Type 0} (leave : Leave X) : Type 0 where
-  pub keeps : (command : Command) (before : Slot → X) (slot : Slot) → does_write command.kind slot ≡ false → leave command before slot ≡ before slot
+  pub keeps : (command : Command) (before : Slot → X) (slot : Slot) → does_write command.kind slot ≡ false
+      → leave command before slot ≡ before slot
   pub depends : (command : Command) (first second : Slot → X)
       → ((touched : Slot) → does_touch command.kind touched ≡ true → first touched ≡ second touched)
       → (slot : Slot) → does_write command.kind slot ≡ true → leave command first slot ≡ leave command second slot
 
 -- what the command at a place leaves, if there is one
 abbrev pub left_at : {X : Type 0} → Leave X → List Command → ℕ → (Slot → X) → Slot → X
-left_at {X} leave commands place before = option_map_or (λ (c : Command). leave c before) (slice_get commands place) before
+left_at {X} leave commands place before =
+    option_map_or (λ (c : Command). leave c before) (slice_get commands place) before
 
 -- what the slots hold before a place, when commands run in the order of their list from what the slots hold at first
 abbrev pub held_before : {X : Type 0} → Leave X → (Slot → X) → List Command → ℕ → Slot → X

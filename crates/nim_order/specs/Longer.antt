@@ -8,9 +8,11 @@ use Rattle.nim_order.specs.Contents.{Leave, held_before}
 use Rattle.nim_order.specs.Progress.{IsClosed, IsReleasedAt, held_when}
 
 -- Commands come behind, none of which is complete: all stands that stood.
-pub record LongerStands {X : Type 0} (leave : Leave X) (start : Slot → X) (commands more : List Command) (done : ℕ → Bool) : Type 0 where
+pub record LongerStands {X : Type 0} (leave : Leave X) (start : Slot → X) (commands more : List Command)
+    (done : ℕ → Bool) : Type 0 where
   -- the slots hold the same
-  pub held : (slot : Slot) → held_when leave start (commands ++ more) done slot ≡ held_when leave start commands done slot
+  pub held : (slot : Slot) → held_when leave start (commands ++ more) done slot
+      ≡ held_when leave start commands done slot
   -- also before each place of the list as it was
   pub before : (place : ℕ) (slot : Slot) → place ≤ length commands
       → held_before leave start (commands ++ more) place slot ≡ held_before leave start commands place slot
@@ -33,4 +35,5 @@ FrontIsCovered = (commands more : List Command) → is_covered (commands ++ more
 abbrev pub FrontStays : Type 0
 FrontStays =
     (groups more : List Group)
-    → placed_commands (groups ++ more) ≡ placed_commands groups ++ drop (length (placed_commands groups)) (placed_commands (groups ++ more))
+    → placed_commands (groups ++ more) ≡ placed_commands groups
+    ++ drop (length (placed_commands groups)) (placed_commands (groups ++ more))

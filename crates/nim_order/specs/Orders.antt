@@ -21,4 +21,5 @@ IsOrderByRule _ = Unit {0}
 
 -- Whatever the orders: where their before sets are those of the rule, what they come to is covered.
 abbrev pub OrdersCover : Type 0
-OrdersCover = (orders : List ToWorker) → All IsOrderByRule orders → is_covered (placed_commands (session_of orders).groups) ≡ true
+OrdersCover = (orders : List ToWorker) → All IsOrderByRule orders
+    → is_covered (placed_commands (session_of orders).groups) ≡ true

@@ -10,7 +10,8 @@ use Rattle.nim_order.specs.Contents.{Leave, held_before}
 
 -- whether the command at a place touches a slot
 abbrev pub touches_at : List Command → ℕ → Slot → Bool
-touches_at commands place slot = option_map_or (λ (c : Command). does_touch c.kind slot) (slice_get commands place) false
+touches_at commands place slot =
+    option_map_or (λ (c : Command). does_touch c.kind slot) (slice_get commands place) false
 
 -- whether it writes the slot
 abbrev pub writes_at : List Command → ℕ → Slot → Bool
@@ -19,7 +20,8 @@ writes_at commands place slot = option_map_or (λ (c : Command). does_write c.ki
 -- whether the commands at two places conflict
 abbrev pub conflict_at : List Command → ℕ → ℕ → Bool
 conflict_at commands earlier later =
-    option_map_or (λ (e : Command). option_map_or (λ (l : Command). do_conflict e.kind l.kind) (slice_get commands later) false)
+    option_map_or (λ (e : Command). option_map_or (λ (l : Command). do_conflict e.kind l.kind)
+    (slice_get commands later) false)
     (slice_get commands earlier)
     false
 
@@ -56,4 +58,5 @@ is_one_of places place = list_any (λ other. other == place) places
 -- behind places that are complete, the commands at others may run in this order: each is released when its turn comes
 abbrev pub MayRun : List Command → List ℕ → List ℕ → Type 0
 MayRun commands past [] = Unit {0}
-MayRun commands past (place ∷ places) = IsReleasedAt commands (is_one_of past) place × MayRun commands (past ++ place ∷ []) places
+MayRun commands past (place ∷ places) =
+    IsReleasedAt commands (is_one_of past) place × MayRun commands (past ++ place ∷ []) places

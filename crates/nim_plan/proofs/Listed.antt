@@ -58,17 +58,21 @@ epochs_same true current None = refl
 epochs_same false current (Some epoch) = refl
 epochs_same false current None = refl
 
-pub counts_same : (listing : Listing) (session : Session) (order : ToWorker) → IsListing listing session → is_epoch listing.epoch (epoch_named order) ≡ does_count session order
+pub counts_same : (listing : Listing) (session : Session) (order : ToWorker) → IsListing listing session
+    → is_epoch listing.epoch (epoch_named order) ≡ does_count session order
 counts_same listing session order is =
     ap (λ (e : Option ℕ). is_epoch e (epoch_named order)) is.epoch ∙ epochs_same session.begun session.epoch (epoch_named order)
 
 pub order_counts : (session : Session) (order : ToWorker) → does_count session order ≡ true → after_order session order ≡ counted session order
 order_counts session (Single epoch instance commands) counts = ap (λ (b : Bool). if b then counted session (Single epoch instance commands) else session) counts
-order_counts session (InstallTemplate epoch block entries) counts = ap (λ (b : Bool). if b then counted session (InstallTemplate epoch block entries) else session) counts
+order_counts session (InstallTemplate epoch block entries) counts =
+    ap (λ (b : Bool). if b then counted session (InstallTemplate epoch block entries) else session) counts
 order_counts session (Instantiate epoch instance block base args versions edits) counts =
     ap (λ (b : Bool). if b then counted session (Instantiate epoch instance block base args versions edits) else session) counts
-order_counts session (InstallPatch epoch patch copies) counts = ap (λ (b : Bool). if b then counted session (InstallPatch epoch patch copies) else session) counts
-order_counts session (RunPatch epoch instance patch versions) counts = ap (λ (b : Bool). if b then counted session (RunPatch epoch instance patch versions) else session) counts
+order_counts session (InstallPatch epoch patch copies) counts =
+    ap (λ (b : Bool). if b then counted session (InstallPatch epoch patch copies) else session) counts
+order_counts session (RunPatch epoch instance patch versions) counts =
+    ap (λ (b : Bool). if b then counted session (RunPatch epoch instance patch versions) else session) counts
 order_counts session (Reset epoch worker workers shapes) counts = absurd cc
 order_counts session Stop counts = absurd cc
 
@@ -85,7 +89,8 @@ group_pushed before after session group listing push = record {
 }
 
 -- with another half or patch
-pub newly_installed : (before : Listing) (session : Session) (installed : Installed) (by_block : ℕ → List Entry) (by_patch : ℕ → List PatchPart) → IsListing before session
+pub newly_installed : (before : Listing) (session : Session) (installed : Installed) (by_block : ℕ → List Entry) (by_patch : ℕ → List PatchPart)
+    → IsListing before session
     → Has installed by_block by_patch → IsListing (record before { installed = installed }) (record session { halves = by_block; patches = by_patch })
 newly_installed before session installed by_block by_patch listing has =
     record { epoch = listing.epoch; groups = listing.groups; members = listing.members; installed = has }
@@ -129,7 +134,8 @@ pub instance_taken : {A E : Type 0} (r : Result A E) (before after : Listing) (i
     → items ≡ expanded base args' versions' 0 (edited_by edits' (halves_of before.installed block))
     → OnOk r (IsPushed (record before { installed = installed }) items after)
     → (session : Session) → IsListing before session → OnOk r (IsListing after (counted session order))
-instance_taken r before after installed order epoch instance block base args args' versions versions' edits edits' items is same_args same_versions same_edits has made push session listing =
+instance_taken r before after installed order epoch instance block base args args' versions versions' edits edits' items is same_args same_versions same_edits
+    has made push session listing =
     let mid : Listing = record before { installed = installed } in
     let half : List Entry = edited_by edits (session.halves block) in
     let same : edited_by edits' (halves_of before.installed block) ≡ half =
@@ -145,7 +151,8 @@ instance_taken r before after installed order epoch instance block base args arg
     (subst (λ (cs : List Command). IsPushed mid cs after) commands p)))
     push
 
-pub patch_taken : {A E : Type 0} (r : Result A E) (before after : Listing) (order : ToWorker) (epoch instance patch : ℕ) (versions versions' : List ℕ) (items : List Command)
+pub patch_taken : {A E : Type 0} (r : Result A E) (before after : Listing) (order : ToWorker) (epoch instance patch : ℕ) (versions versions' : List ℕ)
+    (items : List Command)
     → order ≡ RunPatch epoch instance patch versions → versions' ≡ versions → items ≡ patch_commands versions' (patches_of before.installed patch)
     → OnOk r (IsPushed before items after) → (session : Session) → IsListing before session → OnOk r (IsListing after (counted session order))
 patch_taken r before after order epoch instance patch versions versions' items is same made push session listing =

@@ -10,7 +10,8 @@ use Rattle.nim_command.specs.Holds.{holds, left_by}
 
 holds_more : (commands : List Command) (n : ℕ) (slot : Slot) → length commands ≤ n → holds commands (suc n) slot ≡ holds commands n slot
 holds_more commands n slot past =
-    ap (λ (o : Option Command). option_map_or (λ (c : Command). left_by c.kind (holds commands n) slot) o (holds commands n slot)) (slice_get_past commands n past)
+    ap (λ (o : Option Command). option_map_or (λ (c : Command). left_by c.kind (holds commands n) slot) o (holds commands n slot))
+    (slice_get_past commands n past)
 
 pub holds_past : (commands : List Command) (more : ℕ) (slot : Slot) → holds commands (length commands + more) slot ≡ holds commands (length commands) slot
 holds_past commands zero slot = let same : length commands + 0 ≡ length commands = omega arith in ap (λ (n : ℕ). holds commands n slot) same
@@ -19,7 +20,8 @@ holds_past commands (suc more) slot =
     ap (λ (n : ℕ). holds commands n slot) next ∙ holds_more commands (length commands + more) slot (omega arith) ∙ holds_past commands more slot
 
 -- a place past the end is as good as the end
-pub holds_cut : (commands : List Command) (place cut : ℕ) (slot : Slot) → cut ≡ min place (length commands) → holds commands cut slot ≡ holds commands place slot
+pub holds_cut : (commands : List Command) (place cut : ℕ) (slot : Slot) → cut ≡ min place (length commands)
+    → holds commands cut slot ≡ holds commands place slot
 holds_cut commands place cut slot is = either (cases_lt (length commands) place) where
   either : (length commands < place) ⊎ (place ≤ length commands) → holds commands cut slot ≡ holds commands place slot
   either (inl past) =

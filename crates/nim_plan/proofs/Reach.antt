@@ -31,10 +31,12 @@ length_row commands place = length-map-range_with_len (is_reached place commands
 
 -- one more wait
 reached_next : (commands : List Command) (n place earlier : ℕ)
-    → is_reached (suc n) commands place earlier ≡ list_any (λ x. nat_lt x place && ((x == earlier) || is_reached n commands x earlier)) (before_at commands place)
+    → is_reached (suc n) commands place earlier ≡ list_any (λ x. nat_lt x place && ((x == earlier) || is_reached n commands x earlier))
+    (before_at commands place)
 unfolding before_at
 reached_next commands n place earlier =
-    any_filter (λ x. (x == earlier) || is_reached n commands x earlier) (λ x. nat_lt x place) (option_map_or (λ (c : Command). c.before) (slice_get commands place) [])
+    any_filter (λ x. (x == earlier) || is_reached n commands x earlier) (λ x. nat_lt x place)
+    (option_map_or (λ (c : Command). c.before) (slice_get commands place) [])
 
 -- what is reached stands before
 pub reached_past : (commands : List Command) (n place earlier : ℕ) → place ≤ earlier → is_reached n commands place earlier ≡ false
@@ -47,14 +49,17 @@ reached_past commands (suc n) place earlier past =
     or_from (x == earlier) (is_reached n commands x earlier) (ne_eqb x earlier (λ same. omega arith)) (reached_past commands n x earlier (omega arith))))
     (before_at commands place)
 
-pub reached_same : (commands : List Command) (m n place earlier : ℕ) → place ≤ m → place ≤ n → is_reached m commands place earlier ≡ is_reached n commands place earlier
+pub reached_same : (commands : List Command) (m n place earlier : ℕ) → place ≤ m → place ≤ n
+    → is_reached m commands place earlier ≡ is_reached n commands place earlier
 reached_same commands zero n place earlier first second = sym (reached_past commands n place earlier (omega arith))
 reached_same commands (suc m) zero place earlier first second = reached_past commands (suc m) place earlier (omega arith)
 reached_same commands (suc m) (suc n) place earlier first second =
     reached_next commands m place earlier
-    ∙ any_same (λ x. nat_lt x place && ((x == earlier) || is_reached m commands x earlier)) (λ x. nat_lt x place && ((x == earlier) || is_reached n commands x earlier))
+    ∙ any_same (λ x. nat_lt x place && ((x == earlier) || is_reached m commands x earlier))
+    (λ x. nat_lt x place && ((x == earlier) || is_reached n commands x earlier))
     (λ x. both_same (nat_lt x place) ((x == earlier) || is_reached m commands x earlier) ((x == earlier) || is_reached n commands x earlier)
-    (λ test. let less : x < place = ltb-true x place test in ap (λ (b : Bool). (x == earlier) || b) (reached_same commands m n x earlier (omega arith) (omega arith))))
+    (λ test. let less : x < place = ltb-true x place test in ap (λ (b : Bool). (x == earlier) || b)
+    (reached_same commands m n x earlier (omega arith) (omega arith))))
     (before_at commands place)
     ∙ sym (reached_next commands n place earlier)
 
@@ -65,7 +70,8 @@ in_row commands place earlier =
     elim (cases_lt earlier place) [
       | inl less ↦
           ap (λ (found : Option Bool). option_map_or (λ (reached : Bool). reached) found false)
-          (slice_get-map (is_reached place commands place) (range_with_len 0 place) earlier ∙ ap (option_map (is_reached place commands place)) (range_get place earlier less))
+          (slice_get-map (is_reached place commands place) (range_with_len 0 place) earlier
+          ∙ ap (option_map (is_reached place commands place)) (range_get place earlier less))
       | inr past ↦
           ap (λ (found : Option Bool). option_map_or (λ (reached : Bool). reached) found false)
           (slice_get_past (row_of commands place) earlier (omega (arith, length_row commands place)))
@@ -76,33 +82,39 @@ in_row commands place earlier =
 marked : (commands : List Command) (rows : List (List Bool)) (later place earlier : ℕ) → rows ≡ map (row_of commands) (range_with_len 0 later) → place < later
     → is_marked rows place earlier ≡ is_reached place commands place earlier
 marked commands rows later place earlier table within =
-    ap (λ (found : Option (List Bool)). option_map_or (λ (row : List Bool). option_map_or (λ (reached : Bool). reached) (slice_get row earlier) false) found false)
+    ap (λ (found : Option (List Bool)). option_map_or (λ (row : List Bool). option_map_or (λ (reached : Bool). reached) (slice_get row earlier) false) found
+    false)
     (ap (λ (all : List (List Bool)). slice_get all place) table ∙ slice_get-map (row_of commands) (range_with_len 0 later) place
     ∙ ap (option_map (row_of commands)) (range_get later place within))
     ∙ in_row commands place earlier
 
 -- what a command's waits lead to by the table of the places before is what is reached from its place
-pub reached_by_rows : (commands : List Command) (rows : List (List Bool)) (later earlier : ℕ) (c : Command) → rows ≡ map (row_of commands) (range_with_len 0 later)
+pub reached_by_rows : (commands : List Command) (rows : List (List Bool)) (later earlier : ℕ) (c : Command)
+    → rows ≡ map (row_of commands) (range_with_len 0 later)
     → slice_get commands later ≡ Some c → list_any (leads_to rows later earlier) c.before ≡ is_reached later commands later earlier
 reached_by_rows commands rows zero earlier c table found =
     any_nothing (leads_to rows zero earlier)
-    (λ x. both_none (nat_lt x zero) ((x == earlier) || is_marked rows x earlier) (λ test. let less : x < zero = ltb-true x zero test in absurd (omega arith))) c.before
+    (λ x. both_none (nat_lt x zero) ((x == earlier) || is_marked rows x earlier) (λ test. let less : x < zero = ltb-true x zero test in absurd (omega arith)))
+    c.before
 reached_by_rows commands rows (suc m) earlier c table found =
     any_same (leads_to rows (suc m) earlier) (λ x. nat_lt x (suc m) && ((x == earlier) || is_reached m commands x earlier))
     (λ x. both_same (nat_lt x (suc m)) ((x == earlier) || is_marked rows x earlier) ((x == earlier) || is_reached m commands x earlier)
     (λ test. let less : x < suc m = ltb-true x (suc m) test in
-    ap (λ (b : Bool). (x == earlier) || b) (marked commands rows (suc m) x earlier table less ∙ reached_same commands x m x earlier (omega arith) (omega arith))))
+    ap (λ (b : Bool). (x == earlier) || b) (marked commands rows (suc m) x earlier table less
+    ∙ reached_same commands x m x earlier (omega arith) (omega arith))))
     c.before
     ∙ ap (list_any (λ x. nat_lt x (suc m) && ((x == earlier) || is_reached m commands x earlier))) (sym (before_is commands (suc m) c found))
     ∙ sym (reached_next commands m (suc m) earlier)
 
 -- the test of a pair of places, from their commands and the row of the later one
-pub kept_at : (commands : List Command) (later earlier : ℕ) (l e : Command) (row : List Bool) (d : Bool) → later < length commands → earlier < later → row ≡ row_of commands later
+pub kept_at : (commands : List Command) (later earlier : ℕ) (l e : Command) (row : List Bool) (d : Bool) → later < length commands → earlier < later
+    → row ≡ row_of commands later
     → (not (do_conflict (get_or commands earlier e).kind (get_or commands later l).kind) || get_or row earlier d) ≡ is_kept_in_order commands later earlier
 kept_at commands later earlier l e row d there within is =
     let there_too : earlier < length commands = omega arith in
     ap₂ (λ (conflict known : Bool). not conflict || known)
-    (sym (ap₂ (λ (first second : Option Command). option_map_or (λ (f : Command). option_map_or (λ (s : Command). do_conflict f.kind s.kind) second false) first false)
+    (sym (ap₂ (λ (first second : Option Command). option_map_or (λ (f : Command). option_map_or (λ (s : Command). do_conflict f.kind s.kind) second false) first
+    false)
     (slice_get-get_or commands earlier e there_too) (slice_get-get_or commands later l there)))
     (ap (λ (all : List Bool). get_or all earlier d) is
     ∙ get_or-map-range_with_len (is_reached later commands later) 0 later earlier earlier d within (omega arith))

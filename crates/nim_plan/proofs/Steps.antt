@@ -6,7 +6,8 @@ use Rattle.nim_message.specs.declared.order.ToWorker.{ToWorker}
 use Rattle.nim_message.specs.Orders.{Session, after_order, no_session}
 use Rattle.nim_plan.specs.Legal.{AreLegalFrom, IsLegal, LegalBySteps}
 
-joined : (job : Job) (session : Session) (xs ys : List ToWorker) → AreLegalFrom job session xs → AreLegalFrom job (fold after_order session xs) ys → AreLegalFrom job session (xs ++ ys)
+joined : (job : Job) (session : Session) (xs ys : List ToWorker) → AreLegalFrom job session xs → AreLegalFrom job (fold after_order session xs) ys
+    → AreLegalFrom job session (xs ++ ys)
 joined job session [] ys first second = second
 joined job session (x ∷ xs) ys first second = (first.0, joined job (after_order session x) xs ys first.1 second)
 

@@ -26,7 +26,8 @@ slice_step {X} xs a b d less within =
 nothing_between : {X : Type 0} (xs : List X) (a : ℕ) → slice_range xs a a ≡ []
 nothing_between xs a = let none : a - a ≡ 0 = omega arith in ap (λ (n : ℕ). take n (drop a xs)) none
 
-pub free_first : (members : List Member) (place : ℕ) (kind : Kind) (free : List Slot) → free ≡ touched_by kind → free ≡ free_slots (slice_range members place place) kind
+pub free_first : (members : List Member) (place : ℕ) (kind : Kind) (free : List Slot) → free ≡ touched_by kind
+    → free ≡ free_slots (slice_range members place place) kind
 free_first members place kind free is =
     is ∙ sym (filter_all (λ (s : Slot). true) (λ s. refl) (touched_by kind))
     ∙ ap (λ (between : List Member). free_slots between kind) (sym (nothing_between members place))
@@ -35,7 +36,8 @@ pub waits_first : (p : ℕ → Bool) (place : ℕ) (waits : List ℕ) → waits 
 waits_first p place waits is = let none : 0 ≡ place - place = omega arith in ap reverse is ∙ ap (λ (n : ℕ). filter p (range_with_len place n)) none
 
 -- the free slots, one place further down
-pub free_step : (members : List Member) (next old place : ℕ) (kind : Kind) (m : Member) (free kept : List Slot) → old ≡ next + 1 → old ≤ place → place ≤ length members
+pub free_step : (members : List Member) (next old place : ℕ) (kind : Kind) (m : Member) (free kept : List Slot) → old ≡ next + 1 → old ≤ place
+    → place ≤ length members
     → m ≡ get_or members next m → free ≡ free_slots (slice_range members old place) kind → kept ≡ kept_free m.command.kind free
     → kept ≡ free_slots (slice_range members next place) kind
 free_step members next old place kind m free kept above within there is before now =
@@ -61,14 +63,17 @@ waited_same earlier later between free is =
     let kind = later.command.kind in
     let some : has_free (free_slots between kind) (writes_of earlier.command.kind)
     ≡ list_any (λ (s : Slot). does_touch kind s && not (is_written_by between s)) (writes_of earlier.command.kind) =
-    any_same (is_among (free_slots between kind)) (λ (s : Slot). does_touch kind s && not (is_written_by between s)) (λ s. among_free between kind s) (writes_of earlier.command.kind) in
+    any_same (is_among (free_slots between kind)) (λ (s : Slot). does_touch kind s && not (is_written_by between s)) (λ s. among_free between kind s)
+    (writes_of earlier.command.kind) in
     let again : has_rewritten (free_slots between kind) kind (reads_of earlier.command.kind)
     ≡ list_any (λ (s : Slot). does_write kind s && not (is_written_by between s)) (reads_of earlier.command.kind) =
     any_same (λ (s : Slot). is_among (free_slots between kind) s && does_write kind s) (λ (s : Slot). does_write kind s && not (is_written_by between s))
-    (λ s. ap (λ (b : Bool). b && does_write kind s) (among_free between kind s) ∙ rewritten (does_read kind s) (does_write kind s) (not (is_written_by between s)))
+    (λ s. ap (λ (b : Bool). b && does_write kind s) (among_free between kind s)
+    ∙ rewritten (does_read kind s) (does_write kind s) (not (is_written_by between s)))
     (reads_of earlier.command.kind) in
     ap (λ (slots : List Slot). is_waited_free earlier slots later) is
-    ∙ ap (λ (border : Bool). if earlier.group == later.group then does_name later.command earlier.command.id else border) (ap₂ (λ (a b : Bool). a || b) some again)
+    ∙ ap (λ (border : Bool). if earlier.group == later.group then does_name later.command earlier.command.id else border)
+    (ap₂ (λ (a b : Bool). a || b) some again)
 
 -- whether the place below is waited for
 pub waited_at : (members : List Member) (next old place : ℕ) (e l : Member) (free : List Slot) → old ≡ next + 1 → old ≤ place → place < length members

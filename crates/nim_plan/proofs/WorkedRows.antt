@@ -53,7 +53,8 @@ half0 = run 32 0 0 [] ∷ record { id = 88; kind = EntryKind.Receive (slot 513) 
 edit_here : edited here (run 32 0 0 [] ∷ []) ≡ half0
 edit_here = refl
 
-edit_away : edited away (run 96 1 1 [] ∷ []) ≡ record { id = 80; kind = EntryKind.Send (slot 1) (worker 0) 88; before = [] } ∷ record { id = 112; kind = EntryKind.Receive (slot 1) 2; before = 80 ∷ [] } ∷ []
+edit_away : edited away (run 96 1 1 [] ∷ []) ≡ record { id = 80; kind = EntryKind.Send (slot 1) (worker 0) 88; before = [] }
+    ∷ record { id = 112; kind = EntryKind.Receive (slot 1) 2; before = 80 ∷ [] } ∷ []
 edit_away = refl
 
 -- and away again
@@ -74,13 +75,16 @@ abbrev command_run : ℕ → ℕ → ℕ → ℕ → List ℕ → Command
 command_run id position from to before = record { id = id; kind = Kind.Run position Addc (pos 4 ∷ []) (slot from ∷ []) (slot to ∷ []); before = before }
 
 -- the instance that carries the edit, at position 8
-expands : expanded 8 [] (8 ∷ []) 0 half0 ≡ command_run 32 8 0 0 [] ∷ record { id = 88; kind = Kind.Receive (slot 513) 8; before = [] } ∷ command_run 96 9 513 513 (88 ∷ [])
+expands : expanded 8 [] (8 ∷ []) 0 half0 ≡ command_run 32 8 0 0 [] ∷ record { id = 88; kind = Kind.Receive (slot 513) 8; before = [] }
+    ∷ command_run 96 9 513 513 (88 ∷ [])
     ∷ record { id = 104; kind = Kind.Send (slot 513) (worker 1) 112; before = 96 ∷ [] } ∷ []
 expands = refl
 
 -- the ends of two copies at worker 0
-patch : patch_commands (8 ∷ []) (record { number = 0; receives = true; object = object 1; peer = worker 1 } ∷ record { number = 1; receives = false; object = object 0; peer = worker 1 } ∷ [])
-    ≡ record { id = 131072; kind = Kind.Receive (slot 1) 8; before = [] } ∷ record { id = 131073; kind = Kind.Send (slot 0) (worker 1) 131073; before = [] } ∷ []
+patch : patch_commands (8 ∷ []) (record { number = 0; receives = true; object = object 1; peer = worker 1 }
+    ∷ record { number = 1; receives = false; object = object 0; peer = worker 1 } ∷ [])
+    ≡ record { id = 131072; kind = Kind.Receive (slot 1) 8; before = [] } ∷ record { id = 131073; kind = Kind.Send (slot 0) (worker 1) 131073; before = [] }
+    ∷ []
 patch = refl
 
 abbrev create : ToWorker
@@ -131,6 +135,7 @@ patch_length = refl
 
 -- what worker 0 is asked for, with places and waits
 rows_listed : placed_commands (session_of (reset ∷ create ∷ single ∷ install ∷ instance 1 2 ∷ instance 2 4 ∷ fetch ∷ [])).groups
-    ≡ record { id = 0; kind = Kind.Create (slot 0) false (pos 3); before = [] } ∷ command_run 1 0 0 0 (0 ∷ []) ∷ command_run 2 2 0 0 (1 ∷ []) ∷ command_run 3 4 0 0 (2 ∷ [])
+    ≡ record { id = 0; kind = Kind.Create (slot 0) false (pos 3); before = [] } ∷ command_run 1 0 0 0 (0 ∷ []) ∷ command_run 2 2 0 0 (1 ∷ [])
+    ∷ command_run 3 4 0 0 (2 ∷ [])
     ∷ record { id = 4; kind = Kind.Fetch (slot 0) 0; before = 3 ∷ [] } ∷ []
 rows_listed = refl

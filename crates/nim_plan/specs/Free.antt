@@ -35,4 +35,5 @@ does_name command id = list_any (λ number. number == id) command.before
 abbrev pub is_waited_free : Member → List Slot → Member → Bool
 is_waited_free earlier free later =
     if earlier.group == later.group then does_name later.command earlier.command.id
-    else (has_free free (writes_of earlier.command.kind) || has_rewritten free later.command.kind (reads_of earlier.command.kind))
+    else (has_free free (writes_of earlier.command.kind)
+    || has_rewritten free later.command.kind (reads_of earlier.command.kind))

@@ -35,7 +35,8 @@ reads_at job position task = map (λ object. (object, read_version job position 
 
 -- A Run is the task at its position: each slot that it reads holds what the task reads, and each slot that it writes
 -- is one of the object that the task writes.
-pub record IsRunOf (job : Job) (before : Slot → Content) (position : ℕ) (f : Func) (numbers : List ℤ) (sources results : List Slot) (task : Task) : Type 0 where
+pub record IsRunOf (job : Job) (before : Slot → Content) (position : ℕ) (f : Func) (numbers : List ℤ)
+    (sources results : List Slot) (task : Task) : Type 0 where
   pub func : f ≡ task.func
   pub params : numbers ≡ task.params
   pub reads : map before sources ≡ map Some (reads_at job position task)
@@ -85,7 +86,8 @@ MayFollow job orders order = IsLegalOrder job (session_of orders) order
 -- each of these orders may be given behind those before it
 abbrev pub AreLegalFrom : Job → Session → List ToWorker → Type 0
 AreLegalFrom job session [] = Unit {0}
-AreLegalFrom job session (order ∷ orders) = IsLegalOrder job session order × AreLegalFrom job (after_order session order) orders
+AreLegalFrom job session (order ∷ orders) =
+    IsLegalOrder job session order × AreLegalFrom job (after_order session order) orders
 
 -- a list of orders, all that one worker is given, may be given for a job
 unfoldable pub IsLegal : Job → List ToWorker → Type 0
@@ -93,6 +95,8 @@ IsLegal job orders = AreLegalFrom job no_session orders
 
 -- One step at a time: a list may be given where its front may be and each order behind it may follow.
 pub record LegalBySteps : Type 0 where
-  pub longer : (job : Job) (orders : List ToWorker) (order : ToWorker) → IsLegal job orders → MayFollow job orders order → IsLegal job (orders ++ order ∷ [])
-  pub last : (job : Job) (orders : List ToWorker) (order : ToWorker) → IsLegal job (orders ++ order ∷ []) → MayFollow job orders order
+  pub longer : (job : Job) (orders : List ToWorker) (order : ToWorker) → IsLegal job orders → MayFollow job orders order
+      → IsLegal job (orders ++ order ∷ [])
+  pub last : (job : Job) (orders : List ToWorker) (order : ToWorker) → IsLegal job (orders ++ order ∷ [])
+      → MayFollow job orders order
   pub front : (job : Job) (orders more : List ToWorker) → IsLegal job (orders ++ more) → IsLegal job orders

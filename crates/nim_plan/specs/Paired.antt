@@ -40,7 +40,8 @@ key_of group entry object version =
 -- the key of what a Send to a worker sends, by what its slot holds; an empty one holds version 0
 abbrev pub sent : Worker → Group → (Slot → Content) → Kind → List Key
 sent worker group before (Send slot peer entry) =
-    filter (λ (key : Key). peer.0 == worker.0) (key_of group entry (object_of slot) (option_map_or (λ (c : Object × ℕ). c.1) (before slot) 0) ∷ [])
+    filter (λ (key : Key). peer.0 == worker.0) (key_of group entry (object_of slot)
+    (option_map_or (λ (c : Object × ℕ). c.1) (before slot) 0) ∷ [])
 sent worker group before _ = []
 
 -- the key of what a Receive takes
@@ -52,19 +53,22 @@ received group number _ = []
 abbrev pub of_members : {X : Type 0} → (Group → ℕ → Member → List X) → List Group → List X
 of_members {X} f groups =
     flat_map
-    (λ (place : ℕ). option_map_or (λ (m : Member). option_map_or (λ (group : Group). f group place m) (slice_get groups m.group) []) (slice_get (members_of groups) place) [])
+    (λ (place : ℕ). option_map_or (λ (m : Member). option_map_or (λ (group : Group). f group place m)
+    (slice_get groups m.group) []) (slice_get (members_of groups) place) [])
     (range_with_len 0 (length (members_of groups)))
 
 -- the keys of what a worker's commands send to another one
 abbrev pub keys_sent : Worker → List ToWorker → List Key
 keys_sent worker orders =
     let groups : List Group = (session_of orders).groups in
-    of_members (λ (group : Group) (place : ℕ) (m : Member). sent worker group (holds (commands_of groups) place) m.command.kind) groups
+    of_members (λ (group : Group) (place : ℕ) (m : Member). sent worker group (holds (commands_of groups) place)
+    m.command.kind) groups
 
 -- the keys of what a worker's commands receive
 abbrev pub keys_received : List ToWorker → List Key
 keys_received orders =
-    of_members (λ (group : Group) (place : ℕ) (m : Member). received group m.command.id m.command.kind) (session_of orders).groups
+    of_members (λ (group : Group) (place : ℕ) (m : Member). received group m.command.id m.command.kind)
+    (session_of orders).groups
 
 -- each of these keys is among those once
 abbrev pub EachOnce : List Key → List Key → Type 0

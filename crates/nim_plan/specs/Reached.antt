@@ -12,7 +12,8 @@ row_of commands place = map (is_reached place commands place) (range_with_len 0 
 -- whether the table has a place as reached from another one
 abbrev pub is_marked : List (List Bool) → ℕ → ℕ → Bool
 is_marked rows place earlier =
-    option_map_or (λ (row : List Bool). option_map_or (λ (reached : Bool). reached) (slice_get row earlier) false) (slice_get rows place) false
+    option_map_or (λ (row : List Bool). option_map_or (λ (reached : Bool). reached) (slice_get row earlier) false)
+    (slice_get rows place) false
 
 -- whether a wait of a command at the next place leads to an earlier place
 abbrev pub leads_to : List (List Bool) → ℕ → ℕ → ℕ → Bool

@@ -57,8 +57,10 @@ impl Installed {
         versions: &[Version],
         edits: &[Edit],
     ) -> Result<Vec<Command>, NoMemory>
-        ensures ok { OnOk result (Has self.new (with_list block (edited_by edits.now (halves_of self.old block)) (halves_of self.old)) (patches_of self.old)) }
-        ensures commands { IfOk result (λ commands. commands.items ≡ expansion.expanded base args.now versions.now 0 (edited_by edits.now (halves_of self.old block))) }
+        ensures ok { OnOk result (Has self.new (with_list block (edited_by edits.now (halves_of self.old block))
+            (halves_of self.old)) (patches_of self.old)) }
+        ensures commands { IfOk result (λ commands. commands.items
+            ≡ expansion.expanded base args.now versions.now 0 (edited_by edits.now (halves_of self.old block))) }
         ensures err { OnErr result (Has self.new (halves_of self.old) (patches_of self.old)) }
     {
         let (half, commands) = self.instance(block, base, args, versions, edits)?;
@@ -76,7 +78,8 @@ impl Installed {
         edits: &[Edit],
     ) -> Result<(Half, Vec<Command>), NoMemory>
         ensures half { IfOk result (λ made. made.0 ≡ edited_by edits.now (halves_of self.now block)) }
-        ensures commands { IfOk result (λ made. made.1.items ≡ expansion.expanded base args.now versions.now 0 (edited_by edits.now (halves_of self.now block))) }
+        ensures commands { IfOk result (λ made. made.1.items
+            ≡ expansion.expanded base args.now versions.now 0 (edited_by edits.now (halves_of self.now block))) }
     {
         let half = self.edited(block, edits)?;
         let commands = half.commands(base, args, versions)?;
@@ -104,7 +107,8 @@ impl Installed {
 
     /// The commands of a patch.
     pub fn run_patch(&self, patch: u8, versions: &[Version]) -> Result<Vec<Command>, NoMemory>
-        ensures { IfOk result (λ commands. commands.items ≡ expansion.patch_commands versions.now (patches_of self.now patch)) }
+        ensures { IfOk result (λ commands. commands.items
+            ≡ expansion.patch_commands versions.now (patches_of self.now patch)) }
     {
         match self.patches.get(&patch) {
             Some(copies) => patch_commands(self.alloc, versions, copies.as_slice()),

@@ -30,7 +30,8 @@ pub fn commands(alloc: Global, orders: &[ToWorker]) -> Result<Vec<Command>, NoMe
 fn placed(alloc: Global, members: &[Member], place: usize) -> Result<Command, NoMemory>
     requires place { place < length members.now }
     requires few { length members.now < 2 ^ 32 }
-    ensures { IfOk result (λ command. IsSomeAnd (slice_get members.now place) (λ m. command ≡ record m.command { id = place; before = waits_of members.now place })) }
+    ensures { IfOk result (λ command. IsSomeAnd (slice_get members.now place)
+        (λ m. command ≡ record m.command { id = place; before = waits_of members.now place })) }
 {
     let member = &members[place];
     let command = &member.command;
@@ -73,7 +74,8 @@ impl Listing {
     /// Takes one more order; one of another epoch is passed over.
     fn take(&mut self, order: &ToWorker) -> Result<(), NoMemory>
         requires room { self.now.groups + 1 < 2 ^ 64 }
-        ensures listing { (session : Session) → IsListing self.old session → OnOk result (IsListing self.new (after_order session order.now)) }
+        ensures listing { (session : Session) → IsListing self.old session
+            → OnOk result (IsListing self.new (after_order session order.now)) }
         ensures groups { OnOk result (self.new.groups ≤ self.old.groups + 1) }
     {
         if self.is_current(epoch_named(order)) {
@@ -95,7 +97,8 @@ impl Listing {
 
     /// Takes an order that doesn't count: a Reset begins an epoch with nothing before it.
     fn pass(&mut self, order: &ToWorker)
-        ensures listing { (session : Session) → does_count session order.now ≡ false → IsListing self.old session → IsListing self.new (after_order session order.now) }
+        ensures listing { (session : Session) → does_count session order.now ≡ false → IsListing self.old session
+            → IsListing self.new (after_order session order.now) }
         ensures groups { self.new.groups ≤ self.old.groups }
     {
         match order {
@@ -117,7 +120,8 @@ impl Listing {
     /// Takes an order of the epoch.
     fn count(&mut self, order: &ToWorker) -> Result<(), NoMemory>
         requires room { self.now.groups + 1 < 2 ^ 64 }
-        ensures listing { (session : Session) → IsListing self.old session → OnOk result (IsListing self.new (counted session order.now)) }
+        ensures listing { (session : Session) → IsListing self.old session
+            → OnOk result (IsListing self.new (counted session order.now)) }
         ensures groups { OnOk result (self.new.groups ≤ self.old.groups + 1) }
     {
         match order {

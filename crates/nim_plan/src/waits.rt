@@ -88,7 +88,8 @@ fn does_name(command: &Command, id: u32) -> bool
 
 /// Whether the earlier command writes a free slot, or reads one that the later one writes.
 fn is_border(earlier: &Kind, free: &[Slot], later: &Kind) -> bool
-    ensures { result ≡ (spec.has_free free.now (writes_of earlier.now) || spec.has_rewritten free.now later.now (reads_of earlier.now)) }
+    ensures { result ≡ (spec.has_free free.now (writes_of earlier.now)
+        || spec.has_rewritten free.now later.now (reads_of earlier.now)) }
 {
     has_free(free, earlier.writes()) || has_rewritten(free, later, earlier.reads())
 }

@@ -28,7 +28,8 @@ or_false : (b : Bool) → (b || false) ≡ b
 or_false true = refl
 or_false false = refl
 
-pub written_more : (past : List Command) (c : Command) (s : ℕ) → is_written_in (past ++ c ∷ []) s ≡ (is_written_in past s || does_write c.kind (record { 0 = s }))
+pub written_more : (past : List Command) (c : Command) (s : ℕ) → is_written_in (past ++ c ∷ []) s
+    ≡ (is_written_in past s || does_write c.kind (record { 0 = s }))
 written_more past c s =
     list_any-append (λ (k : Command). does_write k.kind (record { 0 = s })) past (c ∷ [])
     ∙ ap (λ (b : Bool). is_written_in past s || b) (or_false (does_write c.kind (record { 0 = s })))
@@ -42,5 +43,6 @@ arrived_more kept used first past [] a have has =
 arrived_more kept used first past (b ∷ list) a have has = (
   have.0,
   arrived_more kept used first (past ++ b.command ∷ []) list a have.1
-      (subst (λ (cs : List Command). HasArrived (sight_of kept used first cs) (first + length cs) a) (sym (append_assoc past (b.command ∷ []) (commands_of list))) has),
+      (subst (λ (cs : List Command). HasArrived (sight_of kept used first cs) (first + length cs) a)
+      (sym (append_assoc past (b.command ∷ []) (commands_of list))) has),
 )

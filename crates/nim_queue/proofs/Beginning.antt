@@ -21,7 +21,8 @@ pub begun : (queue : BeforeQueue) → ((t : ℕ) → get nat_eq queue.waiting t 
 begun queue gone unused released given groups =
     let absent : (t : ℕ) → slice_get (members_of []) t ≡ None = λ t. slice_get_past (members_of []) t (omega arith) in
     let last : (Kind → Slot → Bool) → ℕ → ℕ → Option Member → Bool =
-    λ uses t s o. option_map_or (λ (m : Member). uses m.command.kind (record { 0 = s }) && not (is_written_by (drop (t + 1) (members_of [])) (record { 0 = s }))) o false in
+    λ uses t s o. option_map_or (λ (m : Member). uses m.command.kind (record { 0 = s })
+    && not (is_written_by (drop (t + 1) (members_of [])) (record { 0 = s }))) o false in
     record {
       waits = λ t. [];
       followers = λ t. [];

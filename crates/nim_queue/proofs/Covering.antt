@@ -100,7 +100,8 @@ one_used kept old new slot is = record {
 
     by_brief : (most : ℕ) (v : SlotUse) (b : Bool) (o : Option SlotUse) → ((u : SlotUse) → o ≡ Some u → length u.readers ≤ most)
         → (if b then use_at kept o else o) ≡ Some v → length v.readers ≤ most
-    by_brief most v true None brief made = let none : length v.readers ≡ 0 = sym (ap (λ (x : Option SlotUse). length (readers_of x)) made) in omega (arith, none)
+    by_brief most v true None brief made = let none : length v.readers ≡ 0 =
+        sym (ap (λ (x : Option SlotUse). length (readers_of x)) made) in omega (arith, none)
     by_brief most v true (Some u) brief made =
         omega (arith, ap (λ (x : Option SlotUse). length (readers_of x)) made, no_longer kept u.readers, brief u refl)
     by_brief most v false o brief made = brief v made
@@ -118,7 +119,8 @@ all_more {X} p xs i d within all last = ap (list_all p) (take_more xs i d within
   by [] all = and_from (p (get_or xs i d)) true last refl
   by (y ∷ ys) all = let parts = and_parts (p y) (list_all p ys) all in and_from (p y) (list_all p (ys ++ get_or xs i d ∷ [])) parts.0 (by ys parts.1)
 
-pub covered_still : (kept : ℕ → Option Waiting) (old new : ℕ → Option SlotUse) (a : Arrival) → HaveSameUses kept old new → are_covered old a ≡ true → are_covered new a ≡ true
+pub covered_still : (kept : ℕ → Option Waiting) (old new : ℕ → Option SlotUse) (a : Arrival) → HaveSameUses kept old new → are_covered old a ≡ true
+    → are_covered new a ≡ true
 covered_still kept old new a same all =
     let was : Slot → Bool = λ slot. is_some (old slot.0) in
     let now : Slot → Bool = λ slot. is_some (new slot.0) in

@@ -26,7 +26,13 @@ pub removed : (kept next : ℕ → Option Waiting) (old new : Tickets) (n u : �
     → deque_capacity new.items ≡ deque_capacity old.items → AreReleased next new n
 removed kept next old new n u w are found gone items room = record {
   items = by (w.pending == 0) refl (items (subst IsRising (sym are.items) (rising (λ t. is_free (kept t)) n)));
-  room = omega (arith, are.room, room, fewer_pass (λ t. is_some (next t)) (λ t. is_some (kept t)) (λ t some. was_some t (u == t) (gone t) some) (range_with_len 0 n));
+  room = omega (
+    arith,
+    are.room,
+    room,
+    fewer_pass (λ t. is_some (next t)) (λ t. is_some (kept t)) (λ t some. was_some t (u == t) (gone t) some)
+        (range_with_len 0 n),
+  );
   past = λ t from. gone t ∙ ap (λ (o : Option Waiting). if u == t then None else o) (are.past t from) ∙ either_none (u == t);
 }
   where

@@ -62,7 +62,8 @@ released_joined kept next more old new n w are has put capacity room = record {
   items = by (w.pending == 0) refl (put rises fits);
   room = omega (arith, kept_count kept next more n w has, capacity, room);
   past = λ t from.
-      entered_other kept next more n w t has (ne_eqb n t (λ is. omega (arith, is, from))) ∙ ap (option_map (followed (more t))) (are.past t (omega (arith, from)));
+      entered_other kept next more n w t has (ne_eqb n t (λ is. omega (arith, is, from)))
+      ∙ ap (option_map (followed (more t))) (are.past t (omega (arith, from)));
 }
   where
     p : ℕ → Bool
@@ -102,7 +103,8 @@ released_joined kept next more old new n w are has put capacity room = record {
     same_at busy x true is = subst (λ (k : ℕ). is_free (kept k) ≡ is_free (next k)) (eqb-true n x is) (none_yet ∙ sym (here ∙ busy))
     same_at busy x false is = sym (other x is)
 
-    by : (b : Bool) → (w.pending == 0) ≡ b → new.items.items ≡ (if b then put_in n old.items.items else old.items.items) → new.items.items ≡ free_ones next (n + 1)
+    by : (b : Bool) → (w.pending == 0) ≡ b → new.items.items ≡ (if b then put_in n old.items.items else old.items.items)
+        → new.items.items ≡ free_ones next (n + 1)
     by true is items =
         items ∙ ap (put_in n) (are.items ∙ sym old_ones)
         ∙ one_more (λ t. is_free (kept t)) (λ t. is_free (next t)) n (n + 1) (omega arith) none_yet (here ∙ is) other
@@ -126,7 +128,8 @@ length_gathered_reads n s (x ∷ slots) = by (x.0 == s) (length_gathered_reads n
   by false less = omega (arith, less)
 
 -- no command has more followers than were counted
-pub short_joined : (kept next : ℕ → Option Waiting) (more : ℕ → List ℕ) (n : ℕ) (w : Waiting) (most count : ℕ) → w.followers ≡ [] → HasEntered kept next more n w
+pub short_joined : (kept next : ℕ → Option Waiting) (more : ℕ → List ℕ) (n : ℕ) (w : Waiting) (most count : ℕ) → w.followers ≡ []
+    → HasEntered kept next more n w
     → ((t : ℕ) → length (more t) ≤ count) → AreShort kept most → AreShort next (most + count)
 short_joined kept next more n w most count none has few short t v got = by (n == t) (kept t) refl (sym (has t) ∙ got) where
   by : (b : Bool) (o : Option Waiting) → kept t ≡ o → (if b then Some w else option_map (followed (more t)) o) ≡ Some v → length v.followers ≤ most + count

@@ -75,11 +75,13 @@ copies n t (e ∷ d) l = by (e == t) (same_ways e t) (l == n) refl (copies n t d
   by : (b : Bool) → b ≡ (t == e) → (c : Bool) → (l == n) ≡ c → times l (gathered t (map (link_to n) d)) ≡ (if c then times t d else 0)
       → times l ((if b then n ∷ [] else []) ++ gathered t (map (link_to n) d)) ≡ (if c then times t (e ∷ d) else 0)
   by true is true here rest =
-      ap (λ (x : Bool). length (if x then n ∷ filter (λ o. l == o) (gathered t (map (link_to n) d)) else filter (λ o. l == o) (gathered t (map (link_to n) d)))) here
+      ap (λ (x : Bool). length (if x then n ∷ filter (λ o. l == o) (gathered t (map (link_to n) d)) else filter (λ o. l == o) (gathered t (map (link_to n) d))))
+      here
       ∙ ap suc rest
       ∙ ap (λ (x : Bool). length (if x then e ∷ filter (λ o. t == o) d else filter (λ o. t == o) d)) is
   by true is false here rest =
-      ap (λ (x : Bool). length (if x then n ∷ filter (λ o. l == o) (gathered t (map (link_to n) d)) else filter (λ o. l == o) (gathered t (map (link_to n) d)))) here
+      ap (λ (x : Bool). length (if x then n ∷ filter (λ o. l == o) (gathered t (map (link_to n) d)) else filter (λ o. l == o) (gathered t (map (link_to n) d))))
+      here
       ∙ rest
   by false is true here rest = rest ∙ ap (λ (x : Bool). length (if x then e ∷ filter (λ o. t == o) d else filter (λ o. t == o) d)) is
   by false is false here rest = rest
@@ -281,13 +283,15 @@ joined old new groups more done m d stands members reached waiting written read 
         ≡ (if b then Some (as_kept m (length d)) else option_map (followed (gathered t (map (link_to old.given) d))) (get nat_eq old.waiting t))
         → get nat_eq new.waiting t
         ≡ (if done t then None else option_map
-        (kept_at (λ t. if old.given == t then d else stands.waits t) (λ t. if old.given == t then [] else stands.followers t ++ gathered t (map (link_to old.given) d)) t)
+        (kept_at (λ t. if old.given == t then d else stands.waits t) (λ t. if old.given == t then [] else stands.followers t
+        ++ gathered t (map (link_to old.given) d)) t)
         (slice_get (members_of more) t))
     kept_case t true same now =
         let shape : Bool → Bool → Option Member → Option Waiting = shape_of t in
         now
         ∙ sym
-        (ap (λ (dn : Bool). shape dn (old.given == t) (slice_get (members_of more) t)) (stands.later t (omega (arith, sym stands.given, eqb-true old.given t same)))
+        (ap (λ (dn : Bool). shape dn (old.given == t) (slice_get (members_of more) t))
+        (stands.later t (omega (arith, sym stands.given, eqb-true old.given t same)))
         ∙ ap (λ (here : Bool). shape false here (slice_get (members_of more) t)) same
         ∙ ap (shape false true)
         (ap₂ (λ (ms : List Member) (k : ℕ). slice_get ms k) members (sym (eqb-true old.given t same) ∙ stands.given) ∙ get_at (members_of groups) [] m))

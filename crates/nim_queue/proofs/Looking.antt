@@ -56,7 +56,8 @@ free_released queue groups done t stands within =
     elim (slice_get_cases (members_of groups) t).1 [
       | inl found ↦
           ap is_free (stands.kept t)
-          ∙ free_step stands.waits stands.followers t found.0 (done t) (list_all done (waits_of (members_of groups) t)) (slice_get (members_of groups) t) found.2
+          ∙ free_step stands.waits stands.followers t found.0 (done t) (list_all done (waits_of (members_of groups) t)) (slice_get (members_of groups) t)
+          found.2
           (λ here.
           both_empty (stands.waits t) (open_waits (members_of groups) done t) (λ e. stands.left t e here)
           ∙ none_left done (waits_of (members_of groups) t))
@@ -85,5 +86,6 @@ waits_none members t absent =
     none_pass (waits_for members t) (range_with_len 0 t)
     (λ e.
     ap
-    (λ (o : Option Member). option_map_or (λ (l : Member). option_map_or (λ (x : Member). is_waited x (slice_range members (e + 1) t) l) (slice_get members e) false) o false)
+    (λ (o : Option Member). option_map_or (λ (l : Member). option_map_or (λ (x : Member). is_waited x (slice_range members (e + 1) t) l) (slice_get members e)
+    false) o false)
     absent)

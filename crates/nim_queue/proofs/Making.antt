@@ -31,14 +31,16 @@ use Rattle.nim_queue.proofs.Counting.{in_filter}
 use Rattle.nim_queue.proofs.Joining.{none_in}
 use Rattle.nim_queue.proofs.Rising.{range_last}
 
-met_same : (kept : ℕ → Option Waiting) (old new : ℕ → Option SlotUse) (named : ℕ → List ℕ) (written : ℕ → Bool) (is_user : ℕ → Option SlotUse → Bool) (slots : List Slot) (e : ℕ)
+met_same : (kept : ℕ → Option Waiting) (old new : ℕ → Option SlotUse) (named : ℕ → List ℕ) (written : ℕ → Bool) (is_user : ℕ → Option SlotUse → Bool)
+    (slots : List Slot) (e : ℕ)
     → ((t s : ℕ) → is_some (kept t) ≡ true → is_user t (new s) ≡ is_user t (old s))
     → is_met (record { kept = kept; used = old; named = named; written = written }) is_user slots e
     ≡ is_met (record { kept = kept; used = new; named = named; written = written }) is_user slots e
 met_same kept old new named written is_user slots e same =
     any_same (λ (slot : Slot). not (written slot.0) && (is_user e (old slot.0) && is_some (kept e)))
     (λ (slot : Slot). not (written slot.0) && (is_user e (new slot.0) && is_some (kept e)))
-    (λ slot. ap (λ (b : Bool). not (written slot.0) && b) (where_kept (is_some (kept e)) (is_user e (old slot.0)) (is_user e (new slot.0)) (same e slot.0))) slots
+    (λ slot. ap (λ (b : Bool). not (written slot.0) && b) (where_kept (is_some (kept e)) (is_user e (old slot.0)) (is_user e (new slot.0)) (same e slot.0)))
+    slots
   where
     where_kept : (k a b : Bool) → (k ≡ true → b ≡ a) → (a && k) ≡ (b && k)
     where_kept true a b same = ap (λ (x : Bool). x && true) (sym (same refl))
@@ -48,7 +50,8 @@ met_same kept old new named written is_user slots e same =
     where_kept false false false same = refl
 
 -- the same commands are met in uses that are the same
-arrival_same : (kept : ℕ → Option Waiting) (old new : ℕ → Option SlotUse) (first : ℕ) (past : List Command) (ticket : ℕ) (a : Arrival) → HaveSameUses kept old new
+arrival_same : (kept : ℕ → Option Waiting) (old new : ℕ → Option SlotUse) (first : ℕ) (past : List Command) (ticket : ℕ) (a : Arrival)
+    → HaveSameUses kept old new
     → HasArrived (sight_of kept old first past) ticket a → HasArrived (sight_of kept new first past) ticket a
 arrival_same kept old new first past ticket a same has =
     let before : Sight = sight_of kept old first past in
@@ -64,12 +67,14 @@ arrival_same kept old new first past ticket a same has =
           (met_same kept old new before.named before.written is_writer (writes_of a.command.kind) e (λ t s some. same.written t s))
           ∙ ap
           (λ (z : Bool).
-          ((named e || is_met (sight_of kept new first past) is_writer (reads_of a.command.kind) e) || is_met (sight_of kept new first past) is_writer (writes_of a.command.kind) e)
+          ((named e || is_met (sight_of kept new first past) is_writer (reads_of a.command.kind) e)
+          || is_met (sight_of kept new first past) is_writer (writes_of a.command.kind) e)
           || z)
           (met_same kept old new before.named before.written is_reader (writes_of a.command.kind) e same.read);
     }
 
-pub arrivals_same : (kept : ℕ → Option Waiting) (old new : ℕ → Option SlotUse) (first : ℕ) (past : List Command) (all : List Arrival) → HaveSameUses kept old new
+pub arrivals_same : (kept : ℕ → Option Waiting) (old new : ℕ → Option SlotUse) (first : ℕ) (past : List Command) (all : List Arrival)
+    → HaveSameUses kept old new
     → HaveArrived kept old first past all → HaveArrived kept new first past all
 arrivals_same kept old new first past [] same have = have
 arrivals_same kept old new first past (a ∷ rest) same have =
@@ -103,7 +108,8 @@ never_kept queue groups done t slot stands now none =
 
 -- what a queue stands for stays
 pub still_stands : (old new : BeforeQueue) (groups : List Group) (done : ℕ → Bool) → Keeps old groups done
-    → ((t : ℕ) → get nat_eq new.waiting t ≡ get nat_eq old.waiting t) → HaveSameUses (get nat_eq old.waiting) (used_in old.slots.items) (used_in new.slots.items)
+    → ((t : ℕ) → get nat_eq new.waiting t ≡ get nat_eq old.waiting t)
+    → HaveSameUses (get nat_eq old.waiting) (used_in old.slots.items) (used_in new.slots.items)
     → new.released.items.items ≡ old.released.items.items → deque_capacity old.released.items ≤ deque_capacity new.released.items → new.links ≡ old.links
     → new.given ≡ old.given → new.groups ≡ old.groups → Keeps new groups done
 still_stands old new groups done stands waiting uses items capacity links given numbered =

@@ -27,23 +27,27 @@ use Rattle.nim_queue.proofs.Lists.{get_at}
 named_below : (first : ℕ) (past : List Command) (n e : ℕ) → e < first → is_in e (named_in first past n) ≡ false
 named_below first [] n e less = refl
 named_below first (c ∷ past) n e less = by (c.id == n) (named_below (first + 1) past n e (omega (arith, less))) where
-  by : (b : Bool) → is_in e (named_in (first + 1) past n) ≡ false → is_in e (if b then first ∷ named_in (first + 1) past n else named_in (first + 1) past n) ≡ false
+  by : (b : Bool) → is_in e (named_in (first + 1) past n) ≡ false → is_in e (if b then first ∷ named_in (first + 1) past n else named_in (first + 1) past n)
+      ≡ false
   by true rest = ap₂ (λ (x y : Bool). x || y) (ne_eqb e first (λ is. omega (arith, is, less))) rest
   by false rest = rest
 
 named_past : (first : ℕ) (past : List Command) (n e : ℕ) → first + length past ≤ e → is_in e (named_in first past n) ≡ false
 named_past first [] n e behind = refl
 named_past first (c ∷ past) n e behind = by (c.id == n) (named_past (first + 1) past n e (omega (arith, behind))) where
-  by : (b : Bool) → is_in e (named_in (first + 1) past n) ≡ false → is_in e (if b then first ∷ named_in (first + 1) past n else named_in (first + 1) past n) ≡ false
+  by : (b : Bool) → is_in e (named_in (first + 1) past n) ≡ false → is_in e (if b then first ∷ named_in (first + 1) past n else named_in (first + 1) past n)
+      ≡ false
   by true rest = ap₂ (λ (x y : Bool). x || y) (ne_eqb e first (λ is. omega (arith, is, behind))) rest
   by false rest = rest
 
-named_at : (first : ℕ) (past : List Command) (n k e : ℕ) (c : Command) → slice_get past k ≡ Some c → e ≡ first + k → is_in e (named_in first past n) ≡ (c.id == n)
+named_at : (first : ℕ) (past : List Command) (n k e : ℕ) (c : Command) → slice_get past k ≡ Some c → e ≡ first + k
+    → is_in e (named_in first past n) ≡ (c.id == n)
 named_at first [] n k e c got is = absurd (false≢true (ap is_some got))
 named_at first (x ∷ past) n zero e c got is =
     by (x.id == n) (named_below (first + 1) past n e (omega (arith, is))) ∙ ap (λ (o : Option Command). option_map_or (λ (y : Command). y.id == n) o false) got
   where
-    by : (b : Bool) → is_in e (named_in (first + 1) past n) ≡ false → is_in e (if b then first ∷ named_in (first + 1) past n else named_in (first + 1) past n) ≡ b
+    by : (b : Bool) → is_in e (named_in (first + 1) past n) ≡ false
+        → is_in e (if b then first ∷ named_in (first + 1) past n else named_in (first + 1) past n) ≡ b
     by true rest = ap (λ (b : Bool). b || is_in e (named_in (first + 1) past n)) (eq-eqb e first (omega (arith, is)))
     by false rest = rest
 named_at first (x ∷ past) n (suc k) e c got is = by (x.id == n) ∙ named_at (first + 1) past n k e c got (omega (arith, is)) where
@@ -52,10 +56,12 @@ named_at first (x ∷ past) n (suc k) e c got is = by (x.id == n) ∙ named_at (
   by false = refl
 
 -- nobody is met who isn't kept
-none_met : (sight : Sight) (is_user : ℕ → Option SlotUse → Bool) (slots : List Slot) (e : ℕ) → is_some (sight.kept e) ≡ false → is_met sight is_user slots e ≡ false
+none_met : (sight : Sight) (is_user : ℕ → Option SlotUse → Bool) (slots : List Slot) (e : ℕ) → is_some (sight.kept e) ≡ false
+    → is_met sight is_user slots e ≡ false
 none_met sight is_user slots e gone =
     any_nothing (λ (s : Slot). not (sight.written s.0) && (is_user e (sight.used s.0) && is_some (sight.kept e)))
-    (λ s. ap (λ (b : Bool). not (sight.written s.0) && (is_user e (sight.used s.0) && b)) gone ∙ both (not (sight.written s.0)) (is_user e (sight.used s.0))) slots
+    (λ s. ap (λ (b : Bool). not (sight.written s.0) && (is_user e (sight.used s.0) && b)) gone ∙ both (not (sight.written s.0)) (is_user e (sight.used s.0)))
+    slots
   where
     both : (a b : Bool) → (a && (b && false)) ≡ false
     both true true = refl
@@ -69,14 +75,16 @@ in_range k (suc n) e from to =
       | inl here ↦ ap (λ (b : Bool). b || is_in e (range_with_len (k + 1) n)) (eq-eqb e k here)
       | inr other ↦
           ap (λ (b : Bool). b || is_in e (range_with_len (k + 1) n)) (ne_eqb e k other)
-          ∙ in_range (k + 1) n e (elim (cases_lt k e) [ inl less ↦ omega (arith, less) | inr over ↦ absurd (other (omega (arith, from, over))) ]) (omega (arith, to))
+          ∙ in_range (k + 1) n e (elim (cases_lt k e) [ inl less ↦ omega (arith, less) | inr over ↦ absurd (other (omega (arith, from, over))) ])
+          (omega (arith, to))
     ]
 
 -- whether the last one waits for an earlier one that isn't complete
 open_at : (ms : List Member) (done : ℕ → Bool) (n e : ℕ) → e < n → is_in e (open_waits ms done n) ≡ (waits_for ms n e && not (done e))
 open_at ms done n e less =
     in_filter (λ x. not (done x)) e (waits_of ms n)
-    ∙ ap (λ (b : Bool). b && not (done e)) (in_filter (waits_for ms n) e (range_with_len 0 n) ∙ ap (λ (b : Bool). b && waits_for ms n e) (in_range 0 n e (omega arith) (omega (arith, less))))
+    ∙ ap (λ (b : Bool). b && not (done e)) (in_filter (waits_for ms n) e (range_with_len 0 n)
+    ∙ ap (λ (b : Bool). b && waits_for ms n e) (in_range 0 n e (omega arith) (omega (arith, less))))
 
 -- the group of a member is one of the groups
 group_within : (number : ℕ) (groups : List Group) (t : ℕ) (x : Member) → slice_get (members_from number groups) t ≡ Some x → x.group < number + length groups
@@ -226,7 +234,8 @@ border_met x rest g past c sight e kept written writer reader =
     ∙ any_or (λ s. does_read c.kind s && q s) (λ s. does_write c.kind s && q s) writes
     ∙ ap₂ (λ (a b : Bool). a || b) (among_both q writes (reads_of c.kind)) (among_both q writes (writes_of c.kind)) in
     ap₂ (λ (a b : Bool). a || b)
-    (ap₂ (λ (a b : Bool). a || b) (met is_writer (does_write x.command.kind) (reads_of c.kind) writer) (met is_writer (does_write x.command.kind) (writes_of c.kind) writer)
+    (ap₂ (λ (a b : Bool). a || b) (met is_writer (does_write x.command.kind) (reads_of c.kind) writer)
+    (met is_writer (does_write x.command.kind) (writes_of c.kind) writer)
     ∙ sym touched)
     (met is_reader (does_read x.command.kind) (writes_of c.kind) reader ∙ sym (among_both q reads (writes_of c.kind)))
   where
@@ -250,7 +259,8 @@ and_false false = refl
 
 pub reached_open : (queue : BeforeQueue) (groups : List Group) (done : ℕ → Bool) (past : List Command) (c : Command) (e : ℕ) → Keeps queue groups done
     → is_reached (sight_of (get nat_eq queue.waiting) (used_in queue.slots.items) queue.given past) c e
-    ≡ is_in e (open_waits ((members_of groups ++ as_members (length groups) past) ++ record { group = length groups; command = c } ∷ []) done (queue.given + length past))
+    ≡ is_in e (open_waits ((members_of groups ++ as_members (length groups) past) ++ record { group = length groups; command = c } ∷ []) done
+    (queue.given + length past))
 reached_open queue groups done past c e stands =
     elim (cases_lt e last) [
       | inl within ↦ elim (cases_lt e queue.given) [
@@ -258,7 +268,8 @@ reached_open queue groups done past c e stands =
         | inr later ↦ own later within (slice_get_cases past (e - queue.given)).1
       ]
       | inr behind ↦
-          shut _ _ _ _ (none_named queue.given past e c.before (λ n. named_past queue.given past n e behind)) (gone is_writer (reads_of c.kind) (unkept e (omega (arith, behind))))
+          shut _ _ _ _ (none_named queue.given past e c.before (λ n. named_past queue.given past n e behind))
+          (gone is_writer (reads_of c.kind) (unkept e (omega (arith, behind))))
           (gone is_writer (writes_of c.kind) (unkept e (omega (arith, behind)))) (gone is_reader (writes_of c.kind) (unkept e (omega (arith, behind))))
           ∙ sym (not_before ms done e last behind)
     ]
@@ -282,7 +293,13 @@ reached_open queue groups done past c e stands =
     ms = before_all ++ m ∷ []
 
     long : last ≡ length before_all
-    long = omega (arith, stands.given, length-append (members_of groups) (as_members g past), length-map past (λ (k : Command). let x : Member = record { group = g; command = k } in x))
+    long = omega (
+      arith,
+      stands.given,
+      length-append (members_of groups) (as_members g past),
+      length-map past
+          (λ (k : Command). let x : Member = record { group = g; command = k } in x),
+    )
 
     unkept : (t : ℕ) → queue.given ≤ t → is_some (get nat_eq queue.waiting t) ≡ false
     unkept t from = ap is_some (stands.released.past t from)
@@ -292,7 +309,8 @@ reached_open queue groups done past c e stands =
 
     waits_at : (x : Member) → slice_get ms e ≡ Some x → waits_for ms last e ≡ is_waited x (slice_range ms (e + 1) last) m
     waits_at x got =
-        ap₂ (λ (o p : Option Member). option_map_or (λ (l : Member). option_map_or (λ (y : Member). is_waited y (slice_range ms (e + 1) last) l) p false) o false)
+        ap₂ (λ (o p : Option Member). option_map_or (λ (l : Member). option_map_or (λ (y : Member). is_waited y (slice_range ms (e + 1) last) l) p false) o
+        false)
         (ap (slice_get ms) long ∙ get_at before_all [] m) got
 
     own : queue.given ≤ e → e < last

@@ -31,7 +31,8 @@ released_at groups done ticket within released =
     elim (slice_get_cases ms ticket).1 [
       | inl found ↦
           let waits : waits_at (listed ms) ticket ≡ filter (λ earlier. nat_lt earlier ticket) (waits_of ms ticket) =
-          ap (λ (o : Option Command). filter (λ earlier. nat_lt earlier ticket) (option_map_or (λ (c : Command). c.before) o [])) (get_listed ms ticket found.0 found.2) in
+          ap (λ (o : Option Command). filter (λ earlier. nat_lt earlier ticket) (option_map_or (λ (c : Command). c.before) o []))
+          (get_listed ms ticket found.0 found.2) in
           record {
             within = subst (λ (n : ℕ). ticket < n) (sym (length_listed ms)) within;
             waiting = not-true (done ticket) parts.0;

@@ -27,7 +27,10 @@ cut {X} p (x ∷ xs) zero point =
       ap (λ ys. x ∷ ys) rest.1 ∙ ap (λ (b : Bool). if not b then x ∷ filter (λ y. not (p y)) xs else filter (λ y. not (p y)) xs) (sym here),
     )
 cut {X} p (x ∷ xs) (suc i) point =
-    let rest = cut p xs i ((λ k d low high. point.0 (suc k) d (omega arith) (omega (arith, high))), (λ k d low high. point.1 (suc k) d (omega (arith, low)) (omega (arith, high)))) in
+    let rest = cut p xs i (
+      (λ k d low high. point.0 (suc k) d (omega arith) (omega (arith, high))),
+      (λ k d low high. point.1 (suc k) d (omega (arith, low)) (omega (arith, high))),
+    ) in
     let here : p x ≡ true = point.0 0 x (omega arith) (omega arith) in (
       ap (λ ys. x ∷ ys) rest.0 ∙ ap (λ (b : Bool). if b then x ∷ filter p xs else filter p xs) (sym here),
       rest.1 ∙ ap (λ (b : Bool). if not b then x ∷ filter (λ y. not (p y)) xs else filter (λ y. not (p y)) xs) (sym here),
@@ -170,7 +173,8 @@ taken_at None xs ys i n some same there long =
       | inl within ↦ absurd (false≢true (there.1 within))
       | inr past ↦
           same
-          ∙ sym (ap₂ (λ (front back : List ℕ). front ++ back) (take_all i xs (omega (arith, past, long))) (drop_all (suc i) xs (omega (arith, past, long))) ∙ append-nil xs)
+          ∙ sym (ap₂ (λ (front back : List ℕ). front ++ back) (take_all i xs (omega (arith, past, long))) (drop_all (suc i) xs (omega (arith, past, long)))
+          ∙ append-nil xs)
     ]
 
 -- what a call reads at a place of a queue

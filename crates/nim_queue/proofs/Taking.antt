@@ -80,10 +80,12 @@ begun_midway start groups done s = record {
 pub stepped : (start now after : BeforeQueue) (past rest : List Arrival) (a : Arrival) (groups : List Group) (done : ℕ → Bool) (any : Group)
     → HasRoom start (past ++ a ∷ rest) → Keeps start groups done → IsMidway start now past groups done
     → ((k : ℕ) (d : List ℕ) → AreShort (get nat_eq now.waiting) k → a.waits.items ≡ map (link_to now.given) d → k + length d < 2 ^ 63 → 0 < spare now.waiting
-    → HasEntered (get nat_eq now.waiting) (get nat_eq after.waiting) (λ t. gathered t (map (link_to now.given) d)) now.given (kept_new now.groups a.command (length d)))
+    → HasEntered (get nat_eq now.waiting) (get nat_eq after.waiting) (λ t. gathered t (map (link_to now.given) d)) now.given
+    (kept_new now.groups a.command (length d)))
     → ((k : ℕ) (d : List Slot) → AreBrief (used_in now.slots.items) k → a.reads.items ≡ map (reading_of now.given) d → k + length d < 2 ^ 63 → (s : ℕ)
     → used_in after.slots.items s ≡ option_map (more_read (gathered_reads s a.reads.items))
-    (if is_among (writes_of a.command.kind) (record { 0 = s }) then option_map (rewritten now.given) (used_in now.slots.items s) else used_in now.slots.items s))
+    (if is_among (writes_of a.command.kind) (record { 0 = s }) then option_map (rewritten now.given) (used_in now.slots.items s)
+    else used_in now.slots.items s))
     → (IsRising now.released.items.items → deque_len now.released.items < deque_capacity now.released.items
     → after.released.items.items ≡ (if length a.waits.items == 0 then put_in now.given now.released.items.items else now.released.items.items))
     → deque_capacity now.released.items ≤ deque_capacity after.released.items → spare now.waiting ≤ spare after.waiting + 1 → after.given ≡ now.given + 1
@@ -92,18 +94,21 @@ stepped start now after past rest a groups done any room began mid waiting slots
   stands = λ next is.
       let prev : Group = record next { commands = commands_of past } in
       let stood = mid.stands prev refl in
-      joined (record now { groups = length groups + 1; links = before }) (record after { groups = length groups + 1; links = start.links + counted (past ++ a ∷ []) })
+      joined (record now { groups = length groups + 1; links = before })
+      (record after { groups = length groups + 1; links = start.links + counted (past ++ a ∷ []) })
       (groups ++ prev ∷ []) (groups ++ next ∷ []) done m d stood
       (one_member groups prev next a.command (is ∙ map-append (λ (x : Arrival). x.command) past (a ∷ [])))
       (λ e.
       has.reached e ∙ reached_open start groups done (commands_of past) a.command e began
       ∙ ap₂ (λ (ms : List Member) (n : ℕ). is_in e (open_waits (ms ++ m ∷ []) done n)) (sym (members_more groups prev)) (sym ticket))
       entered
-      (λ t s. ap (is_writer t) (slots_are s) ∙ writer_after t now.given (does_write kind (record { 0 = s })) (gathered_reads s a.reads.items) (used_in now.slots.items s) (written_use s)
+      (λ t s. ap (is_writer t) (slots_are s) ∙ writer_after t now.given (does_write kind (record { 0 = s })) (gathered_reads s a.reads.items)
+      (used_in now.slots.items s) (written_use s)
       ∙ ap (λ (b : Bool). if does_write kind (record { 0 = s }) then b else is_writer t (used_in now.slots.items s)) (same_ways t now.given))
       (λ t s.
       ap (is_reader t) (slots_are s)
-      ∙ reader_after t now.given (does_write kind (record { 0 = s })) (does_read kind (record { 0 = s })) (gathered_reads s a.reads.items) (used_in now.slots.items s)
+      ∙ reader_after t now.given (does_write kind (record { 0 = s })) (does_read kind (record { 0 = s })) (gathered_reads s a.reads.items)
+      (used_in now.slots.items s)
       (written_use s) (read_use s)
       (ap (λ (rs : List Reading). is_in t (gathered_reads s rs)) reads ∙ added_readers t now.given (record { 0 = s }) (reads_of kind))
       ∙ ap (λ (b : Bool). (not (does_write kind (record { 0 = s })) && is_reader t (used_in now.slots.items s)) || (b && does_read kind (record { 0 = s })))
@@ -115,12 +120,21 @@ stepped start now after past rest a groups done any room began mid waiting slots
       ∙ ap (λ (n : ℕ). if n == 0 then put_in now.given now.released.items.items else now.released.items.items) waits_count)
       capacity (omega (arith, mid.count, room.room, mid.capacity, long_all)))
       (subst (AreShort (get nat_eq after.waiting)) total
-      (short_joined (get nat_eq now.waiting) (get nat_eq after.waiting) (λ t. gathered t (map (link_to now.given) d)) now.given (kept_new (length groups) a.command (length d))
+      (short_joined (get nat_eq now.waiting) (get nat_eq after.waiting) (λ t. gathered t (map (link_to now.given) d)) now.given
+      (kept_new (length groups) a.command (length d))
       before own refl entered (λ t. omega (arith, length_gathered now.given t d, waits_count)) stood.short))
       (subst (AreBrief (used_in after.slots.items)) total
-      (within_all (λ (u : SlotUse). u.readers) more_read (λ s. rewrites s (used_in now.slots.items s)) (used_in after.slots.items) (λ s. gathered_reads s a.reads.items) before own
-      (λ ms u. refl) slots_are (λ s. omega (arith, ap (λ (rs : List Reading). length (gathered_reads s rs)) reads, length_gathered_reads now.given s (reads_of kind), reads_count))
-      (brief_written (used_in now.slots.items) (λ s. rewrites s (used_in now.slots.items s)) (λ s. is_among (writes_of kind) (record { 0 = s })) now.given before (λ s. refl)
+      (within_all (λ (u : SlotUse). u.readers) more_read (λ s. rewrites s (used_in now.slots.items s)) (used_in after.slots.items)
+      (λ s. gathered_reads s a.reads.items) before own
+      (λ ms u. refl) slots_are (λ s. omega (
+        arith,
+        ap (λ (rs : List Reading). length (gathered_reads s rs)) reads,
+        length_gathered_reads now.given s
+            (reads_of kind),
+        reads_count,
+      ))
+      (brief_written (used_in now.slots.items) (λ s. rewrites s (used_in now.slots.items s)) (λ s. is_among (writes_of kind) (record { 0 = s })) now.given
+      before (λ s. refl)
       stood.brief)))
       given (sym (length-append groups (next ∷ [])));
   given = omega (arith, given, mid.given, long);
@@ -136,7 +150,8 @@ stepped start now after past rest a groups done any room began mid waiting slots
             (kept_new (length groups) a.command (length d)) entered,
       );
   covered = λ s there.
-      ap is_some (slots_are s) ∙ use_stays now.given (does_write kind (record { 0 = s })) (gathered_reads s a.reads.items) (used_in now.slots.items s) ∙ mid.covered s there;
+      ap is_some (slots_are s) ∙ use_stays now.given (does_write kind (record { 0 = s })) (gathered_reads s a.reads.items) (used_in now.slots.items s)
+      ∙ mid.covered s there;
   number = number ∙ mid.number;
 }
   where
@@ -152,7 +167,8 @@ stepped start now after past rest a groups done any room began mid waiting slots
     own : ℕ
     own = length a.waits.items + length a.reads.items
 
-    has : HasArrived (sight_of (get nat_eq start.waiting) (used_in start.slots.items) start.given (commands_of past)) (start.given + length (commands_of past)) a
+    has : HasArrived (sight_of (get nat_eq start.waiting) (used_in start.slots.items) start.given (commands_of past)) (start.given + length (commands_of past))
+        a
     has = arrived_at (get nat_eq start.waiting) (used_in start.slots.items) start.given [] past rest a room.arrived
 
     d : List ℕ
@@ -188,7 +204,8 @@ stepped start now after past rest a groups done any room began mid waiting slots
     of_group : kept_new now.groups a.command (length d) ≡ kept_new (length groups) a.command (length d)
     of_group = ap (λ (g : ℕ). kept_new g a.command (length d)) (mid.number ∙ began.numbered)
 
-    entered : HasEntered (get nat_eq now.waiting) (get nat_eq after.waiting) (λ t. gathered t (map (link_to now.given) d)) now.given (kept_new (length groups) a.command (length d))
+    entered : HasEntered (get nat_eq now.waiting) (get nat_eq after.waiting) (λ t. gathered t (map (link_to now.given) d)) now.given
+        (kept_new (length groups) a.command (length d))
     entered =
         subst (HasEntered (get nat_eq now.waiting) (get nat_eq after.waiting) (λ t. gathered t (map (link_to now.given) d)) now.given) of_group
         (waiting before d standing.short links (omega (arith, room.few, counted_at past rest a, waits_count)) (omega (arith, mid.spare, room.spare, long_all)))

@@ -61,7 +61,8 @@ within_all {X} own f kept next more most count adds is few within t w got = by (
 
 -- the arrival at a place
 pub arrived_at : (kept : ℕ → Option Waiting) (used : ℕ → Option SlotUse) (first : ℕ) (cs : List Command) (past rest : List Arrival) (a : Arrival)
-    → HaveArrived kept used first cs (past ++ a ∷ rest) → HasArrived (sight_of kept used first (cs ++ commands_of past)) (first + length (cs ++ commands_of past)) a
+    → HaveArrived kept used first cs (past ++ a ∷ rest) → HasArrived (sight_of kept used first (cs ++ commands_of past))
+    (first + length (cs ++ commands_of past)) a
 arrived_at kept used first cs [] rest a have =
     subst (λ (xs : List Command). HasArrived (sight_of kept used first xs) (first + length xs) a) (sym (append-nil cs)) have.0
 arrived_at kept used first cs (b ∷ past) rest a have =

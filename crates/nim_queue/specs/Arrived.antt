@@ -28,7 +28,8 @@ reading_of ticket slot = record { slot = slot; reader = ticket ∷ [] }
 -- the tickets of those of some commands that have a number, the first of them with this ticket
 abbrev pub named_in : ℕ → List Command → ℕ → List ℕ
 named_in ticket [] number = []
-named_in ticket (c ∷ rest) number = if c.id == number then ticket ∷ named_in (ticket + 1) rest number else named_in (ticket + 1) rest number
+named_in ticket (c ∷ rest) number =
+    if c.id == number then ticket ∷ named_in (ticket + 1) rest number else named_in (ticket + 1) rest number
 
 -- whether one of some commands writes a slot
 abbrev pub is_written_in : List Command → ℕ → Bool
@@ -45,7 +46,8 @@ pub record Sight : Type 0 where
 -- whether a waiting command is met as a user of one of these slots, where none of the group writes it before
 abbrev pub is_met : Sight → (ℕ → Option SlotUse → Bool) → List Slot → ℕ → Bool
 is_met sight is_user slots ticket =
-    list_any (λ (slot : Slot). not (sight.written slot.0) && (is_user ticket (sight.used slot.0) && is_some (sight.kept ticket))) slots
+    list_any (λ (slot : Slot). not (sight.written slot.0)
+    && (is_user ticket (sight.used slot.0) && is_some (sight.kept ticket))) slots
 
 -- whether a command of the group waits for the one of a ticket
 abbrev pub is_reached : Sight → Command → ℕ → Bool
@@ -64,13 +66,15 @@ pub record HasArrived (sight : Sight) (ticket : ℕ) (arrival : Arrival) : Type 
 
 -- what the next command of a group is held against, when these have arrived
 abbrev pub sight_of : (ℕ → Option Waiting) → (ℕ → Option SlotUse) → ℕ → List Command → Sight
-sight_of kept used first past = record { kept = kept; used = used; named = named_in first past; written = is_written_in past }
+sight_of kept used first past =
+    record { kept = kept; used = used; named = named_in first past; written = is_written_in past }
 
 -- Commands of a group have arrived behind these ones of it, each behind the ones before it.
 abbrev pub HaveArrived : (ℕ → Option Waiting) → (ℕ → Option SlotUse) → ℕ → List Command → List Arrival → Type 0
 HaveArrived kept used first past [] = Unit {0}
 HaveArrived kept used first past (a ∷ rest) =
-    HasArrived (sight_of kept used first past) (first + length past) a × HaveArrived kept used first (past ++ a.command ∷ []) rest
+    HasArrived (sight_of kept used first past) (first + length past) a
+    × HaveArrived kept used first (past ++ a.command ∷ []) rest
 
 -- the commands that have arrived
 abbrev pub commands_of : List Arrival → List Command

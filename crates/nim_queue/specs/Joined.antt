@@ -68,7 +68,8 @@ use_at kept (Some u) = Some (left_by kept u)
 -- The uses of slots are those that there were, and maybe some that nobody has, or without readers that don't wait.
 pub record HaveSameUses (kept : ℕ → Option Waiting) (old new : ℕ → Option SlotUse) : Type 0 where
   pub written : (ticket slot : ℕ) → is_writer ticket (new slot) ≡ is_writer ticket (old slot)
-  pub read : (ticket slot : ℕ) → is_some (kept ticket) ≡ true → is_reader ticket (new slot) ≡ is_reader ticket (old slot)
+  pub read : (ticket slot : ℕ) → is_some (kept ticket) ≡ true
+      → is_reader ticket (new slot) ≡ is_reader ticket (old slot)
   pub fewer : (ticket slot : ℕ) → is_reader ticket (old slot) ≡ false → is_reader ticket (new slot) ≡ false
   pub stays : (slot : ℕ) → is_some (old slot) ≡ true → is_some (new slot) ≡ true
   pub brief : (most : ℕ) → AreBrief old most → AreBrief new most

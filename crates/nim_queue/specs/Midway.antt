@@ -18,15 +18,20 @@ pub record HasRoom (start : BeforeQueue) (all : List Arrival) : Type 0 where
   pub covered : list_all (are_covered (used_in start.slots.items)) all ≡ true
   pub few : start.links + counted all < 2 ^ 62
   pub spare : length all ≤ spare start.waiting
-  pub room : length (kept_ones (get nat_eq start.waiting) start.given) + length all ≤ deque_capacity start.released.items
+  pub room : length (kept_ones (get nat_eq start.waiting) start.given) + length all
+      ≤ deque_capacity start.released.items
 
 -- What the queue stands for once so many of the group's commands have joined it.
-pub record IsMidway (start now : BeforeQueue) (past : List Arrival) (groups : List Group) (done : ℕ → Bool) : Type 0 where
-  pub stands : (next : Group) → next.commands ≡ commands_of past
-      → Keeps (record now { groups = length groups + 1; links = start.links + counted past }) (groups ++ next ∷ []) done
-  pub given : now.given ≡ start.given + length past
-  pub spare : spare start.waiting ≤ spare now.waiting + length past
-  pub capacity : deque_capacity start.released.items ≤ deque_capacity now.released.items
-  pub count : length (kept_ones (get nat_eq now.waiting) now.given) ≤ length (kept_ones (get nat_eq start.waiting) start.given) + length past
-  pub covered : (slot : ℕ) → is_some (used_in start.slots.items slot) ≡ true → is_some (used_in now.slots.items slot) ≡ true
-  pub number : now.groups ≡ start.groups
+pub record IsMidway (start now : BeforeQueue) (past : List Arrival) (groups : List Group) (done : ℕ → Bool) : Type 0
+  where
+    pub stands : (next : Group) → next.commands ≡ commands_of past
+        → Keeps (record now { groups = length groups + 1; links = start.links + counted past }) (groups ++ next ∷ [])
+        done
+    pub given : now.given ≡ start.given + length past
+    pub spare : spare start.waiting ≤ spare now.waiting + length past
+    pub capacity : deque_capacity start.released.items ≤ deque_capacity now.released.items
+    pub count : length (kept_ones (get nat_eq now.waiting) now.given)
+        ≤ length (kept_ones (get nat_eq start.waiting) start.given) + length past
+    pub covered : (slot : ℕ) → is_some (used_in start.slots.items slot) ≡ true
+        → is_some (used_in now.slots.items slot) ≡ true
+    pub number : now.groups ≡ start.groups

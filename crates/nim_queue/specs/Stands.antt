@@ -72,11 +72,13 @@ kept_at waits followers ticket m = record {
 -- whether the command at a place uses a slot, and no later one writes it
 abbrev pub does_use_last : (Kind → Slot → Bool) → List Member → ℕ → Slot → Bool
 does_use_last uses members place slot =
-    option_map_or (λ (m : Member). uses m.command.kind slot && not (is_written_by (drop (place + 1) members) slot)) (slice_get members place) false
+    option_map_or (λ (m : Member). uses m.command.kind slot && not (is_written_by (drop (place + 1) members) slot))
+    (slice_get members place) false
 
 -- whether a slot's last writer is the command of a ticket
 abbrev pub is_writer : ℕ → Option SlotUse → Bool
-is_writer ticket used = option_map_or (λ (u : SlotUse). option_map_or (λ writer. ticket == writer) u.writer false) used false
+is_writer ticket used =
+    option_map_or (λ (u : SlotUse). option_map_or (λ writer. ticket == writer) u.writer false) used false
 
 -- whether the command of a ticket is among a slot's readers
 abbrev pub is_reader : ℕ → Option SlotUse → Bool
@@ -92,17 +94,22 @@ pub record Keeps (queue : BeforeQueue) (groups : List Group) (done : ℕ → Boo
   pub waits : ℕ → List ℕ
   pub followers : ℕ → List ℕ
   pub kept : (ticket : ℕ) → get nat_eq queue.waiting ticket
-      ≡ (if done ticket then None else option_map (kept_at waits followers ticket) (slice_get (members_of groups) ticket))
+      ≡ (if done ticket then None else option_map (kept_at waits followers ticket)
+      (slice_get (members_of groups) ticket))
   -- they are those whom it has to wait for, and that aren't complete
-  pub left : (ticket earlier : ℕ) → done ticket ≡ false → is_in earlier (waits ticket) ≡ is_in earlier (open_waits (members_of groups) done ticket)
+  pub left : (ticket earlier : ℕ) → done ticket ≡ false
+      → is_in earlier (waits ticket) ≡ is_in earlier (open_waits (members_of groups) done ticket)
   -- one waits for another as often as that one is followed by it
-  pub mirrored : (earlier later : ℕ) → done earlier ≡ false → done later ≡ false → times later (followers earlier) ≡ times earlier (waits later)
+  pub mirrored : (earlier later : ℕ) → done earlier ≡ false → done later ≡ false
+      → times later (followers earlier) ≡ times earlier (waits later)
   pub released : AreReleased (get nat_eq queue.waiting) queue.released queue.given
   -- the last writer of each slot, and the readers since, where they aren't complete
   pub written : (ticket slot : ℕ) → done ticket ≡ false
-      → is_writer ticket (used_in queue.slots.items slot) ≡ does_use_last does_write (members_of groups) ticket (record { 0 = slot })
+      → is_writer ticket (used_in queue.slots.items slot)
+      ≡ does_use_last does_write (members_of groups) ticket (record { 0 = slot })
   pub read : (ticket slot : ℕ) → done ticket ≡ false
-      → is_reader ticket (used_in queue.slots.items slot) ≡ does_use_last does_read (members_of groups) ticket (record { 0 = slot })
+      → is_reader ticket (used_in queue.slots.items slot)
+      ≡ does_use_last does_read (members_of groups) ticket (record { 0 = slot })
   -- no list is longer than was counted
   pub short : AreShort (get nat_eq queue.waiting) queue.links
   pub brief : AreBrief (used_in queue.slots.items) queue.links
@@ -116,7 +123,8 @@ unfoldable pub IsKept : BeforeQueue → List Group → (ℕ → Bool) → Type 0
 IsKept queue groups done = Keeps queue groups done
 
 -- The queue was given these groups, and just these of their commands are complete, each by its place in the order
--- given, which is its ticket. It keeps nothing of those but their number, and their tickets where they used a slot last.
+-- given, which is its ticket. It keeps nothing of those but their number, and their tickets where they used a slot
+-- last.
 pub record Stands (queue : BeforeQueue) (groups : List Group) (done : ℕ → Bool) : Type 0 where
   pub kept : IsKept queue groups done
   -- no command is complete before it is given

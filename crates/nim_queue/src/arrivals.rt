@@ -53,7 +53,8 @@ pub(crate) fn arrive_all(
 ) -> Result<Vec<Arrival>, NoMemory>
     requires { first + length commands.items < 2 ^ 64 }
     ensures commands { IfOk result (λ arrived. commands_of arrived.items ≡ commands.items) }
-    ensures arrived { IfOk result (λ arrived. HaveArrived (get nat_eq waiting.now) (used_in slots.now.items) first [] arrived.items) }
+    ensures arrived { IfOk result (λ arrived. HaveArrived (get nat_eq waiting.now) (used_in slots.now.items) first []
+        arrived.items) }
 {
     let mut arrived = Vec::with_capacity(alloc, commands.len())?;
     let mut arrivals = Arrivals::new(alloc);
@@ -186,7 +187,8 @@ impl Arrivals {
         touched: &[Slot],
     ) -> Result<(), NoMemory>
         ensures { OnOk result ((e : ℕ) → is_in e tickets.new ≡ (is_in e tickets.old || list_any (λ (slot : slot_type).
-            not (bag.contains nat_eq self.now.written slot.0) && (is_writer e (used_in slots.now.items slot.0) && is_some (get nat_eq waiting.now e))) touched.now)) }
+            not (bag.contains nat_eq self.now.written slot.0)
+            && (is_writer e (used_in slots.now.items slot.0) && is_some (get nat_eq waiting.now e))) touched.now)) }
     {
         for slot in touched {
             if !self.written.contains(&slot.0) {
@@ -205,7 +207,8 @@ impl Arrivals {
         written: &[Slot],
     ) -> Result<(), NoMemory>
         ensures { OnOk result ((e : ℕ) → is_in e tickets.new ≡ (is_in e tickets.old || list_any (λ (slot : slot_type).
-            not (bag.contains nat_eq self.now.written slot.0) && (is_reader e (used_in slots.now.items slot.0) && is_some (get nat_eq waiting.now e))) written.now)) }
+            not (bag.contains nat_eq self.now.written slot.0)
+            && (is_reader e (used_in slots.now.items slot.0) && is_some (get nat_eq waiting.now e))) written.now)) }
     {
         for slot in written {
             if !self.written.contains(&slot.0) {
@@ -234,7 +237,8 @@ fn note_number(
 }
 
 fn note_writes(written: &mut HashSet<u16>, slots: &[Slot]) -> Result<(), NoMemory>
-    ensures { OnOk result ((s : ℕ) → bag.contains nat_eq written.new s ≡ (bag.contains nat_eq written.old s || is_among slots.now (record { 0 = s }))) }
+    ensures { OnOk result ((s : ℕ) → bag.contains nat_eq written.new s
+        ≡ (bag.contains nat_eq written.old s || is_among slots.now (record { 0 = s }))) }
 {
     for slot in slots {
         written.insert(slot.0)?;
@@ -247,7 +251,8 @@ fn push_named(
     numbers: &HashMap<u32, LinkedList<u64>>,
     number: u32,
 ) -> Result<(), NoMemory>
-    ensures { OnOk result ((e : ℕ) → is_in e tickets.new ≡ (is_in e tickets.old || is_in e (unwrap_or (get nat_eq numbers.now number) []))) }
+    ensures { OnOk result ((e : ℕ) → is_in e tickets.new
+        ≡ (is_in e tickets.old || is_in e (unwrap_or (get nat_eq numbers.now number) []))) }
 {
     if let Some(named) = numbers.get(&number) {
         push_all(tickets, named)?;
@@ -301,7 +306,8 @@ fn push_each(
     waiting: &HashMap<u64, Waiting>,
     readers: &LinkedList<u64>,
 ) -> Result<(), NoMemory>
-    ensures { OnOk result ((e : ℕ) → is_in e tickets.new ≡ (is_in e tickets.old || (is_in e readers.now && is_some (get nat_eq waiting.now e)))) }
+    ensures { OnOk result ((e : ℕ) → is_in e tickets.new
+        ≡ (is_in e tickets.old || (is_in e readers.now && is_some (get nat_eq waiting.now e)))) }
 {
     for reader in readers.iter() {
         push_kept(tickets, waiting, *reader)?;
@@ -315,7 +321,8 @@ fn push_kept(
     waiting: &HashMap<u64, Waiting>,
     ticket: u64,
 ) -> Result<(), NoMemory>
-    ensures { OnOk result ((e : ℕ) → is_in e tickets.new ≡ (is_in e tickets.old || ((e == ticket) && is_some (get nat_eq waiting.now e)))) }
+    ensures { OnOk result ((e : ℕ) → is_in e tickets.new
+        ≡ (is_in e tickets.old || ((e == ticket) && is_some (get nat_eq waiting.now e)))) }
 {
     if tickets.len() <= FEW && is_known(tickets.as_slice(), ticket) {
         return Ok(());

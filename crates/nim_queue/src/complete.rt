@@ -19,8 +19,10 @@ pub(crate) fn free(
     ensures command { result ≡ option_map (λ (w : waiting_type). w.command) (get nat_eq waiting.old ticket) }
     ensures gone { (w : waiting_type) → get nat_eq waiting.old ticket ≡ Some w → (t : ℕ) → get nat_eq waiting.new t
         ≡ option_map (fewer (times t w.followers)) (if ticket == t then None else get nat_eq waiting.old t) }
-    ensures absent { get nat_eq waiting.old ticket ≡ None → (t : ℕ) → get nat_eq waiting.new t ≡ get nat_eq waiting.old t }
-    ensures released { (n : ℕ) → AreReleased (get nat_eq waiting.old) released.old n → AreReleased (get nat_eq waiting.new) released.new n }
+    ensures absent { get nat_eq waiting.old ticket ≡ None → (t : ℕ)
+        → get nat_eq waiting.new t ≡ get nat_eq waiting.old t }
+    ensures released { (n : ℕ) → AreReleased (get nat_eq waiting.old) released.old n
+        → AreReleased (get nat_eq waiting.new) released.new n }
 {
     match waiting.remove(&ticket) {
         Some(done) => {
@@ -41,7 +43,8 @@ pub(crate) fn free(
 /// A command that waited for so many was complete.
 fn forget(released: &mut Tickets, ticket: u64, pending: u64)
     ensures items { IsRising released.old.items.items
-        → released.new.items.items ≡ (if pending == 0 then taken_out ticket released.old.items.items else released.old.items.items) }
+        → released.new.items.items ≡ (if pending == 0 then taken_out ticket released.old.items.items
+        else released.old.items.items) }
     ensures capacity { deque_capacity released.new.items ≡ deque_capacity released.old.items }
 {
     if pending == 0 {
@@ -55,8 +58,10 @@ fn count_down_all(
     released: &mut Tickets,
     followers: LinkedList<u64>,
 )
-    ensures waiting { (t : ℕ) → get nat_eq waiting.new t ≡ option_map (fewer (times t followers)) (get nat_eq waiting.old t) }
-    ensures released { (n : ℕ) → AreReleased (get nat_eq waiting.old) released.old n → AreReleased (get nat_eq waiting.new) released.new n }
+    ensures waiting { (t : ℕ) → get nat_eq waiting.new t
+        ≡ option_map (fewer (times t followers)) (get nat_eq waiting.old t) }
+    ensures released { (n : ℕ) → AreReleased (get nat_eq waiting.old) released.old n
+        → AreReleased (get nat_eq waiting.new) released.new n }
 {
     for follower in followers {
         count_down(waiting, released, follower);
@@ -64,8 +69,10 @@ fn count_down_all(
 }
 
 fn count_down(waiting: &mut HashMap<u64, Waiting>, released: &mut Tickets, ticket: u64)
-    ensures waiting { (t : ℕ) → get nat_eq waiting.new t ≡ option_map (fewer (if ticket == t then 1 else 0)) (get nat_eq waiting.old t) }
-    ensures released { (n : ℕ) → AreReleased (get nat_eq waiting.old) released.old n → AreReleased (get nat_eq waiting.new) released.new n }
+    ensures waiting { (t : ℕ) → get nat_eq waiting.new t
+        ≡ option_map (fewer (if ticket == t then 1 else 0)) (get nat_eq waiting.old t) }
+    ensures released { (n : ℕ) → AreReleased (get nat_eq waiting.old) released.old n
+        → AreReleased (get nat_eq waiting.new) released.new n }
 {
     if has_last(waiting, ticket) {
         released.put(ticket);
@@ -74,7 +81,8 @@ fn count_down(waiting: &mut HashMap<u64, Waiting>, released: &mut Tickets, ticke
 
 /// One of the waits of a command is complete, if it is there; whether it was the last.
 fn has_last(waiting: &mut HashMap<u64, Waiting>, ticket: u64) -> bool
-    ensures waiting { (t : ℕ) → get nat_eq waiting.new t ≡ option_map (fewer (if ticket == t then 1 else 0)) (get nat_eq waiting.old t) }
+    ensures waiting { (t : ℕ) → get nat_eq waiting.new t
+        ≡ option_map (fewer (if ticket == t then 1 else 0)) (get nat_eq waiting.old t) }
     ensures last { result ≡ option_map_or (λ (w : waiting_type). w.pending == 1) (get nat_eq waiting.old ticket) false }
 {
     match waiting.get_mut(&ticket) {

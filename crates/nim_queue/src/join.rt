@@ -18,7 +18,8 @@ use std::collections::HashMap;
 
 /// Those that a command waits for are followed by it.
 pub(crate) fn follow(waiting: &mut HashMap<u64, Waiting>, waits: Vec<Link>)
-    ensures followers { (k n : ℕ) (d : List ℕ) → AreShort (get nat_eq waiting.old) k → waits.items ≡ map (link_to n) d → k + length d < 2 ^ 63
+    ensures followers { (k n : ℕ) (d : List ℕ) → AreShort (get nat_eq waiting.old) k → waits.items ≡ map (link_to n) d
+        → k + length d < 2 ^ 63
         → (t : ℕ) → get nat_eq waiting.new t ≡ option_map (followed (gathered t waits.items)) (get nat_eq waiting.old t) }
     ensures spare { spare waiting.new ≡ spare waiting.old }
 {
@@ -29,7 +30,8 @@ pub(crate) fn follow(waiting: &mut HashMap<u64, Waiting>, waits: Vec<Link>)
 
 fn follow_one(waiting: &mut HashMap<u64, Waiting>, link: Link)
     ensures followers { (k : ℕ) → AreShort (get nat_eq waiting.old) k → k + length link.later < 2 ^ 63
-        → (t : ℕ) → get nat_eq waiting.new t ≡ option_map (followed (if link.earlier == t then link.later else [])) (get nat_eq waiting.old t) }
+        → (t : ℕ) → get nat_eq waiting.new t ≡ option_map (followed (if link.earlier == t then link.later else []))
+        (get nat_eq waiting.old t) }
     ensures spare { spare waiting.new ≡ spare waiting.old }
 {
     let Link { earlier, mut later } = link;
@@ -41,7 +43,8 @@ fn follow_one(waiting: &mut HashMap<u64, Waiting>, link: Link)
 /// A command writes these slots, each of which has a use.
 pub(crate) fn write(slots: &mut Vec<Option<SlotUse>>, written: &[Slot], ticket: u64)
     ensures { (s : ℕ) → used_in slots.new.items s
-        ≡ (if is_among written.now (record { 0 = s }) then option_map (rewritten ticket) (used_in slots.old.items s) else used_in slots.old.items s) }
+        ≡ (if is_among written.now (record { 0 = s }) then option_map (rewritten ticket) (used_in slots.old.items s)
+        else used_in slots.old.items s) }
 {
     for slot in written {
         write_one(slots, *slot, ticket);
@@ -60,8 +63,10 @@ fn write_one(slots: &mut Vec<Option<SlotUse>>, slot: Slot, ticket: u64)
 
 /// It reads these slots, each of which has a use.
 pub(crate) fn read(slots: &mut Vec<Option<SlotUse>>, reads: Vec<Reading>)
-    ensures { (k n : ℕ) (d : List slot_type) → AreBrief (used_in slots.old.items) k → reads.items ≡ map (reading_of n) d → k + length d < 2 ^ 63
-        → (s : ℕ) → used_in slots.new.items s ≡ option_map (more_read (gathered_reads s reads.items)) (used_in slots.old.items s) }
+    ensures { (k n : ℕ) (d : List slot_type) → AreBrief (used_in slots.old.items) k → reads.items ≡ map (reading_of n) d
+        → k + length d < 2 ^ 63
+        → (s : ℕ) → used_in slots.new.items s ≡ option_map (more_read (gathered_reads s reads.items))
+        (used_in slots.old.items s) }
 {
     for reading in reads {
         read_one(slots, reading);
@@ -70,7 +75,8 @@ pub(crate) fn read(slots: &mut Vec<Option<SlotUse>>, reads: Vec<Reading>)
 
 fn read_one(slots: &mut Vec<Option<SlotUse>>, reading: Reading)
     ensures { (k : ℕ) → AreBrief (used_in slots.old.items) k → k + length reading.reader < 2 ^ 63
-        → (s : ℕ) → used_in slots.new.items s ≡ option_map (more_read (if reading.slot.0 == s then reading.reader else [])) (used_in slots.old.items s) }
+        → (s : ℕ) → used_in slots.new.items s ≡ option_map
+        (more_read (if reading.slot.0 == s then reading.reader else [])) (used_in slots.old.items s) }
 {
     let Reading { slot, reader } = reading;
     let at = usize::from(slot.0);
@@ -81,7 +87,8 @@ fn read_one(slots: &mut Vec<Option<SlotUse>>, reading: Reading)
 
 /// A command waits under its ticket from now on, for which there is room.
 pub(crate) fn enter(waiting: &mut HashMap<u64, Waiting>, ticket: u64, w: Waiting)
-    ensures entered { 0 < spare waiting.old → (t : ℕ) → get nat_eq waiting.new t ≡ (if ticket == t then Some w else get nat_eq waiting.old t) }
+    ensures entered { 0 < spare waiting.old → (t : ℕ)
+        → get nat_eq waiting.new t ≡ (if ticket == t then Some w else get nat_eq waiting.old t) }
     ensures spare { spare waiting.old ≤ spare waiting.new + 1 }
 {
     let _ = waiting.insert(ticket, w);
@@ -90,7 +97,8 @@ pub(crate) fn enter(waiting: &mut HashMap<u64, Waiting>, ticket: u64, w: Waiting
 /// A command that waits for so many is released, if for none, where there is room.
 pub(crate) fn offer(released: &mut Tickets, ticket: u64, pending: u64)
     ensures items { IsRising released.old.items.items → deque_len released.old.items < deque_capacity released.old.items
-        → released.new.items.items ≡ (if pending == 0 then put_in ticket released.old.items.items else released.old.items.items) }
+        → released.new.items.items ≡ (if pending == 0 then put_in ticket released.old.items.items
+        else released.old.items.items) }
     ensures capacity { deque_capacity released.old.items ≤ deque_capacity released.new.items }
 {
     if pending == 0 {

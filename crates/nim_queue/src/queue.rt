@@ -67,9 +67,11 @@ impl BeforeQueue {
     /// no earlier command of the group has are nothing. Memory is also refused where tickets or the count of all
     /// waits run out.
     pub fn admit(&mut self, group: Vec<Command>) -> Result<(), NoMemory>
-        ensures ok { (groups : List group_type) (done : ℕ → Bool) (next : group_type) → Stands self.old groups done → next.commands ≡ group.items
+        ensures ok { (groups : List group_type) (done : ℕ → Bool) (next : group_type) → Stands self.old groups done
+            → next.commands ≡ group.items
             → OnOk result (Stands self.new (groups ++ next ∷ []) done) }
-        ensures err { (groups : List group_type) (done : ℕ → Bool) → Stands self.old groups done → OnErr result (Stands self.new groups done) }
+        ensures err { (groups : List group_type) (done : ℕ → Bool) → Stands self.old groups done
+            → OnErr result (Stands self.new groups done) }
     {
         if group.len() as u64 > u64::MAX - self.given || self.groups == u64::MAX {
             return Err(NoMemory);
@@ -89,7 +91,8 @@ impl BeforeQueue {
     /// The ticket of the first command after the given one, the first of all where none is given, that isn't complete
     /// and whose waits are all complete; takes no memory.
     pub fn ready(&self, after: Option<u64>) -> Option<u64>
-        ensures first { (groups : List group_type) (done : ℕ → Bool) → Stands self.now groups done → result ≡ ready_of groups done after }
+        ensures first { (groups : List group_type) (done : ℕ → Bool) → Stands self.now groups done
+            → result ≡ ready_of groups done after }
         ensures released { (groups : List group_type) (done : ℕ → Bool) → Stands self.now groups done
             → IfSome result (λ ticket. IsReleasedAt (placed_commands groups) done ticket) }
         ensures later { IfSome result (λ ticket. is_after after ticket ≡ true) }
@@ -99,23 +102,28 @@ impl BeforeQueue {
 
     /// The command of a ticket, while it isn't complete; takes no memory.
     pub fn command(&self, ticket: u64) -> Option<&Command>
-        ensures { (groups : List group_type) (done : ℕ → Bool) → Stands self.now groups done → option_copied result ≡ command_of groups done ticket }
+        ensures { (groups : List group_type) (done : ℕ → Bool) → Stands self.now groups done
+            → option_copied result ≡ command_of groups done ticket }
     {
         command_at(&self.waiting, ticket)
     }
 
     /// Which of the groups given, from 0 on, the command of a ticket is of, while it isn't complete; takes no memory.
     pub fn group(&self, ticket: u64) -> Option<u64>
-        ensures { (groups : List group_type) (done : ℕ → Bool) → Stands self.now groups done → result ≡ group_of groups done ticket }
+        ensures { (groups : List group_type) (done : ℕ → Bool) → Stands self.now groups done
+            → result ≡ group_of groups done ticket }
     {
         group_at(&self.waiting, ticket)
     }
 
-    /// The command of a ticket is complete, and is handed back, where it wasn't complete before. A ticket that was never
+    /// The command of a ticket is complete, and is handed back, where it wasn't complete before. A ticket that was
+    /// never
     /// given changes nothing. Takes no memory.
     pub fn complete(&mut self, ticket: u64) -> Option<Command>
-        ensures stands { (groups : List group_type) (done : ℕ → Bool) → Stands self.old groups done → Stands self.new groups (done_with groups done ticket) }
-        ensures command { (groups : List group_type) (done : ℕ → Bool) → Stands self.old groups done → result ≡ command_of groups done ticket }
+        ensures stands { (groups : List group_type) (done : ℕ → Bool) → Stands self.old groups done
+            → Stands self.new groups (done_with groups done ticket) }
+        ensures command { (groups : List group_type) (done : ℕ → Bool) → Stands self.old groups done
+            → result ≡ command_of groups done ticket }
     {
         free(&mut self.waiting, &mut self.released, ticket)
     }
@@ -125,9 +133,11 @@ impl BeforeQueue {
         requires one { length group.items ≡ 1 }
         requires tickets { self.old.given + 1 < 2 ^ 64 }
         requires groups { self.old.groups + 1 < 2 ^ 64 }
-        ensures ok { (groups : List group_type) (done : ℕ → Bool) (next : group_type) → Stands self.old groups done → next.commands ≡ group.items
+        ensures ok { (groups : List group_type) (done : ℕ → Bool) (next : group_type) → Stands self.old groups done
+            → next.commands ≡ group.items
             → OnOk result (Stands self.new (groups ++ next ∷ []) done) }
-        ensures err { (groups : List group_type) (done : ℕ → Bool) → Stands self.old groups done → OnErr result (Stands self.new groups done) }
+        ensures err { (groups : List group_type) (done : ℕ → Bool) → Stands self.old groups done
+            → OnErr result (Stands self.new groups done) }
     {
         match group.pop() {
             Some(command) => self.admit_alone(command),
@@ -139,9 +149,11 @@ impl BeforeQueue {
     fn admit_alone(&mut self, command: Command) -> Result<(), NoMemory>
         requires tickets { self.old.given + 1 < 2 ^ 64 }
         requires groups { self.old.groups + 1 < 2 ^ 64 }
-        ensures ok { (groups : List group_type) (done : ℕ → Bool) (next : group_type) → Stands self.old groups done → next.commands ≡ command ∷ []
+        ensures ok { (groups : List group_type) (done : ℕ → Bool) (next : group_type) → Stands self.old groups done
+            → next.commands ≡ command ∷ []
             → OnOk result (Stands self.new (groups ++ next ∷ []) done) }
-        ensures err { (groups : List group_type) (done : ℕ → Bool) → Stands self.old groups done → OnErr result (Stands self.new groups done) }
+        ensures err { (groups : List group_type) (done : ℕ → Bool) → Stands self.old groups done
+            → OnErr result (Stands self.new groups done) }
     {
         let nothing = Arrivals::new(self.alloc);
         let arrival = nothing.arrival(&self.waiting, &self.slots, self.given, command)?;
@@ -155,8 +167,10 @@ impl BeforeQueue {
 
     /// Room for what has arrived.
     fn make_room(&mut self, arrived: &[Arrival]) -> Result<(), NoMemory>
-        ensures stands { (groups : List group_type) (done : ℕ → Bool) → Stands self.old groups done → Stands self.new groups done }
-        ensures room { OnOk result (HaveArrived (get nat_eq self.old.waiting) (used_in self.old.slots.items) self.old.given [] arrived.now
+        ensures stands { (groups : List group_type) (done : ℕ → Bool) → Stands self.old groups done
+            → Stands self.new groups done }
+        ensures room { OnOk result (HaveArrived (get nat_eq self.old.waiting) (used_in self.old.slots.items)
+            self.old.given [] arrived.now
             → self.old.links + counted arrived.now < 2 ^ 62 → HasRoom self.new arrived.now) }
         ensures given { self.new.given ≡ self.old.given }
         ensures groups { self.new.groups ≡ self.old.groups }
@@ -171,7 +185,8 @@ impl BeforeQueue {
     /// Takes in what has arrived, for which there is room.
     fn join_all(&mut self, arrived: Vec<Arrival>)
         requires tickets { self.old.given + length arrived.items < 2 ^ 64 }
-        ensures midway { (groups : List group_type) (done : ℕ → Bool) → group_type → HasRoom self.old arrived.items → Keeps self.old groups done
+        ensures midway { (groups : List group_type) (done : ℕ → Bool) → group_type → HasRoom self.old arrived.items
+            → Keeps self.old groups done
             → IsMidway self.old self.new arrived.items groups done }
         ensures groups { self.new.groups ≡ self.old.groups }
     {
@@ -183,16 +198,22 @@ impl BeforeQueue {
     /// Takes in a command that has arrived, for which there is room.
     fn join(&mut self, arrival: Arrival)
         requires tickets { self.old.given + 1 < 2 ^ 64 }
-        ensures waiting { (k : ℕ) (d : List ℕ) → AreShort (get nat_eq self.old.waiting) k → arrival.waits.items ≡ map (link_to self.old.given) d
+        ensures waiting { (k : ℕ) (d : List ℕ) → AreShort (get nat_eq self.old.waiting) k
+            → arrival.waits.items ≡ map (link_to self.old.given) d
             → k + length d < 2 ^ 63 → 0 < spare self.old.waiting → (t : ℕ) → get nat_eq self.new.waiting t
             ≡ (if self.old.given == t then Some (kept_new self.old.groups arrival.command (length d))
             else option_map (followed (gathered t (map (link_to self.old.given) d))) (get nat_eq self.old.waiting t)) }
-        ensures slots { (k : ℕ) (d : List slot_type) → AreBrief (used_in self.old.slots.items) k → arrival.reads.items ≡ map (reading_of self.old.given) d
-            → k + length d < 2 ^ 63 → (s : ℕ) → used_in self.new.slots.items s ≡ option_map (more_read (gathered_reads s arrival.reads.items))
-            (if is_among (writes_of arrival.command.kind) (record { 0 = s }) then option_map (rewritten self.old.given) (used_in self.old.slots.items s)
+        ensures slots { (k : ℕ) (d : List slot_type) → AreBrief (used_in self.old.slots.items) k
+            → arrival.reads.items ≡ map (reading_of self.old.given) d
+            → k + length d < 2 ^ 63 → (s : ℕ) → used_in self.new.slots.items s
+            ≡ option_map (more_read (gathered_reads s arrival.reads.items))
+            (if is_among (writes_of arrival.command.kind) (record { 0 = s })
+            then option_map (rewritten self.old.given) (used_in self.old.slots.items s)
             else used_in self.old.slots.items s) }
-        ensures released { IsRising self.old.released.items.items → deque_len self.old.released.items < deque_capacity self.old.released.items
-            → self.new.released.items.items ≡ (if length arrival.waits.items == 0 then put_in self.old.given self.old.released.items.items
+        ensures released { IsRising self.old.released.items.items
+            → deque_len self.old.released.items < deque_capacity self.old.released.items
+            → self.new.released.items.items ≡ (if length arrival.waits.items == 0
+            then put_in self.old.given self.old.released.items.items
             else self.old.released.items.items) }
         ensures capacity { deque_capacity self.old.released.items ≤ deque_capacity self.new.released.items }
         ensures spare { spare self.old.waiting ≤ spare self.new.waiting + 1 }

@@ -52,7 +52,8 @@ fn cover(
     used: &[Slot],
 ) -> Result<(), NoMemory>
     ensures same { HaveSameUses (get nat_eq waiting.now) (used_in slots.old.items) (used_in slots.new.items) }
-    ensures covered { OnOk result (list_all (λ (slot : slot_type). is_some (used_in slots.new.items slot.0)) used.now ≡ true) }
+    ensures covered { OnOk result (list_all (λ (slot : slot_type). is_some (used_in slots.new.items slot.0)) used.now
+        ≡ true) }
 {
     for slot in used {
         cover_one(alloc, waiting, slots, *slot)?;
@@ -67,7 +68,8 @@ fn cover_one(
     slot: Slot,
 ) -> Result<(), NoMemory>
     ensures uses { OnOk result ((s : ℕ) → used_in slots.new.items s
-        ≡ (if slot.0 == s then use_at (get nat_eq waiting.now) (used_in slots.old.items s) else used_in slots.old.items s)) }
+        ≡ (if slot.0 == s then use_at (get nat_eq waiting.now) (used_in slots.old.items s)
+        else used_in slots.old.items s)) }
     ensures err { OnErr result ((s : ℕ) → used_in slots.new.items s ≡ used_in slots.old.items s) }
 {
     reach(slots, slot)?;
@@ -86,7 +88,9 @@ pub(crate) fn drop_front(waiting: &HashMap<u64, Waiting>, readers: &mut LinkedLi
 
 /// Whether there is a first reader that doesn't wait.
 fn is_past(waiting: &HashMap<u64, Waiting>, readers: &LinkedList<u64>) -> bool
-    ensures past { result ≡ true → (length readers.now ≢ 0) × (without_front (get nat_eq waiting.now) readers.now ≡ without_front (get nat_eq waiting.now) (drop 1 readers.now)) }
+    ensures past { result ≡ true → (length readers.now ≢ 0)
+        × (without_front (get nat_eq waiting.now) readers.now
+        ≡ without_front (get nat_eq waiting.now) (drop 1 readers.now)) }
     ensures kept { result ≡ false → without_front (get nat_eq waiting.now) readers.now ≡ readers.now }
 {
     match readers.front() {
@@ -112,7 +116,8 @@ pub(crate) fn count_all(links: u64, arrived: &[Arrival]) -> Result<u64, NoMemory
 
 /// The same with one more.
 pub(crate) fn count_one(links: u64, arrival: &Arrival) -> Result<u64, NoMemory>
-    ensures count { IfOk result (λ count. count ≡ links + (length arrival.now.waits.items + length arrival.now.reads.items)) }
+    ensures count { IfOk result (λ count. count ≡ links +
+        (length arrival.now.waits.items + length arrival.now.reads.items)) }
     ensures few { IfOk result (λ count. count < 2 ^ 62) }
 {
     let more = (arrival.waits.len() as u64).saturating_add(arrival.reads.len() as u64);

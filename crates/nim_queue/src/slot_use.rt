@@ -75,7 +75,8 @@ pub(crate) fn rewrite(used: &mut Option<SlotUse>, ticket: u64)
 
 /// A slot, if it has a use, is read by one more.
 pub(crate) fn read_more(used: &mut Option<SlotUse>, mut reader: LinkedList<u64>)
-    ensures { IfSome used.old (λ (u : slot_use_type). length u.readers + length reader < 2 ^ 63) → used.new ≡ option_map (more_read reader) used.old }
+    ensures { IfSome used.old (λ (u : slot_use_type). length u.readers + length reader < 2 ^ 63)
+        → used.new ≡ option_map (more_read reader) used.old }
 {
     if let Some(one) = used {
         let _ = one.readers.append(&mut reader);

@@ -9,7 +9,14 @@ use Rattle.nim_store.specs.declared.key.Key.{Key}
 -- the key of a frame
 abbrev pub key_of : Data → Key
 key_of frame =
-    record { epoch = frame.epoch; instance = frame.instance; entry = frame.entry; object = frame.object; version = frame.version }
+    record {
+      epoch = frame.epoch;
+      instance = frame.instance;
+      entry = frame.entry;
+      object = frame.object;
+      version =
+          frame.version;
+    }
 
 -- by epoch, then by instance, by entry, by object and by version
 abbrev pub key_cmp : Key → Key → Ordering
@@ -33,8 +40,10 @@ numbers_of key = (key.epoch, (key.instance, (key.entry, (key.object.0, key.versi
 
 -- the key that has these numbers
 abbrev pub from_numbers : Numbers → Key
-from_numbers p = record { epoch = p.0; instance = p.1.0; entry = p.1.1.0; object = record { 0 = p.1.1.1.0 }; version = p.1.1.1.1 }
+from_numbers p =
+    record { epoch = p.0; instance = p.1.0; entry = p.1.1.0; object = record { 0 = p.1.1.1.0 }; version = p.1.1.1.1 }
 
 -- a code that tells keys apart, made of those of their numbers
 abbrev pub coded_key : Coded Key
-coded_key = code_by Numbers (coded× coded_ℕ (coded× coded_ℕ (coded× coded_ℕ (coded× coded_ℕ coded_ℕ)))) numbers_of from_numbers (λ _. refl)
+coded_key = code_by Numbers (coded× coded_ℕ (coded× coded_ℕ (coded× coded_ℕ (coded× coded_ℕ coded_ℕ)))) numbers_of
+    from_numbers (λ _. refl)

@@ -43,7 +43,8 @@ use Rattle.nim_worker.proofs.Released.{may_all}
 -- the commands of works that are out, one by one
 pub asked_of : (state : WorkerState) (place : ℕ) → MayComplete state place → (asked : Asked) × (asked_at state.session.groups place ≡ Some asked)
 asked_of state place may = either (asked_at state.session.groups place) refl may.frame where
-  either : (o : Option Asked) → asked_at state.session.groups place ≡ o → option_map_or (has_frame state) o false ≡ true → (asked : Asked) × (asked_at state.session.groups place ≡ Some asked)
+  either : (o : Option Asked) → asked_at state.session.groups place ≡ o → option_map_or (has_frame state) o false ≡ true
+      → (asked : Asked) × (asked_at state.session.groups place ≡ Some asked)
   either None is there = absurd cc
   either (Some asked) is there = (asked, is)
 
@@ -80,7 +81,8 @@ stands_begun old new batch history most stands left begins taken room = record {
 }
 
 -- before the first Reset nothing is asked for
-kept_none : (b : Bool) (session wider : Session) → (session.begun ≡ false → b ≡ false) → wider.begun ≡ session.begun → (session.begun ≡ false → session.groups ≡ [])
+kept_none : (b : Bool) (session wider : Session) → (session.begun ≡ false → b ≡ false) → wider.begun ≡ session.begun
+    → (session.begun ≡ false → session.groups ≡ [])
     → (if b then wider else session).begun ≡ false → (if b then wider else session).groups ≡ []
 kept_none true session wider counts same none not = let never : true ≡ false = counts (sym same ∙ not) in absurd cc
 kept_none false session wider counts same none not = none not
@@ -88,7 +90,8 @@ kept_none false session wider counts same none not = none not
 not_named : (session : Session) (epoch : ℕ) → session.begun ≡ false → (session.begun && (epoch == session.epoch)) ≡ false
 not_named session epoch not = ap (λ (b : Bool). b && (epoch == session.epoch)) not
 
-none_step : (order : ToWorker) (session : Session) → (session.begun ≡ false → session.groups ≡ []) → (after_order session order).begun ≡ false → (after_order session order).groups ≡ []
+none_step : (order : ToWorker) (session : Session) → (session.begun ≡ false → session.groups ≡ []) → (after_order session order).begun ≡ false
+    → (after_order session order).groups ≡ []
 none_step (ToWorker.Reset epoch worker workers shapes) session none = λ not. absurd cc
 none_step ToWorker.Stop session none = none
 none_step (ToWorker.Single epoch instance commands) session none = kept_none _ session _ (not_named session epoch) refl none
@@ -97,7 +100,8 @@ none_step (ToWorker.Instantiate epoch instance block base args versions edits) s
 none_step (ToWorker.InstallPatch epoch patch copies) session none = kept_none _ session _ (not_named session epoch) refl none
 none_step (ToWorker.RunPatch epoch instance patch versions) session none = kept_none _ session _ (not_named session epoch) refl none
 
-none_from : (orders : List ToWorker) (session : Session) → (session.begun ≡ false → session.groups ≡ []) → (fold after_order session orders).begun ≡ false → (fold after_order session orders).groups ≡ []
+none_from : (orders : List ToWorker) (session : Session) → (session.begun ≡ false → session.groups ≡ []) → (fold after_order session orders).begun ≡ false
+    → (fold after_order session orders).groups ≡ []
 none_from [] session none = none
 none_from (order ∷ orders) session none = none_from orders (after_order session order) (none_step order session none)
 
@@ -117,11 +121,13 @@ unbegun false X holds never = refl
 -- a core without room has begun no epoch, and begins an empty batch
 pub none_begun : (old : WorkerCore) (history : List Happening) (most : ℕ) → Stands old None history → old.room ≡ None → [] ≡ taken_of (state_of history) most
 none_begun old history most stands none =
-    let not : old.begun ≡ false = unbegun old.begun (is_some old.room ≡ true) stands.at.out.1.room (λ there. both_ways true (sym there ∙ ap is_some none) refl) in
+    let not : old.begun ≡ false =
+    unbegun old.begun (is_some old.room ≡ true) stands.at.out.1.room (λ there. both_ways true (sym there ∙ ap is_some none) refl) in
     sym (nothing_taken (state_of history) most (none_asked history (sym stands.at.has.session.begun ∙ not)))
 
 -- what a Run has read is what its task reads
-run_right : (job : Job) (before : Slot → Option Held) (kind : Kind) (work : Work) → work.position ≡ position_of kind → HasRead before kind work → truth.ReadsRight job before kind → ReadsRight job work
+run_right : (job : Job) (before : Slot → Option Held) (kind : Kind) (work : Work) → work.position ≡ position_of kind → HasRead before kind work
+    → truth.ReadsRight job before kind → ReadsRight job work
 run_right job before (Run at func params reads writes) work is read right position named =
     let same : at ≡ position = cc in
     some_then (λ (task : Task). (work.inputs.value.contents.items ≡ reads_at job position task)
@@ -137,7 +143,8 @@ run_right job before kind work is read right position named = absurd cc
 
 reads_all : (job : Job) (state : WorkerState) (now : Slot → Option Held) (works : List Work)
     → ((place : ℕ) → MayComplete state place → (asked : Asked) → asked_at state.session.groups place ≡ Some asked → FindsRight job state place asked)
-    → All (MayComplete state) (tickets_of works) → (first : Slot → Option Held) → AreWorks state.session.shapes first now (begun_of state.session.groups (tickets_of works)) works
+    → All (MayComplete state) (tickets_of works) → (first : Slot → Option Held)
+    → AreWorks state.session.shapes first now (begun_of state.session.groups (tickets_of works)) works
     → HaveRead state.slots (begun_of state.session.groups (tickets_of works)) works → All (ReadsRight job) works
 reads_all job state now [] finds may first are read = All-nil (ReadsRight job)
 reads_all job state now (work ∷ works) finds may first are read =
@@ -154,7 +161,8 @@ some_at : {X : Type 0} (P : X → Type 0) (o : Option X) (x : X) → IfSome o P 
 some_at P None x holds is = absurd cc
 some_at P (Some y) x holds is = let same : y ≡ x = cc in subst P same holds
 
-pub reads_begun : (job : Job) (new : WorkerCore) (works : List Work) (history : List Happening) (most : ℕ) → IsTrue (is_whole job) → IsHandedTruth job history → IsHistory history
+pub reads_begun : (job : Job) (new : WorkerCore) (works : List Work) (history : List Happening) (most : ℕ) → IsTrue (is_whole job) → IsHandedTruth job history
+    → IsHistory history
     → IsBeginning new works (state_of history) → tickets_of works ≡ taken_of (state_of history) most → All (ReadsRight job) works
 reads_begun job new works history most whole handed is begins taken =
     let state : WorkerState = state_of history in

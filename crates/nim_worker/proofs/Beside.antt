@@ -56,7 +56,10 @@ map_on {X} f g (slot ∷ slots) same =
 pub contents_same : (f g : Slot → Option Held) (slots : List Slot) → ((s : Slot) → is_among slots s ≡ true → f s ≡ g s)
     → map (content_seen f) slots ≡ map (content_seen g) slots
 contents_same f g slots same = map_on (content_seen f) (content_seen g) slots
-    (λ s among. ap (λ (h : Option Held). ((option_map_or (λ (held : Held). held) h (held_at s 0 empty_grid)).object, (option_map_or (λ (held : Held). held) h (held_at s 0 empty_grid)).version)) (same s among))
+    (λ s among. ap (λ (h : Option Held). (
+      (option_map_or (λ (held : Held). held) h (held_at s 0 empty_grid)).object,
+      (option_map_or (λ (held : Held). held) h (held_at s 0 empty_grid)).version,
+    )) (same s among))
 
 pub values_same : (f g : Slot → Option Held) (slots : List Slot) → ((s : Slot) → is_among slots s ≡ true → f s ≡ g s)
     → map (λ slot. (seen f slot).value) slots ≡ map (λ slot. (seen g slot).value) slots
@@ -85,7 +88,8 @@ given_back_other slots (t ∷ ts) (v ∷ vs) f s among not =
 -- the results of a command depend on what it touches alone
 results_same : (shapes : List Shape) (kind : Kind) (f g : Slot → Option Held) → Agree kind f g → results_of shapes kind f ≡ results_of shapes kind g
 results_same shapes kind f g same =
-    ap (λ (grids : List Grid). option_map (λ (func : Func). apply_of func (params_taken kind) grids (map (fitting_shape shapes) (writes_taken kind))) (func_taken kind))
+    ap (λ (grids : List Grid). option_map (λ (func : Func). apply_of func (params_taken kind) grids (map (fitting_shape shapes) (writes_taken kind)))
+    (func_taken kind))
     (values_same f g (reads_taken kind) (λ s among. same s (touch_taken kind s among)))
 
 -- a work is the same work among other slots, where those that its command touches are the same and it left the others alone
@@ -104,7 +108,8 @@ work_moved shapes before now before' now' begun work is same_before same_now oth
     contents = is.inputs.contents ∙ contents_same before before' (reads_taken begun.kind) (λ s among. same_before s (touch_taken begun.kind s among));
     shapes = is.inputs.shapes;
   };
-  results = subst (λ (r : Option (List Grid)). IfSome (results_in work) (λ results. r ≡ Some results)) (results_same shapes begun.kind before before' same_before) is.results;
+  results = subst (λ (r : Option (List Grid)). IfSome (results_in work) (λ results. r ≡ Some results))
+      (results_same shapes begun.kind before before' same_before) is.results;
 } where
   either : (s : Slot) (b : Bool) → does_touch begun.kind s ≡ b → given_back work.inputs.value.taken.items work.inputs.value.values.items now' s ≡ before' s
   either s true touched =
@@ -112,7 +117,8 @@ work_moved shapes before now before' now' begun work is same_before same_now oth
       ∙ ap (λ (f : Slot → Option Held). f s) is.inputs.back
       ∙ same_before s touched
   either s false not =
-      given_back_other (reads_taken begun.kind) work.inputs.value.taken.items work.inputs.value.values.items now' s is.inputs.among (not_taken_from begun.kind s not)
+      given_back_other (reads_taken begun.kind) work.inputs.value.taken.items work.inputs.value.values.items now' s is.inputs.among
+      (not_taken_from begun.kind s not)
       ∙ others s not
 
 -- a work that is out left the slots alone that its command doesn't touch
@@ -121,7 +127,8 @@ pub leaves_alone : (shapes : List Shape) (before now : Slot → Option Held) (be
     → before s ≡ now s
 leaves_alone shapes before now begun work s is not =
     sym (ap (λ (f : Slot → Option Held). f s) is.inputs.back)
-    ∙ given_back_other (reads_taken begun.kind) work.inputs.value.taken.items work.inputs.value.values.items now s is.inputs.among (not_taken_from begun.kind s not)
+    ∙ given_back_other (reads_taken begun.kind) work.inputs.value.taken.items work.inputs.value.values.items now s is.inputs.among
+    (not_taken_from begun.kind s not)
 
 -- the slots that a command touches
 pub beside_inside : {X : Type 0} (kind : Kind) (inner outer : Slot → X) (s : Slot) → does_touch kind s ≡ true → beside kind inner outer s ≡ inner s

@@ -44,7 +44,8 @@ chain_moved shapes before now before' now' (b ∷ bs) [] are same_before same_no
 chain_moved shapes before now before' now' (b ∷ bs) (w ∷ ws) are same_before same_now others = (
   beside b.kind are.0 before',
   (
-    work_moved shapes before are.0 before' (beside b.kind are.0 before') b w are.1.0 (λ s touched. same_before s (or_left (does_touch b.kind s) (do_touch bs s) touched))
+    work_moved shapes before are.0 before' (beside b.kind are.0 before') b w are.1.0
+        (λ s touched. same_before s (or_left (does_touch b.kind s) (do_touch bs s) touched))
         (λ s touched. sym (beside_inside b.kind are.0 before' s touched)) (λ s not. beside_outside b.kind are.0 before' s not),
     (
       are.1.1.0,
@@ -102,7 +103,8 @@ more_works shapes before between now (b ∷ bs) (w ∷ ws) last work are apart i
 )
 
 -- The first of the works is one among the slots as they are now, and once it is completed there the others are out.
-pub record IsFirst (shapes : List Shape) (frame : Option Grid) (before now : Slot → Option Held) (b : Begun) (bs : List Begun) (w : Work) (ws : List Work) : Type 0 where
+pub record IsFirst (shapes : List Shape) (frame : Option Grid) (before now : Slot → Option Held) (b : Begun) (bs : List Begun) (w : Work) (ws : List Work) :
+    Type 0 where
   pub is : IsWork shapes (beside b.kind before now) now b w
   pub rest : AreWorks shapes (kept_by shapes frame b.kind before) (kept_by shapes frame b.kind (beside b.kind before now)) bs ws
   pub same : Agree b.kind (beside b.kind before now) before
@@ -111,7 +113,8 @@ pub first_of : (shapes : List Shape) (frame : Option Grid) (before now : Slot �
     → AreWorks shapes before now (b ∷ bs) (w ∷ ws)
     → IsFirst shapes frame before now b bs w ws
 first_of shapes frame before now b bs w ws are = record {
-  is = work_moved shapes before are.0 (beside b.kind before now) now b w are.1.0 (λ s touched. sym (same s touched)) (λ s touched. chain_leaves shapes are.0 now bs ws s are.1.1.1 (are.1.1.0 s touched))
+  is = work_moved shapes before are.0 (beside b.kind before now) now b w are.1.0 (λ s touched. sym (same s touched))
+      (λ s touched. chain_leaves shapes are.0 now bs ws s are.1.1.1 (are.1.1.0 s touched))
       (λ s not. sym (beside_outside b.kind before now s not));
   rest = chain_moved shapes are.0 now (kept_by shapes frame b.kind before) (kept_by shapes frame b.kind (beside b.kind before now)) bs ws are.1.1.1
       (λ s touched. outside_before s (not_first b bs s are.1.1.0 touched))

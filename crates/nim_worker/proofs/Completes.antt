@@ -52,7 +52,8 @@ left_run : (shapes : List Shape) (before : Slot → Option Held) (frame : Option
 left_run shapes before frame position func params reads writes = either (has_counts func (length params) (length reads) (length writes)) where
   either : (b : Bool)
       → left_with shapes frame (Run position func params reads writes)
-      (option_map (λ (f : Func). results_for shapes f (if b then params else []) (if b then reads else []) (if b then writes else []) before) (if b then Some func else None)) before
+      (option_map (λ (f : Func). results_for shapes f (if b then params else []) (if b then reads else []) (if b then writes else []) before)
+      (if b then Some func else None)) before
       ≡ (if b then put_results shapes (version_after position) writes (results_for shapes func params reads writes before) before else before)
   either true = refl
   either false = refl
@@ -78,7 +79,8 @@ performed shapes before now begun work new done is = record {
   position = done.position ∙ is.position;
   func = done.func ∙ is.func;
   inputs = subst (AreInputsOf shapes begun.kind before now) (ap (λ (inputs : Box Inputs Global). inputs.value) (sym done.inputs)) is.inputs;
-  results = subst (λ (r : Option (List Grid)). IfSome r (λ results. results_of shapes begun.kind before ≡ Some results)) (sym (performed_results shapes before now begun work new is done))
+  results = subst (λ (r : Option (List Grid)). IfSome r (λ results. results_of shapes begun.kind before ≡ Some results))
+      (sym (performed_results shapes before now begun work new is done))
       (either (results_of shapes begun.kind before));
 } where
   either : (r : Option (List Grid)) → IfSome r (λ results. r ≡ Some results)
@@ -91,14 +93,16 @@ pub left_is : (shapes given : List Shape) (before now returned left : Slot → O
     → returned ≡ given_back new.inputs.value.taken.items new.inputs.value.values.items now → left ≡ left_with given frame kind (results_in new) returned
     → left ≡ kept_by shapes frame begun.kind before
 left_is shapes given before now returned left begun work new frame kind is done same stays at is_left =
-    let back : returned ≡ before = at ∙ ap (λ (inputs : Box Inputs Global). given_back inputs.value.taken.items inputs.value.values.items now) done.inputs ∙ is.inputs.back in
+    let back : returned ≡ before =
+    at ∙ ap (λ (inputs : Box Inputs Global). given_back inputs.value.taken.items inputs.value.values.items now) done.inputs ∙ is.inputs.back in
     is_left
     ∙ ap₂ (λ (all : List Shape) (f : Slot → Option Held). left_with all frame kind (results_in new) f) stays back
     ∙ ap (λ (k : Kind). left_with shapes frame k (results_in new) before) (sym same)
     ∙ completes shapes before now begun work new frame is done
 
 -- what a work's inputs have of its reads is what its command reads
-told_run : (group : Group) (before : Slot → Option Held) (position : ℕ) (func : Func) (params : List ℤ) (reads writes : List Slot) (contents : List (Object × ℕ))
+told_run : (group : Group) (before : Slot → Option Held) (position : ℕ) (func : Func) (params : List ℤ) (reads writes : List Slot)
+    (contents : List (Object × ℕ))
     → (is_single group.source ≡ true → contents ≡ map (content_seen before) (reads_taken (Run position func params reads writes)))
     → told_with group (Run position func params reads writes) contents before ≡ own_outs group (Run position func params reads writes) before
 told_run group before position func params reads writes contents told = either (is_single group.source) told where
@@ -110,7 +114,8 @@ told_run group before position func params reads writes contents told = either (
       → (if single then Out.Report (Ran group.epoch position contents) ∷ [] else [])
       ≡ (if single then Out.Report (Ran group.epoch position (contents_read func params reads writes before)) ∷ [] else [])
   either true told =
-      ap (λ (cs : List (Object × ℕ)). Out.Report (Ran group.epoch position cs) ∷ []) (told refl ∙ counted (has_counts func (length params) (length reads) (length writes)))
+      ap (λ (cs : List (Object × ℕ)). Out.Report (Ran group.epoch position cs) ∷ [])
+      (told refl ∙ counted (has_counts func (length params) (length reads) (length writes)))
   either false told = refl
 
 -- what is told with the contents that a work's inputs have is what its command gives

@@ -45,12 +45,15 @@ completions_more : (past : List Work) (work : Work) → completions (tickets_of 
 completions_more past work =
     ap (map Completed) (map-append (λ (w : Work). w.ticket) past (work ∷ [])) ∙ map-append Completed (tickets_of past) (work.ticket ∷ [])
 
-after_more : (state : WorkerState) (past : List Work) (work : Work) → after_completions state (tickets_of (past ++ work ∷ [])) ≡ completed (after_completions state (tickets_of past)) work.ticket
+after_more : (state : WorkerState) (past : List Work) (work : Work)
+    → after_completions state (tickets_of (past ++ work ∷ [])) ≡ completed (after_completions state (tickets_of past)) work.ticket
 after_more state past work =
-    ap (fold after_happening state) (completions_more past work) ∙ fold-append after_happening state (completions (tickets_of past)) (Completed work.ticket ∷ [])
+    ap (fold after_happening state) (completions_more past work) ∙ fold-append after_happening state (completions (tickets_of past))
+    (Completed work.ticket ∷ [])
 
 -- one more of them is
-pub one_completed : (state : WorkerState) (all left : List Work) (work : Work) (before outs : List Out) (old new : WorkerCore) → AreCompleted state all (work ∷ left) before old
+pub one_completed : (state : WorkerState) (all left : List Work) (work : Work) (before outs : List Out) (old new : WorkerCore)
+    → AreCompleted state all (work ∷ left) before old
     → ((s : WorkerState) → HasState old s → IsAtWork old (work ∷ left) s → HasState new (completed s work.ticket))
     → ((s : WorkerState) → HasState old s → IsAtWork old (work ∷ left) s → IsAtWork new left (completed s work.ticket))
     → ((s : WorkerState) → HasState old s → IsAtWork old (work ∷ left) s → outs ≡ before ++ outs_at s work.ticket) → AreCompleted state all left outs new
@@ -79,9 +82,11 @@ pub record IsFirstOut (core : WorkerCore) (first : Work) (left : List Work) (sta
   pub within : first.ticket < length (members_of state.session.groups)
   pub waiting : is_one_of state.ran first.ticket ≡ false
   pub may : MayAllHappen (completed state first.ticket) (completions (tickets_of left))
-  pub chain : AreWorks state.session.shapes state.slots (slot_at core.store) (begun_as first.ticket asked.command.kind ∷ begun_of state.session.groups (tickets_of left)) (first ∷ left)
+  pub chain : AreWorks state.session.shapes state.slots (slot_at core.store)
+      (begun_as first.ticket asked.command.kind ∷ begun_of state.session.groups (tickets_of left)) (first ∷ left)
 
-pub first_out : (core : WorkerCore) (first : Work) (left : List Work) (state : WorkerState) → IsAtWork core (first ∷ left) state → IsFirstOut core first left state
+pub first_out : (core : WorkerCore) (first : Work) (left : List Work) (state : WorkerState) → IsAtWork core (first ∷ left) state
+    → IsFirstOut core first left state
 first_out core first left state at =
     let there = asked_of state first.ticket at.may.0 in
     record {
@@ -100,12 +105,14 @@ pub stands_finished : (old new : WorkerCore) (batch : Batch) (history : List Hap
     → Stands new None (history ++ completions_of old batch)
 stands_finished old new batch history outs stands fresh all busy stale room =
     let out = subst (λ (s : Bool). IsOut old s batch (state_of history)) fresh stands.at.out in
-    subst (λ (more : List Happening). Stands new None (history ++ more)) (sym (ap (λ (b : Bool). if b then [] else completions (tickets_of batch.works.items)) fresh))
+    subst (λ (more : List Happening). Stands new None (history ++ more))
+    (sym (ap (λ (b : Bool). if b then [] else completions (tickets_of batch.works.items)) fresh))
     (stands_on new None history (completions (tickets_of batch.works.items)) stands.history out.0.may
     (record { has = all.has; busy = busy; out = (stale, record { slots = sym all.work.chain; room = room }) }))
 
 -- what is given is true of the job
-handed_still : (job : Job) (history : List Happening) (stale : Bool) (places : List ℕ) → IsHandedTruth job history → IsHandedTruth job (history ++ (if stale then [] else completions places))
+handed_still : (job : Job) (history : List Happening) (stale : Bool) (places : List ℕ) → IsHandedTruth job history
+    → IsHandedTruth job (history ++ (if stale then [] else completions places))
 handed_still job history true places handed = subst (IsHandedTruth job) (sym (append-nil history)) handed
 handed_still job history false places handed = truth_goes_on.completed job history places handed
 
@@ -116,8 +123,11 @@ all_last P (x ∷ xs) ys all = all_last P xs ys (All-tail P x (xs ++ ys) all)
 last_good : (job : Job) (before outs all : List Out) → all ≡ before ++ outs → All (IsGoodOut job) all → All (IsGoodOut job) outs
 last_good job before outs all is good = all_last (IsGoodOut job) before outs (subst (All (IsGoodOut job)) is good)
 
-pub outs_good : (job : Job) (core new : WorkerCore) (batch : Batch) (history : List Happening) (outs : List Out) → IsTrue (is_whole job) → IsHandedTruth job history
-    → Stands new None (history ++ completions_of core batch) → Gave (state_of history) outs (state_of (history ++ completions_of core batch)) → All (IsGoodOut job) outs
+pub outs_good : (job : Job) (core new : WorkerCore) (batch : Batch) (history : List Happening) (outs : List Out) → IsTrue (is_whole job)
+    → IsHandedTruth job history
+    → Stands new None (history ++ completions_of core batch) → Gave (state_of history) outs (state_of (history ++ completions_of core batch))
+    → All (IsGoodOut job) outs
 outs_good job core new batch history outs whole handed stands gave =
     last_good job (state_of history).gave outs (state_of (history ++ completions_of core batch)).gave gave
-    (histories_are_true job (history ++ completions_of core batch) whole stands.history (handed_still job history core.stale (tickets_of batch.works.items) handed)).gave
+    (histories_are_true job (history ++ completions_of core batch) whole stands.history
+    (handed_still job history core.stale (tickets_of batch.works.items) handed)).gave

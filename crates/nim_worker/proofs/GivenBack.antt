@@ -31,7 +31,8 @@ pub taken_once : (ts : List Taken) (vs : List Grid) (t : Taken) (v : Grid) (f g 
     → g ≡ put_at t.slot None f → held_of t v ≡ f t.slot → given_back (ts ++ t ∷ []) (vs ++ v ∷ []) g ≡ given_back ts vs f
 taken_once ts vs t v f g paired emptied had =
     given_back-snoc ts vs t v g paired
-    ∙ ap (given_back ts vs) (ap (put_at t.slot (held_of t v)) emptied ∙ put_again t.slot (held_of t v) None f ∙ ap (λ (h : Option Held). put_at t.slot h f) had ∙ put_same t.slot f)
+    ∙ ap (given_back ts vs) (ap (put_at t.slot (held_of t v)) emptied ∙ put_again t.slot (held_of t v) None f ∙ ap (λ (h : Option Held). put_at t.slot h f) had
+    ∙ put_same t.slot f)
 
 -- a place is within the list, or its length
 pub place_past : (slot : Slot) (ts : List Taken) → length ts ≤ position_or_len (is_from slot) ts → position_or_len (is_from slot) ts ≡ length ts
@@ -73,7 +74,8 @@ pub taken_at : (slot : Slot) (ts : List Taken) (vs : List Grid) (f : Slot → Op
 taken_at slot [] vs f paired right within = absurd (omega (arith, within))
 taken_at slot (t ∷ ts) [] f paired right within = absurd cc
 taken_at slot (t ∷ ts) (v ∷ vs) f paired right within = either (slot.0 == t.slot.0) refl (taken_at slot ts vs f (omega (arith, paired)) right.1) within where
-  either : (b : Bool) → (slot.0 == t.slot.0) ≡ b → (position_or_len (is_from slot) ts < length ts → IsTakenAt slot ts vs f (position_or_len (is_from slot) ts)) → (if not b then 1 + position_or_len (is_from slot) ts else 0) < suc (length ts)
+  either : (b : Bool) → (slot.0 == t.slot.0) ≡ b → (position_or_len (is_from slot) ts < length ts → IsTakenAt slot ts vs f (position_or_len (is_from slot) ts))
+      → (if not b then 1 + position_or_len (is_from slot) ts else 0) < suc (length ts)
       → IsTakenAt slot (t ∷ ts) (v ∷ vs) f (if not b then 1 + position_or_len (is_from slot) ts else 0)
   either true same more within =
       let has : given_back (t ∷ ts) (v ∷ vs) f slot ≡ held_of t v = rw same refl in
@@ -85,7 +87,10 @@ taken_at slot (t ∷ ts) (v ∷ vs) f paired right within = either (slot.0 == t.
       let next : suc (position_or_len (is_from slot) ts) ≡ 1 + position_or_len (is_from slot) ts = omega arith in
       subst (IsTakenAt slot (t ∷ ts) (v ∷ vs) f) next (record {
         value = λ d. rest.value d ∙ ap (λ (h : Option Held). (option_map_or (λ (held : Held). held) h (held_at slot 0 empty_grid)).value) (sym has);
-        content = λ d. rest.content d ∙ ap (λ (h : Option Held). ((option_map_or (λ (held : Held). held) h (held_at slot 0 empty_grid)).object, (option_map_or (λ (held : Held). held) h (held_at slot 0 empty_grid)).version)) (sym has);
+        content = λ d. rest.content d ∙ ap (λ (h : Option Held). (
+          (option_map_or (λ (held : Held). held) h (held_at slot 0 empty_grid)).object,
+          (option_map_or (λ (held : Held). held) h (held_at slot 0 empty_grid)).version,
+        )) (sym has);
       })
 
 -- what a slot has that is taken now
@@ -107,14 +112,16 @@ pub reads_of-more : (vs more : List Grid) (places : List ℕ) → All (λ (place
     → reads_of (vs ++ more) places ≡ reads_of vs places
 reads_of-more vs more [] fit = refl
 reads_of-more vs more (place ∷ places) fit =
-    ap₂ (λ (v : Grid) (rest : List Grid). v ∷ rest) (get_or_append_left vs more empty_grid place (fit 0 0 (omega arith))) (reads_of-more vs more places (λ i d within. fit (suc i) d (omega (arith, within))))
+    ap₂ (λ (v : Grid) (rest : List Grid). v ∷ rest) (get_or_append_left vs more empty_grid place (fit 0 0 (omega arith)))
+    (reads_of-more vs more places (λ i d within. fit (suc i) d (omega (arith, within))))
 
 -- one more place
 pub reads_of-push : (vs others : List Grid) (places : List ℕ) (place : ℕ) → Continues vs others → All (λ (p : ℕ). p < length vs) places
     → reads_of others (places ++ place ∷ []) ≡ reads_of vs places ++ get_or others place empty_grid ∷ []
 reads_of-push vs others places place goes_on fit =
     map-append (λ (p : ℕ). get_or others p empty_grid) places (place ∷ [])
-    ∙ ap (λ (all : List Grid). all ++ get_or others place empty_grid ∷ []) (ap (λ (all : List Grid). reads_of all places) goes_on.1 ∙ reads_of-more vs goes_on.0 places fit)
+    ∙ ap (λ (all : List Grid). all ++ get_or others place empty_grid ∷ [])
+    (ap (λ (all : List Grid). reads_of all places) goes_on.1 ∙ reads_of-more vs goes_on.0 places fit)
 
 pub longer : {X : Type 0} (xs ys : List X) → Continues xs ys → length xs ≤ length ys
 longer xs ys goes_on = omega (arith, ap length goes_on.1, length-append xs goes_on.0)
@@ -136,4 +143,5 @@ pushed_map {X} {Y} f xs i d ys y within so_far is = ap₂ (λ (all : List Y) (la
 pub among_at : (slots : List Slot) (i : ℕ) (d : Slot) → i < length slots → is_among slots (get_or slots i d) ≡ true
 among_at [] i d within = absurd (omega (arith, within))
 among_at (slot ∷ slots) zero d within = or_left (slot.0 == slot.0) (is_among slots slot) (eq-eqb slot.0 slot.0 refl)
-among_at (slot ∷ slots) (suc i) d within = or_right (slot.0 == (get_or slots i d).0) (is_among slots (get_or slots i d)) (among_at slots i d (omega (arith, within)))
+among_at (slot ∷ slots) (suc i) d within =
+    or_right (slot.0 == (get_or slots i d).0) (is_among slots (get_or slots i d)) (among_at slots i d (omega (arith, within)))

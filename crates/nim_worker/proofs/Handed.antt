@@ -63,22 +63,29 @@ counts_as : (core : WorkerCore) (session : Session) → HasSession core session 
 counts_as core session has None = refl
 counts_as core session has (Some epoch) = ap₂ (λ (b : Bool) (e : ℕ). b && (epoch == e)) has.begun has.epoch
 
-pub passed_same : (core : WorkerCore) (session : Session) (order : ToWorker) → HasSession core session → is_passed core order ≡ true → after_order session order ≡ session
+pub passed_same : (core : WorkerCore) (session : Session) (order : ToWorker) → HasSession core session → is_passed core order ≡ true
+    → after_order session order ≡ session
 passed_same core session (ToWorker.Reset epoch worker workers shapes) has passed = absurd cc
 passed_same core session ToWorker.Stop has passed = refl
 passed_same core session (ToWorker.Single epoch instance commands) has passed =
-    ap (λ (b : Bool). if b then counted session (ToWorker.Single epoch instance commands) else session) (sym (counts_as core session has (Some epoch)) ∙ not_true (is_current core epoch) passed)
+    ap (λ (b : Bool). if b then counted session (ToWorker.Single epoch instance commands) else session)
+    (sym (counts_as core session has (Some epoch)) ∙ not_true (is_current core epoch) passed)
 passed_same core session (ToWorker.InstallTemplate epoch block entries) has passed =
-    ap (λ (b : Bool). if b then counted session (ToWorker.InstallTemplate epoch block entries) else session) (sym (counts_as core session has (Some epoch)) ∙ not_true (is_current core epoch) passed)
+    ap (λ (b : Bool). if b then counted session (ToWorker.InstallTemplate epoch block entries) else session)
+    (sym (counts_as core session has (Some epoch)) ∙ not_true (is_current core epoch) passed)
 passed_same core session (ToWorker.Instantiate epoch instance block base args versions edits) has passed =
-    ap (λ (b : Bool). if b then counted session (ToWorker.Instantiate epoch instance block base args versions edits) else session) (sym (counts_as core session has (Some epoch)) ∙ not_true (is_current core epoch) passed)
+    ap (λ (b : Bool). if b then counted session (ToWorker.Instantiate epoch instance block base args versions edits) else session)
+    (sym (counts_as core session has (Some epoch)) ∙ not_true (is_current core epoch) passed)
 passed_same core session (ToWorker.InstallPatch epoch patch copies) has passed =
-    ap (λ (b : Bool). if b then counted session (ToWorker.InstallPatch epoch patch copies) else session) (sym (counts_as core session has (Some epoch)) ∙ not_true (is_current core epoch) passed)
+    ap (λ (b : Bool). if b then counted session (ToWorker.InstallPatch epoch patch copies) else session)
+    (sym (counts_as core session has (Some epoch)) ∙ not_true (is_current core epoch) passed)
 passed_same core session (ToWorker.RunPatch epoch instance patch versions) has passed =
-    ap (λ (b : Bool). if b then counted session (ToWorker.RunPatch epoch instance patch versions) else session) (sym (counts_as core session has (Some epoch)) ∙ not_true (is_current core epoch) passed)
+    ap (λ (b : Bool). if b then counted session (ToWorker.RunPatch epoch instance patch versions) else session)
+    (sym (counts_as core session has (Some epoch)) ∙ not_true (is_current core epoch) passed)
 
 -- an order of the session's epoch counts
-pub taken_counts : (core : WorkerCore) (session : Session) (order : ToWorker) → HasSession core session → not (option_map_or (is_current core) (epoch_named order) false) ≡ false
+pub taken_counts : (core : WorkerCore) (session : Session) (order : ToWorker) → HasSession core session
+    → not (option_map_or (is_current core) (epoch_named order) false) ≡ false
     → does_count session order ≡ true
 taken_counts core session order has taken =
     sym (counts_as core session has (epoch_named order)) ∙ not_false (option_map_or (is_current core) (epoch_named order) false) taken
@@ -87,15 +94,18 @@ passed_no_reset : (core : WorkerCore) (order : ToWorker) → is_passed core orde
 passed_no_reset core (ToWorker.Reset epoch worker workers shapes) passed = absurd cc
 passed_no_reset core order passed = refl
 
-pub stands_passed : (core : WorkerCore) (batch : Option Batch) (state : WorkerState) (order : ToWorker) → is_passed core order ≡ true → StandsAt core batch state
+pub stands_passed : (core : WorkerCore) (batch : Option Batch) (state : WorkerState) (order : ToWorker) → is_passed core order ≡ true
+    → StandsAt core batch state
     → StandsAt core batch (ordered state order)
 stands_passed core batch state order passed at =
     let same : ordered state order ≡ state =
-    ordered_is state order (passed_no_reset core order passed) ∙ ap (λ (s : Session). record state { session = s }) (passed_same core state.session order at.has.session passed) in
+    ordered_is state order (passed_no_reset core order passed) ∙ ap (λ (s : Session). record state { session = s })
+    (passed_same core state.session order at.has.session passed) in
     subst (StandsAt core batch) (sym same) at
 
 -- works that are out are still out once another order came
-begun_same : (groups others : List Group) (places : List ℕ) → All (λ place. asked_at others place ≡ asked_at groups place) places → begun_of others places ≡ begun_of groups places
+begun_same : (groups others : List Group) (places : List ℕ) → All (λ place. asked_at others place ≡ asked_at groups place) places
+    → begun_of others places ≡ begun_of groups places
 begun_same groups others [] all = refl
 begun_same groups others (place ∷ places) all =
     ap₂ (λ (first : List Begun) (rest : List Begun). first ++ rest)
@@ -144,18 +154,24 @@ shapes_stay session (ToWorker.InstallPatch epoch patch copies) is =
 shapes_stay session (ToWorker.RunPatch epoch instance patch versions) is =
     kept_if (is_named session epoch) session (counted session (ToWorker.RunPatch epoch instance patch versions)) refl
 
-work_ordered : (old new : WorkerCore) (state : WorkerState) (order : ToWorker) (works : List Work) → is_reset order ≡ false → OutStays old new → IsAtWork old works state
+work_ordered : (old new : WorkerCore) (state : WorkerState) (order : ToWorker) (works : List Work) → is_reset order ≡ false → OutStays old new
+    → IsAtWork old works state
     → IsAtWork new works (ordered state order)
 work_ordered old new state order works is same at = record {
   may = commands_in_turn.orders state order (tickets_of works) is at.may;
   chain =
-      let begun = begun_same state.session.groups (ordered state order).session.groups (tickets_of works) (commands_in_turn.same state order (tickets_of works) is at.may) in
-      let shapes : (ordered state order).session.shapes ≡ state.session.shapes = ap (λ (s : Session). s.shapes) (ordered_session state order) ∙ shapes_stay state.session order is in
+      let begun = begun_same state.session.groups (ordered state order).session.groups (tickets_of works)
+      (commands_in_turn.same state order (tickets_of works) is at.may) in
+      let shapes : (ordered state order).session.shapes ≡ state.session.shapes =
+      ap (λ (s : Session). s.shapes) (ordered_session state order) ∙ shapes_stay state.session order is in
       let slots : (ordered state order).slots ≡ state.slots = ap (λ (s : WorkerState). s.slots) (ordered_is state order is) in
       subst (λ (b : List Begun). AreWorks (ordered state order).session.shapes (ordered state order).slots (slot_at new.store) b works) (sym begun)
-      (subst (λ (all : List Shape). AreWorks all (ordered state order).slots (slot_at new.store) (begun_of state.session.groups (tickets_of works)) works) (sym shapes)
-      (subst (λ (s : Slot → Option Held). AreWorks state.session.shapes s (slot_at new.store) (begun_of state.session.groups (tickets_of works)) works) (sym slots)
-      (subst (λ (s : Slot → Option Held). AreWorks state.session.shapes state.slots s (begun_of state.session.groups (tickets_of works)) works) (ap slot_at (sym same.store)) at.chain)));
+      (subst (λ (all : List Shape). AreWorks all (ordered state order).slots (slot_at new.store) (begun_of state.session.groups (tickets_of works)) works)
+      (sym shapes)
+      (subst (λ (s : Slot → Option Held). AreWorks state.session.shapes s (slot_at new.store) (begun_of state.session.groups (tickets_of works)) works)
+      (sym slots)
+      (subst (λ (s : Slot → Option Held). AreWorks state.session.shapes state.slots s (begun_of state.session.groups (tickets_of works)) works)
+      (ap slot_at (sym same.store)) at.chain)));
 }
 
 -- a core that has what counts after an order which is no Reset
@@ -166,28 +182,37 @@ stands_ordered old new batch state order is same failed inbox session admitted a
   has = subst (HasState new) (sym (ordered_is state order is))
       (record { failed = failed ∙ at.has.failed; session = session; admitted = admitted; inbox = inbox ∙ at.has.inbox });
   busy = same.busy ∙ at.busy;
-  out = out_stays old new batch state (ordered state order) same (ap (λ (s : WorkerState). s.slots) (ordered_is state order is)) (λ works work. work_ordered old new state order works is same work) at.out;
+  out = out_stays old new batch state (ordered state order) same (ap (λ (s : WorkerState). s.slots) (ordered_is state order is))
+      (λ works work. work_ordered old new state order works is same work) at.out;
 }
 
 -- an order that counts
-counted_as : (session : Session) (order : ToWorker) → is_reset order ≡ false → does_count session order ≡ true → after_order session order ≡ counted session order
+counted_as : (session : Session) (order : ToWorker) → is_reset order ≡ false → does_count session order ≡ true
+    → after_order session order ≡ counted session order
 counted_as session (ToWorker.Reset epoch worker workers shapes) is counts = absurd cc
 counted_as session ToWorker.Stop is counts = refl
-counted_as session (ToWorker.Single epoch instance commands) is counts = ap (λ (b : Bool). if b then counted session (ToWorker.Single epoch instance commands) else session) counts
-counted_as session (ToWorker.InstallTemplate epoch block entries) is counts = ap (λ (b : Bool). if b then counted session (ToWorker.InstallTemplate epoch block entries) else session) counts
+counted_as session (ToWorker.Single epoch instance commands) is counts =
+    ap (λ (b : Bool). if b then counted session (ToWorker.Single epoch instance commands) else session) counts
+counted_as session (ToWorker.InstallTemplate epoch block entries) is counts =
+    ap (λ (b : Bool). if b then counted session (ToWorker.InstallTemplate epoch block entries) else session) counts
 counted_as session (ToWorker.Instantiate epoch instance block base args versions edits) is counts =
     ap (λ (b : Bool). if b then counted session (ToWorker.Instantiate epoch instance block base args versions edits) else session) counts
-counted_as session (ToWorker.InstallPatch epoch patch copies) is counts = ap (λ (b : Bool). if b then counted session (ToWorker.InstallPatch epoch patch copies) else session) counts
-counted_as session (ToWorker.RunPatch epoch instance patch versions) is counts = ap (λ (b : Bool). if b then counted session (ToWorker.RunPatch epoch instance patch versions) else session) counts
+counted_as session (ToWorker.InstallPatch epoch patch copies) is counts =
+    ap (λ (b : Bool). if b then counted session (ToWorker.InstallPatch epoch patch copies) else session) counts
+counted_as session (ToWorker.RunPatch epoch instance patch versions) is counts =
+    ap (λ (b : Bool). if b then counted session (ToWorker.RunPatch epoch instance patch versions) else session) counts
 
-taken_as : (core : WorkerCore) (session : Session) (order : ToWorker) → is_reset order ≡ false → HasSession core session → is_passed core order ≡ false → after_order session order ≡ counted session order
+taken_as : (core : WorkerCore) (session : Session) (order : ToWorker) → is_reset order ≡ false → HasSession core session → is_passed core order ≡ false
+    → after_order session order ≡ counted session order
 taken_as core session (ToWorker.Reset epoch worker workers shapes) is has taken = absurd cc
 taken_as core session ToWorker.Stop is has taken = refl
 taken_as core session order is has taken = counted_as session order is (taken_counts core session order has taken)
 
 -- an order that counts and leaves all but what is installed and what was admitted
-pub stands_taken : (old : WorkerCore) (installed : Installed) (admitted : Admitted) (batch : Option Batch) (state : WorkerState) (order : ToWorker) → is_reset order ≡ false → is_passed old order ≡ false
-    → (counted state.session order).begun ≡ state.session.begun → (counted state.session order).epoch ≡ state.session.epoch → (counted state.session order).shapes ≡ state.session.shapes
+pub stands_taken : (old : WorkerCore) (installed : Installed) (admitted : Admitted) (batch : Option Batch) (state : WorkerState) (order : ToWorker)
+    → is_reset order ≡ false → is_passed old order ≡ false
+    → (counted state.session order).begun ≡ state.session.begun → (counted state.session order).epoch ≡ state.session.epoch
+    → (counted state.session order).shapes ≡ state.session.shapes
     → (Has old.installed state.session.halves state.session.patches → Has installed (counted state.session order).halves (counted state.session order).patches)
     → (IsAdmitted old.admitted state.session.groups state.ran → IsAdmitted admitted (counted state.session order).groups state.ran)
     → StandsAt old batch state → StandsAt (record old { installed = installed; admitted = admitted }) batch (ordered state order)
@@ -202,7 +227,8 @@ stands_taken old installed admitted batch state order is taken begun epoch shape
     at
 
 -- a Reset
-stands_reset : (old new : WorkerCore) (batch : Option Batch) (state : WorkerState) (epoch : ℕ) (worker : Worker) (workers : ℕ) (shapes : List Shape) → IsReset old epoch shapes new
+stands_reset : (old new : WorkerCore) (batch : Option Batch) (state : WorkerState) (epoch : ℕ) (worker : Worker) (workers : ℕ) (shapes : List Shape)
+    → IsReset old epoch shapes new
     → StandsAt old batch state → StandsAt new batch (ordered state (ToWorker.Reset epoch worker workers shapes))
 stands_reset old new batch state epoch worker workers shapes is at = record {
   has = record {
@@ -224,48 +250,59 @@ stands_reset old new batch state epoch worker workers shapes is at = record {
   either None stale out = (stale, rest)
   either (Some b) stale out = subst (λ (s : Bool). IsOut new s b after) (sym stale) rest
 
-pub reset_taken : (old new : WorkerCore) (batch : Option Batch) (state : WorkerState) (order : ToWorker) (epoch : ℕ) (worker : Worker) (workers : ℕ) (shapes : List Shape)
+pub reset_taken : (old new : WorkerCore) (batch : Option Batch) (state : WorkerState) (order : ToWorker) (epoch : ℕ) (worker : Worker) (workers : ℕ)
+    (shapes : List Shape)
     → order ≡ ToWorker.Reset epoch worker workers shapes → IsReset old epoch shapes new → StandsAt old batch state → StandsAt new batch (ordered state order)
 reset_taken old new batch state order epoch worker workers shapes is reset at =
     subst (λ (o : ToWorker). StandsAt new batch (ordered state o)) (sym is) (stands_reset old new batch state epoch worker workers shapes reset at)
 
 -- each other order that counts
-pub single_taken : (old : WorkerCore) (admitted : Admitted) (batch : Option Batch) (state : WorkerState) (order : ToWorker) (epoch instance : ℕ) (commands : List Command)
-    → order ≡ ToWorker.Single epoch instance commands → is_passed old order ≡ false → IsAdmitted admitted (state.session.groups ++ single_group epoch instance commands ∷ []) state.ran
+pub single_taken : (old : WorkerCore) (admitted : Admitted) (batch : Option Batch) (state : WorkerState) (order : ToWorker) (epoch instance : ℕ)
+    (commands : List Command)
+    → order ≡ ToWorker.Single epoch instance commands → is_passed old order ≡ false
+    → IsAdmitted admitted (state.session.groups ++ single_group epoch instance commands ∷ []) state.ran
     → StandsAt old batch state → StandsAt (record old { admitted = admitted }) batch (ordered state order)
 single_taken old admitted batch state order epoch instance commands is taken more at =
     subst (λ (o : ToWorker). StandsAt (record old { admitted = admitted }) batch (ordered state o)) (sym is)
-    (stands_taken old old.installed admitted batch state (ToWorker.Single epoch instance commands) refl (subst (λ (o : ToWorker). is_passed old o ≡ false) is taken) refl refl refl
+    (stands_taken old old.installed admitted batch state (ToWorker.Single epoch instance commands) refl
+    (subst (λ (o : ToWorker). is_passed old o ≡ false) is taken) refl refl refl
     (λ has. has) (λ before. more) at)
 
-pub run_taken : (old : WorkerCore) (admitted : Admitted) (batch : Option Batch) (state : WorkerState) (order : ToWorker) (epoch instance patch : ℕ) (versions : List ℕ)
+pub run_taken : (old : WorkerCore) (admitted : Admitted) (batch : Option Batch) (state : WorkerState) (order : ToWorker) (epoch instance patch : ℕ)
+    (versions : List ℕ)
     → order ≡ ToWorker.RunPatch epoch instance patch versions → is_passed old order ≡ false
     → IsAdmitted admitted (state.session.groups ++ patch_group epoch instance versions (state.session.patches patch) ∷ []) state.ran
     → StandsAt old batch state → StandsAt (record old { admitted = admitted }) batch (ordered state order)
 run_taken old admitted batch state order epoch instance patch versions is taken more at =
     subst (λ (o : ToWorker). StandsAt (record old { admitted = admitted }) batch (ordered state o)) (sym is)
-    (stands_taken old old.installed admitted batch state (ToWorker.RunPatch epoch instance patch versions) refl (subst (λ (o : ToWorker). is_passed old o ≡ false) is taken) refl refl refl
+    (stands_taken old old.installed admitted batch state (ToWorker.RunPatch epoch instance patch versions) refl
+    (subst (λ (o : ToWorker). is_passed old o ≡ false) is taken) refl refl refl
     (λ has. has) (λ before. more) at)
 
-pub template_taken : (old : WorkerCore) (installed : Installed) (batch : Option Batch) (state : WorkerState) (order : ToWorker) (epoch block : ℕ) (entries : List Entry)
+pub template_taken : (old : WorkerCore) (installed : Installed) (batch : Option Batch) (state : WorkerState) (order : ToWorker) (epoch block : ℕ)
+    (entries : List Entry)
     → order ≡ ToWorker.InstallTemplate epoch block entries → is_passed old order ≡ false
     → Has installed (with_list block entries (halves_of old.installed)) (patches_of old.installed)
     → StandsAt old batch state → StandsAt (record old { installed = installed }) batch (ordered state order)
 template_taken old installed batch state order epoch block entries is taken now at =
     subst (λ (o : ToWorker). StandsAt (record old { installed = installed }) batch (ordered state o)) (sym is)
-    (stands_taken old installed old.admitted batch state (ToWorker.InstallTemplate epoch block entries) refl (subst (λ (o : ToWorker). is_passed old o ≡ false) is taken) refl refl refl
+    (stands_taken old installed old.admitted batch state (ToWorker.InstallTemplate epoch block entries) refl
+    (subst (λ (o : ToWorker). is_passed old o ≡ false) is taken) refl refl refl
     (λ has. record { halves = now.halves ∙ ap (with_list block entries) has.halves; patches = now.patches ∙ has.patches }) (λ before. before) at)
 
-pub patch_taken : (old : WorkerCore) (installed : Installed) (batch : Option Batch) (state : WorkerState) (order : ToWorker) (epoch patch : ℕ) (copies : List PatchPart)
+pub patch_taken : (old : WorkerCore) (installed : Installed) (batch : Option Batch) (state : WorkerState) (order : ToWorker) (epoch patch : ℕ)
+    (copies : List PatchPart)
     → order ≡ ToWorker.InstallPatch epoch patch copies → is_passed old order ≡ false
     → Has installed (halves_of old.installed) (with_list patch copies (patches_of old.installed))
     → StandsAt old batch state → StandsAt (record old { installed = installed }) batch (ordered state order)
 patch_taken old installed batch state order epoch patch copies is taken now at =
     subst (λ (o : ToWorker). StandsAt (record old { installed = installed }) batch (ordered state o)) (sym is)
-    (stands_taken old installed old.admitted batch state (ToWorker.InstallPatch epoch patch copies) refl (subst (λ (o : ToWorker). is_passed old o ≡ false) is taken) refl refl refl
+    (stands_taken old installed old.admitted batch state (ToWorker.InstallPatch epoch patch copies) refl
+    (subst (λ (o : ToWorker). is_passed old o ≡ false) is taken) refl refl refl
     (λ has. record { halves = now.halves ∙ has.halves; patches = now.patches ∙ ap (with_list patch copies) has.patches }) (λ before. before) at)
 
-pub instance_taken : (old : WorkerCore) (installed : Installed) (admitted : Admitted) (batch : Option Batch) (state : WorkerState) (order : ToWorker) (epoch instance block : ℕ) (head : GroupHead) (asked : Asked)
+pub instance_taken : (old : WorkerCore) (installed : Installed) (admitted : Admitted) (batch : Option Batch) (state : WorkerState) (order : ToWorker)
+    (epoch instance block : ℕ) (head : GroupHead) (asked : Asked)
     → order ≡ ToWorker.Instantiate epoch instance block asked.base asked.args asked.versions asked.edits → is_passed old order ≡ false
     → head ≡ record { epoch = epoch; instance = instance; single = false } → IsInstantiated old.installed old.admitted head block asked installed admitted
     → StandsAt old batch state → StandsAt (record old { installed = installed; admitted = admitted }) batch (ordered state order)
@@ -301,22 +338,26 @@ unfolding IsHistory
 no_history = record {}
 
 -- a frame of an earlier epoch
-pub stands_late : (core : WorkerCore) (batch : Option Batch) (state : WorkerState) (frame : Data) → nat_lt frame.epoch core.epoch ≡ true → StandsAt core batch state
+pub stands_late : (core : WorkerCore) (batch : Option Batch) (state : WorkerState) (frame : Data) → nat_lt frame.epoch core.epoch ≡ true
+    → StandsAt core batch state
     → StandsAt core batch (framed state frame)
 stands_late core batch state frame late at =
     let is : nat_lt frame.epoch state.session.epoch ≡ true = subst (λ (epoch : ℕ). nat_lt frame.epoch epoch ≡ true) at.has.session.epoch late in
     subst (StandsAt core batch) (ap (λ (b : Bool). if b then state else record state { inbox = map.insert state.inbox (key_of frame) frame.value }) (sym is)) at
 
-work_framed : (old new : WorkerCore) (state : WorkerState) (frame : Data) (works : List Work) → framed state frame ≡ record state { inbox = map.insert state.inbox (key_of frame) frame.value }
+work_framed : (old new : WorkerCore) (state : WorkerState) (frame : Data) (works : List Work)
+    → framed state frame ≡ record state { inbox = map.insert state.inbox (key_of frame) frame.value }
     → OutStays old new → IsAtWork old works state → IsAtWork new works (framed state frame)
 work_framed old new state frame works is same at = record {
   may = commands_in_turn.frames state frame (tickets_of works) at.may;
   chain = subst (λ (s : WorkerState). AreWorks s.session.shapes s.slots (slot_at new.store) (begun_of s.session.groups (tickets_of works)) works) (sym is)
-      (subst (λ (s : Slot → Option Held). AreWorks state.session.shapes state.slots s (begun_of state.session.groups (tickets_of works)) works) (ap slot_at (sym same.store)) at.chain);
+      (subst (λ (s : Slot → Option Held). AreWorks state.session.shapes state.slots s (begun_of state.session.groups (tickets_of works)) works)
+      (ap slot_at (sym same.store)) at.chain);
 }
 
 -- a frame that is kept
-pub stands_framed : (old : WorkerCore) (inbox : map.FinMap key_cmp Grid) (batch : Option Batch) (state : WorkerState) (frame : Data) → nat_lt frame.epoch old.epoch ≡ false
+pub stands_framed : (old : WorkerCore) (inbox : map.FinMap key_cmp Grid) (batch : Option Batch) (state : WorkerState) (frame : Data)
+    → nat_lt frame.epoch old.epoch ≡ false
     → inbox ≡ map.insert old.inbox (key_of frame) frame.value → StandsAt old batch state → StandsAt (record old { inbox = inbox }) batch (framed state frame)
 stands_framed old inbox batch state frame late kept at =
     let new : WorkerCore = record old { inbox = inbox } in
@@ -333,5 +374,6 @@ stands_framed old inbox batch state frame late kept at =
         inbox = kept ∙ ap (λ (i : map.FinMap key_cmp Grid). map.insert i (key_of frame) frame.value) at.has.inbox;
       });
       busy = at.busy;
-      out = out_stays old new batch state (framed state frame) same (ap (λ (s : WorkerState). s.slots) is) (λ works work. work_framed old new state frame works is same work) at.out;
+      out = out_stays old new batch state (framed state frame) same (ap (λ (s : WorkerState). s.slots) is)
+          (λ works work. work_framed old new state frame works is same work) at.out;
     }

@@ -80,7 +80,8 @@ kept_inside shapes frame (Load slot version value) f g s same touched = put_insi
 kept_inside shapes None (Receive slot version) f g s same touched = same s touched
 kept_inside shapes (Some value) (Receive slot version) f g s same touched = put_inside slot s (Some (held_at slot version value)) f g (same s touched)
 kept_inside shapes frame (Copy from to) f g s same touched =
-    ap₂ (λ (h x : Option Held). if s.0 == to.0 then h else x) (same from (touch_read (Copy from to) from (or_left (from.0 == from.0) false (eq-eqb from.0 from.0 refl)))) (same s touched)
+    ap₂ (λ (h x : Option Held). if s.0 == to.0 then h else x) (same from
+    (touch_read (Copy from to) from (or_left (from.0 == from.0) false (eq-eqb from.0 from.0 refl)))) (same s touched)
 kept_inside shapes frame (Run position func params reads writes) f g s same touched =
     run_inside shapes position func params reads writes s f g same (same s touched) (has_counts func (length params) (length reads) (length writes))
 kept_inside shapes frame (Send slot peer entry) f g s same touched = same s touched
@@ -102,7 +103,8 @@ kept_outside shapes None (Receive slot version) f s not = refl
 kept_outside shapes (Some value) (Receive slot version) f s not = put_other [] slot s (Some (held_at slot version value)) f not
 kept_outside shapes frame (Copy from to) f s not = put_other [] to s (f from) f (or_parts (does_read (Copy from to) s) (does_write (Copy from to) s) not).1
 kept_outside shapes frame (Run position func params reads writes) f s not =
-    run_outside shapes (version_after position) writes (results_for shapes func params reads writes f) s f (or_parts (is_among reads s) (is_among writes s) not).1
+    run_outside shapes (version_after position) writes (results_for shapes func params reads writes f) s f
+    (or_parts (is_among reads s) (is_among writes s) not).1
     (has_counts func (length params) (length reads) (length writes))
 kept_outside shapes frame (Send slot peer entry) f s not = refl
 kept_outside shapes frame (Fetch slot ticket) f s not = refl

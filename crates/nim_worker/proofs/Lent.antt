@@ -38,18 +38,22 @@ record IsOutStill (core : WorkerCore) (old new : Batch) (state : WorkerState) : 
 out_still : (core : WorkerCore) (old new : Batch) (state : WorkerState) → IsLent old new → IsAtWork core old.works.items state → IsOutStill core old new state
 out_still core old new state lent out =
     let groups = state.session.groups in
-    let kept = works_kept state.session.shapes state.slots (slot_at core.store) (begun_of groups (tickets_of old.works.items)) old.works.items new.works.items lent.works out.chain in
-    let same = same_tickets state.session.shapes state.slots (slot_at core.store) (begun_of groups (tickets_of old.works.items)) old.works.items new.works.items out.chain kept in
+    let kept = works_kept state.session.shapes state.slots (slot_at core.store) (begun_of groups (tickets_of old.works.items)) old.works.items new.works.items
+    lent.works out.chain in
+    let same = same_tickets state.session.shapes state.slots (slot_at core.store) (begun_of groups (tickets_of old.works.items)) old.works.items new.works.items
+    out.chain kept in
     record {
       work = record {
         may = subst (λ (tickets : List ℕ). MayAllHappen state (completions tickets)) same out.may;
-        chain = subst (λ (tickets : List ℕ). AreWorks state.session.shapes state.slots (slot_at core.store) (begun_of groups tickets) new.works.items) same kept;
+        chain =
+            subst (λ (tickets : List ℕ). AreWorks state.session.shapes state.slots (slot_at core.store) (begun_of groups tickets) new.works.items) same kept;
       };
       same = same;
     }
 
 lent_out : (core : WorkerCore) (old new : Batch) (state : WorkerState) (stale : Bool) → IsLent old new → IsOut core stale old state
-    → IsOut core stale new state × ((if stale then [] else completions (tickets_of new.works.items)) ≡ (if stale then [] else completions (tickets_of old.works.items)))
+    → IsOut core stale new state × ((if stale then [] else completions (tickets_of new.works.items))
+    ≡ (if stale then [] else completions (tickets_of old.works.items)))
 lent_out core old new state true lent out = (out, refl)
 lent_out core old new state false lent out =
     let still = out_still core old new state lent out.0 in

@@ -43,7 +43,8 @@ not_among other (slot ∷ slots) s none touched =
 not_shared : (one other : Kind) (s : Slot) → do_share one other ≡ false → does_touch other s ≡ true → does_touch one s ≡ false
 not_shared one other s not touched =
     let parts = or_parts (list_any (does_touch other) (reads_of one)) (list_any (does_touch other) (writes_of one)) not in
-    or_from (is_among (reads_of one) s) (is_among (writes_of one) s) (not_among other (reads_of one) s parts.0 touched) (not_among other (writes_of one) s parts.1 touched)
+    or_from (is_among (reads_of one) s) (is_among (writes_of one) s) (not_among other (reads_of one) s parts.0 touched)
+    (not_among other (writes_of one) s parts.1 touched)
 
 -- what a command touches, one that it doesn't meet doesn't
 one_apart : (groups : List Group) (one place : ℕ) (asked : Asked) (s : Slot) → asked_at groups place ≡ Some asked → do_meet groups one place ≡ false
@@ -51,7 +52,8 @@ one_apart : (groups : List Group) (one place : ℕ) (asked : Asked) (s : Slot) �
     → do_touch (begun_at groups one) s ≡ false
 one_apart groups one place asked s found not touched = either (asked_at groups one) shares where
   shares : option_map_or (λ (a : Asked). do_share a.command.kind asked.command.kind) (asked_at groups one) false ≡ false
-  shares = sym (ap (λ (o : Option Asked). option_map_or (λ (a : Asked). option_map_or (λ (b : Asked). do_share a.command.kind b.command.kind) o false) (asked_at groups one) false) found)
+  shares = sym (ap (λ (o : Option Asked). option_map_or (λ (a : Asked). option_map_or (λ (b : Asked). do_share a.command.kind b.command.kind) o false)
+      (asked_at groups one) false) found)
       ∙ (or_parts (touch_one_slot groups one place) (have_one_frame groups one place) not).0
 
   either : (o : Option Asked) → option_map_or (λ (a : Asked). do_share a.command.kind asked.command.kind) o false ≡ false
@@ -76,14 +78,16 @@ all_apart groups (one ∷ places) place asked found none s touched =
     (all_apart groups places place asked found parts.1 s touched)
 
 -- what the core has stays where only slots of its store change
-state_stays : (old new : WorkerCore) (state : WorkerState) → new ≡ record old { store = new.store } → new.store.shapes ≡ old.store.shapes → HasState old state → HasState new state
+state_stays : (old new : WorkerCore) (state : WorkerState) → new ≡ record old { store = new.store } → new.store.shapes ≡ old.store.shapes → HasState old state
+    → HasState new state
 state_stays old new state same shapes has = record {
   failed = ap (λ (core : WorkerCore). core.failed) same ∙ has.failed;
   session = record {
     begun = ap (λ (core : WorkerCore). core.begun) same ∙ has.session.begun;
     epoch = ap (λ (core : WorkerCore). core.epoch) same ∙ has.session.epoch;
     shapes = shapes ∙ has.session.shapes;
-    installed = subst (λ installed. Has installed state.session.halves state.session.patches) (ap (λ (core : WorkerCore). core.installed) (sym same)) has.session.installed;
+    installed = subst (λ installed. Has installed state.session.halves state.session.patches) (ap (λ (core : WorkerCore). core.installed) (sym same))
+        has.session.installed;
   };
   admitted = subst (λ admitted. IsAdmitted admitted state.session.groups state.ran) (ap (λ (core : WorkerCore). core.admitted) (sym same)) has.admitted;
   inbox = ap (λ (core : WorkerCore). core.inbox) same ∙ has.inbox;
@@ -91,7 +95,8 @@ state_stays old new state same shapes has = record {
 
 -- one more work is out, of a command that meets none of the others
 pub one_taken : (old new : WorkerCore) (works more : List Work) (state : WorkerState) (ticket : ℕ) (asked : Asked) → IsBeginning old works state
-    → new ≡ record old { store = new.store } → new.store.shapes ≡ old.store.shapes → asked_at state.session.groups ticket ≡ Some asked → is_one_of state.ran ticket ≡ false
+    → new ≡ record old { store = new.store } → new.store.shapes ≡ old.store.shapes → asked_at state.session.groups ticket ≡ Some asked
+    → is_one_of state.ran ticket ≡ false
     → list_any (λ earlier. do_meet state.session.groups earlier ticket) (tickets_of works) ≡ false
     → IsBegun old.store works ticket new.store more asked.command
     → (tickets_of more ≡ tickets_of works ++ ticket ∷ []) × IsBeginning new more state
@@ -100,10 +105,13 @@ one_taken old new works more state ticket asked begins same shapes found waiting
   record {
     has = state_stays old new state same shapes begins.has;
     chain = subst (λ (all : List Begun). AreWorks state.session.shapes state.slots (slot_at new.store) all more) (sym begun)
-        (subst (λ (all : List Work). AreWorks state.session.shapes state.slots (slot_at new.store) (begun_of state.session.groups (tickets_of works) ++ begun_as ticket asked.command.kind ∷ []) all) (sym b.last)
-        (more_works state.session.shapes state.slots (slot_at old.store) (slot_at new.store) (begun_of state.session.groups (tickets_of works)) works (begun_as ticket asked.command.kind) b.work
+        (subst (λ (all : List Work). AreWorks state.session.shapes state.slots (slot_at new.store)
+        (begun_of state.session.groups (tickets_of works) ++ begun_as ticket asked.command.kind ∷ []) all) (sym b.last)
+        (more_works state.session.shapes state.slots (slot_at old.store) (slot_at new.store) (begun_of state.session.groups (tickets_of works)) works
+        (begun_as ticket asked.command.kind) b.work
         begins.chain (all_apart state.session.groups (tickets_of works) ticket asked found none)
-        (subst (λ (all : List Shape). IsWork all (slot_at old.store) (slot_at new.store) (begun_as ticket asked.command.kind) b.work) begins.has.session.shapes b.is)));
+        (subst (λ (all : List Shape). IsWork all (slot_at old.store) (slot_at new.store) (begun_as ticket asked.command.kind) b.work) begins.has.session.shapes
+        b.is)));
     waiting = subst (λ (all : List ℕ). All (λ place. is_one_of state.ran place ≡ false) all) (sym tickets)
         (All-push (λ place. is_one_of state.ran place ≡ false) (tickets_of works) ticket begins.waiting waiting);
   },
@@ -114,12 +122,14 @@ one_taken old new works more state ticket asked begins same shapes found waiting
   begun : begun_of state.session.groups (tickets_of more) ≡ begun_of state.session.groups (tickets_of works) ++ begun_as ticket asked.command.kind ∷ []
   begun = ap (begun_of state.session.groups) tickets
       ∙ flat_map-append (begun_at state.session.groups) (tickets_of works) (ticket ∷ [])
-      ∙ ap (λ (o : Option Asked). begun_of state.session.groups (tickets_of works) ++ (option_map_or (λ (a : Asked). begun_as ticket a.command.kind ∷ []) o [] ++ [])) found
+      ∙ ap (λ (o : Option Asked). begun_of state.session.groups (tickets_of works)
+      ++ (option_map_or (λ (a : Asked). begun_as ticket a.command.kind ∷ []) o [] ++ [])) found
 
 pub not_ran : (groups : List Group) (ran : List ℕ) (place : ℕ) → is_released groups (is_one_of ran) place ≡ true → is_one_of ran place ≡ false
 not_ran groups ran place released = either (is_one_of ran place) refl where
   either : (b : Bool) → is_one_of ran place ≡ b → b ≡ false
-  either true is = absurd (both_ways (is_released groups (is_one_of ran) place) (ap (λ (b : Bool). not b && list_all (is_one_of ran) (waits_of (members_of groups) place)) is) released)
+  either true is = absurd (both_ways (is_released groups (is_one_of ran) place)
+      (ap (λ (b : Bool). not b && list_all (is_one_of ran) (waits_of (members_of groups) place)) is) released)
   either false is = refl
 
 -- A released command that meets none of the others is taken where it may be completed; where there is none nothing changes.
@@ -137,18 +147,22 @@ maybe_taken old new works more state ticket begins same shapes released framed n
 
       either : (o : Option Asked) → asked_at state.session.groups ticket ≡ o → IfSome o (λ asked. true ≡ has_frame state asked)
           → MayBeBegun old.store works ticket new.store more (option_map (λ (asked : Asked). asked.command) o)
-          → (tickets_of more ≡ (if is_taken state (tickets_of works) ticket then tickets_of works ++ ticket ∷ [] else tickets_of works)) × IsBeginning new more state
+          → (tickets_of more ≡ (if is_taken state (tickets_of works) ticket then tickets_of works ++ ticket ∷ [] else tickets_of works))
+          × IsBeginning new more state
       either None missing framed b = (
         ap tickets_of b.1
             ∙ sym (ap (λ (t : Bool). if t then tickets_of works ++ ticket ∷ [] else tickets_of works)
             (ap (λ (o : Option Asked). (is_released state.session.groups (is_one_of state.ran) ticket && option_map_or (has_frame state) o false)
             && not (list_any (λ earlier. do_meet state.session.groups earlier ticket) (tickets_of works))) missing
-            ∙ and_left (is_released state.session.groups (is_one_of state.ran) ticket && false) (not (list_any (λ earlier. do_meet state.session.groups earlier ticket) (tickets_of works)))
+            ∙ and_left (is_released state.session.groups (is_one_of state.ran) ticket && false)
+            (not (list_any (λ earlier. do_meet state.session.groups earlier ticket) (tickets_of works)))
             (and_right (is_released state.session.groups (is_one_of state.ran) ticket) false refl))),
         record {
           has = state_stays old new state same shapes begins.has;
-          chain = subst (λ (all : List Work). AreWorks state.session.shapes state.slots (slot_at new.store) (begun_of state.session.groups (tickets_of all)) all) (sym b.1)
-              (subst (λ (stored : Stored). AreWorks state.session.shapes state.slots (slot_at stored) (begun_of state.session.groups (tickets_of works)) works) (sym b.0) begins.chain);
+          chain = subst (λ (all : List Work). AreWorks state.session.shapes state.slots (slot_at new.store) (begun_of state.session.groups (tickets_of all))
+              all) (sym b.1)
+              (subst (λ (stored : Stored). AreWorks state.session.shapes state.slots (slot_at stored) (begun_of state.session.groups (tickets_of works)) works)
+              (sym b.0) begins.chain);
           waiting = subst (λ (all : List Work). All (λ place. is_one_of state.ran place ≡ false) (tickets_of all)) (sym b.1) begins.waiting;
         },
       )

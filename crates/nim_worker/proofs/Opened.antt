@@ -119,7 +119,8 @@ not_none f (x ∷ xs) zero below is = none-some (f x) (sym is)
 not_none f (x ∷ xs) (suc k) below is = not_none f xs k (omega (arith, below)) is
 
 -- a command that isn't complete is there, and so is its group
-pub is_there : {Y : Type 0} (of : Member → Y) (groups : List Group) (ran : List ℕ) (ticket : ℕ) (A : Type 0) → ticket < queue.count_of groups → is_one_of ran ticket ≡ false
+pub is_there : {Y : Type 0} (of : Member → Y) (groups : List Group) (ran : List ℕ) (ticket : ℕ) (A : Type 0) → ticket < queue.count_of groups
+    → is_one_of ran ticket ≡ false
     → (if is_one_of ran ticket then None else option_map of (slice_get (members_of groups) ticket)) ≡ None → A
 is_there of groups ran ticket A below waiting none =
     absurd (not_none of (members_of groups) ticket below

@@ -67,7 +67,8 @@ pub record IsNext (state : WorkerState) (ticket : ℕ) : Type 0 where
   pub waiting : is_one_of state.ran ticket ≡ false
   pub within : ticket < length (members_of state.session.groups)
 
-pub next_is : (state : WorkerState) (after : Option ℕ) (ticket : ℕ) → ready_of state.session.groups (is_one_of state.ran) after ≡ Some ticket → IsNext state ticket
+pub next_is : (state : WorkerState) (after : Option ℕ) (ticket : ℕ) → ready_of state.session.groups (is_one_of state.ran) after ≡ Some ticket
+    → IsNext state ticket
 next_is state after ticket ready =
     let groups = state.session.groups in
     let first = first_passes (λ (t : ℕ). is_after after t && is_released groups (is_one_of state.ran) t) 0 (count_of groups) ticket ready in

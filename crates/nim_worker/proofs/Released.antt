@@ -20,13 +20,16 @@ use Rattle.nim_history.proofs.InTurn.{commands_in_turn}
 use Rattle.nim_worker.specs.Taken.{do_meet, have_one_frame, is_key, is_taken, may_complete, taken_from, taken_of, touch_one_slot}
 
 -- the places that a command waits for are before it
-before_it : (p : ℕ → Bool) (n from count : ℕ) → from + count ≤ n → filter (λ earlier. nat_lt earlier n) (filter p (range_with_len from count)) ≡ filter p (range_with_len from count)
+before_it : (p : ℕ → Bool) (n from count : ℕ) → from + count ≤ n
+    → filter (λ earlier. nat_lt earlier n) (filter p (range_with_len from count)) ≡ filter p (range_with_len from count)
 before_it p n from zero below = refl
 before_it p n from (suc count) below = either (p from) (before_it p n (from + 1) count (omega (arith, below))) where
-  either : (b : Bool) → filter (λ earlier. nat_lt earlier n) (filter p (range_with_len (from + 1) count)) ≡ filter p (range_with_len (from + 1) count) → filter (λ earlier. nat_lt earlier n) (if b then from ∷ filter p (range_with_len (from + 1) count) else filter p (range_with_len (from + 1) count))
+  either : (b : Bool) → filter (λ earlier. nat_lt earlier n) (filter p (range_with_len (from + 1) count)) ≡ filter p (range_with_len (from + 1) count)
+      → filter (λ earlier. nat_lt earlier n) (if b then from ∷ filter p (range_with_len (from + 1) count) else filter p (range_with_len (from + 1) count))
       ≡ (if b then from ∷ filter p (range_with_len (from + 1) count) else filter p (range_with_len (from + 1) count))
   either true rest =
-      ap (λ (b : Bool). if b then from ∷ filter (λ earlier. nat_lt earlier n) (filter p (range_with_len (from + 1) count)) else filter (λ earlier. nat_lt earlier n) (filter p (range_with_len (from + 1) count)))
+      ap (λ (b : Bool). if b then from ∷ filter (λ earlier. nat_lt earlier n) (filter p (range_with_len (from + 1) count))
+      else filter (λ earlier. nat_lt earlier n) (filter p (range_with_len (from + 1) count)))
       (lt-ltb from n (omega (arith, below)))
       ∙ ap (λ (xs : List ℕ). from ∷ xs) rest
   either false rest = rest
@@ -44,7 +47,8 @@ released_from groups done place is =
     elim (slice_get_cases ms place).1 [
       | inl found ↦
           let waits : waits_at (listed ms) place ≡ filter (λ earlier. nat_lt earlier place) (waits_of ms place) =
-          ap (λ (o : Option Command). filter (λ earlier. nat_lt earlier place) (option_map_or (λ (c : Command). c.before) o [])) (get_listed ms place found.0 found.2) in
+          ap (λ (o : Option Command). filter (λ earlier. nat_lt earlier place) (option_map_or (λ (c : Command). c.before) o []))
+          (get_listed ms place found.0 found.2) in
           and_from (not (done place)) (list_all done (waits_of ms place)) (ap not is.waiting)
           (ap (list_all done) (sym (waits ∙ before_it (waits_for ms place) place 0 place (omega arith))) ∙ is.waits)
       | inr past ↦ absurd (omega (arith, past.0, within_all groups place is.within))
@@ -57,7 +61,8 @@ may_as_test state place may =
 
 may_from_test : (state : WorkerState) (place : ℕ) → place < length (members_of state.session.groups) → may_complete state place ≡ true → MayComplete state place
 may_from_test state place within may =
-    let parts = and_parts (is_released state.session.groups (is_one_of state.ran) place) (option_map_or (has_frame state) (asked_at state.session.groups place) false) may in
+    let parts = and_parts (is_released state.session.groups (is_one_of state.ran) place)
+    (option_map_or (has_frame state) (asked_at state.session.groups place) false) may in
     record { released = released_at state.session.groups (is_one_of state.ran) place within parts.0; frame = parts.1 }
 
 -- a key is itself
@@ -75,7 +80,8 @@ itself key =
 other_frames : (groups : List Group) (one other : ℕ) → have_one_frame groups one other ≡ false → HaveOtherFrames groups one other
 other_frames groups one other not key first second =
     both_ways true
-    (sym (ap₂ (λ (a : Option Key) (b : Option Key). option_map_or (λ (x : Key). option_map_or (is_key x) b false) a false) first second ∙ itself key) ∙ not) refl
+    (sym (ap₂ (λ (a : Option Key) (b : Option Key). option_map_or (λ (x : Key). option_map_or (is_key x) b false) a false) first second ∙ itself key) ∙ not)
+    refl
 
 none_of : (p : ℕ → Bool) (xs : List ℕ) → list_any p xs ≡ false → All (λ x. p x ≡ false) xs
 none_of p [] none = All-nil (λ x. p x ≡ false)
@@ -93,7 +99,8 @@ pub record MayBeTaken (state : WorkerState) (taken : List ℕ) : Type 0 where
   pub turn : MayAllComplete state taken
   pub each : All (MayComplete state) taken
 
-taken_more : (state : WorkerState) (taken : List ℕ) (n : ℕ) → n < length (members_of state.session.groups) → All (λ p. p < n) taken → is_taken state taken n ≡ true
+taken_more : (state : WorkerState) (taken : List ℕ) (n : ℕ) → n < length (members_of state.session.groups) → All (λ p. p < n) taken
+    → is_taken state taken n ≡ true
     → MayBeTaken state taken → MayBeTaken state (taken ++ n ∷ [])
 taken_more state taken n within below is may =
     let groups : List Group = state.session.groups in
@@ -107,7 +114,8 @@ taken_more state taken n within below is may =
       each = All-push (MayComplete state) taken n may.each now;
     }
 
-taken_all : (state : WorkerState) (most : ℕ) (taken : List ℕ) (from count : ℕ) → from + count ≡ length (members_of state.session.groups) → All (λ p. p < from) taken → MayBeTaken state taken
+taken_all : (state : WorkerState) (most : ℕ) (taken : List ℕ) (from count : ℕ) → from + count ≡ length (members_of state.session.groups)
+    → All (λ p. p < from) taken → MayBeTaken state taken
     → MayBeTaken state (taken_from state most taken (range_with_len from count))
 taken_all state most taken from zero all below may = may
 taken_all state most taken from (suc count) all below may =
@@ -117,7 +125,8 @@ taken_all state most taken from (suc count) all below may =
 
       either : (b : Bool) → (nat_lt (length taken) most && is_taken state taken from) ≡ b
           → ((ts : List ℕ) → All (λ p. p < from + 1) ts → MayBeTaken state ts → MayBeTaken state (taken_from state most ts (range_with_len (from + 1) count)))
-          → MayBeTaken state (if b then taken_from state most (taken ++ from ∷ []) (range_with_len (from + 1) count) else taken_from state most taken (range_with_len (from + 1) count))
+          → MayBeTaken state (if b then taken_from state most (taken ++ from ∷ []) (range_with_len (from + 1) count)
+          else taken_from state most taken (range_with_len (from + 1) count))
       either true is go_on =
           let parts = and_parts (nat_lt (length taken) most) (is_taken state taken from) is in
           go_on (taken ++ from ∷ []) (All-push (λ p. p < from + 1) taken from wider (omega arith))
@@ -127,17 +136,21 @@ taken_all state most taken from (suc count) all below may =
 pub may_all : (state : WorkerState) (most : ℕ) → MayBeTaken state (taken_of state most)
 unfolding taken_of
 may_all state most =
-    taken_all state most [] 0 (length (members_of state.session.groups)) (omega arith) (All-nil (λ p. p < 0)) (record { turn = record {}; each = All-nil (MayComplete state) })
+    taken_all state most [] 0 (length (members_of state.session.groups)) (omega arith) (All-nil (λ p. p < 0))
+    (record { turn = record {}; each = All-nil (MayComplete state) })
 
 -- where none is taken none may be completed
 never_none : (state : WorkerState) (most : ℕ) (taken : List ℕ) (t : ℕ) (xs : List ℕ) → taken_from state most (t ∷ taken) xs ≡ [] → ⊥
 never_none state most taken t [] is = absurd cc
-never_none state most taken t (x ∷ xs) is = either (nat_lt (length (t ∷ taken)) most && is_taken state (t ∷ taken) x) (λ ts. never_none state most ts t xs) is where
-  either : (b : Bool) → ((ts : List ℕ) → taken_from state most (t ∷ ts) xs ≡ [] → ⊥) → (if b then taken_from state most (t ∷ (taken ++ x ∷ [])) xs else taken_from state most (t ∷ taken) xs) ≡ [] → ⊥
-  either true never is = never (taken ++ x ∷ []) is
-  either false never is = never taken is
+never_none state most taken t (x ∷ xs) is =
+    either (nat_lt (length (t ∷ taken)) most && is_taken state (t ∷ taken) x) (λ ts. never_none state most ts t xs) is where
+      either : (b : Bool) → ((ts : List ℕ) → taken_from state most (t ∷ ts) xs ≡ [] → ⊥)
+          → (if b then taken_from state most (t ∷ (taken ++ x ∷ [])) xs else taken_from state most (t ∷ taken) xs) ≡ [] → ⊥
+      either true never is = never (taken ++ x ∷ []) is
+      either false never is = never taken is
 
-none_taken : (state : WorkerState) (most from count place : ℕ) → 1 ≤ most → taken_from state most [] (range_with_len from count) ≡ [] → from ≤ place → place < from + count
+none_taken : (state : WorkerState) (most from count place : ℕ) → 1 ≤ most → taken_from state most [] (range_with_len from count) ≡ [] → from ≤ place
+    → place < from + count
     → may_complete state place ≡ true → ⊥
 none_taken state most from zero place least none above below may = omega (arith, above, below)
 none_taken state most from (suc count) place least none above below may =
@@ -149,14 +162,17 @@ none_taken state most from (suc count) place least none above below may =
       here same = and_from (may_complete state from) true (ap (may_complete state) same ∙ may) refl
 
       either : (b : Bool) → is_taken state [] from ≡ b → (taken_from state most [] (range_with_len (from + 1) count) ≡ [] → from + 1 ≤ place → ⊥)
-          → (if nat_lt 0 most && is_taken state [] from then taken_from state most (from ∷ []) (range_with_len (from + 1) count) else taken_from state most [] (range_with_len (from + 1) count)) ≡ []
+          → (if nat_lt 0 most && is_taken state [] from then taken_from state most (from ∷ []) (range_with_len (from + 1) count)
+          else taken_from state most [] (range_with_len (from + 1) count)) ≡ []
           → ⊥
       either true is never none = never_none state most [] from (range_with_len (from + 1) count)
-          (sym (ap₂ (λ (a : Bool) (b : Bool). if a && b then taken_from state most (from ∷ []) (range_with_len (from + 1) count) else taken_from state most [] (range_with_len (from + 1) count)) room is) ∙ none)
+          (sym (ap₂ (λ (a : Bool) (b : Bool). if a && b then taken_from state most (from ∷ []) (range_with_len (from + 1) count)
+          else taken_from state most [] (range_with_len (from + 1) count)) room is) ∙ none)
       either false is never none =
           let other : from ≢ place = λ same. both_ways (is_taken state [] from) is (here same) in
           never
-          (sym (ap₂ (λ (a : Bool) (b : Bool). if a && b then taken_from state most (from ∷ []) (range_with_len (from + 1) count) else taken_from state most [] (range_with_len (from + 1) count)) room is) ∙ none)
+          (sym (ap₂ (λ (a : Bool) (b : Bool). if a && b then taken_from state most (from ∷ []) (range_with_len (from + 1) count)
+          else taken_from state most [] (range_with_len (from + 1) count)) room is) ∙ none)
           (omega (arith, above, other))
 
 pub none_may : (state : WorkerState) (most : ℕ) → 1 ≤ most → taken_of state most ≡ [] → (place : ℕ) → MayComplete state place → ⊥

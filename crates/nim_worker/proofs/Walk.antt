@@ -53,13 +53,16 @@ passed_over : (state : WorkerState) (most : ℕ) (taken : List ℕ) (x : ℕ) (x
 passed_over state most taken x xs is = either (nat_lt (length taken) most) where
   none : is_taken state taken x ≡ false
   none =
-      ap (λ (b : Bool). (b && option_map_or (has_frame state) (asked_at state.session.groups x) false) && not (list_any (λ earlier. do_meet state.session.groups earlier x) taken)) is
+      ap (λ (b : Bool). (b && option_map_or (has_frame state) (asked_at state.session.groups x) false)
+      && not (list_any (λ earlier. do_meet state.session.groups earlier x) taken)) is
 
-  either : (b : Bool) → (if b && is_taken state taken x then taken_from state most (taken ++ x ∷ []) xs else taken_from state most taken xs) ≡ taken_from state most taken xs
+  either : (b : Bool) → (if b && is_taken state taken x then taken_from state most (taken ++ x ∷ []) xs else taken_from state most taken xs)
+      ≡ taken_from state most taken xs
   either true = ap (λ (b : Bool). if b then taken_from state most (taken ++ x ∷ []) xs else taken_from state most taken xs) none
   either false = refl
 
-none_more : (state : WorkerState) (most : ℕ) (after : Option ℕ) (taken xs : List ℕ) → first_that (λ ticket. is_after after ticket && released state ticket) xs ≡ None
+none_more : (state : WorkerState) (most : ℕ) (after : Option ℕ) (taken xs : List ℕ)
+    → first_that (λ ticket. is_after after ticket && released state ticket) xs ≡ None
     → taken_from state most taken (filter (is_after after) xs) ≡ taken
 none_more state most after taken [] none = refl
 none_more state most after taken (x ∷ xs) none = either (is_after after x) (released state x) refl (none_more state most after taken xs) none where
@@ -75,15 +78,18 @@ none_more state most after taken (x ∷ xs) none = either (is_after after x) (re
 not_before : (test : ℕ → Bool) (from count ticket : ℕ) → first_that test (range_with_len from count) ≡ Some ticket → from ≤ ticket
 not_before test from zero ticket is = absurd cc
 not_before test from (suc count) ticket is = either (test from) (not_before test (from + 1) count ticket) is where
-  either : (b : Bool) → (first_that test (range_with_len (from + 1) count) ≡ Some ticket → from + 1 ≤ ticket) → (if b then Some from else first_that test (range_with_len (from + 1) count)) ≡ Some ticket → from ≤ ticket
+  either : (b : Bool) → (first_that test (range_with_len (from + 1) count) ≡ Some ticket → from + 1 ≤ ticket)
+      → (if b then Some from else first_that test (range_with_len (from + 1) count)) ≡ Some ticket → from ≤ ticket
   either true more is = let same : from ≡ ticket = cc in omega (arith, same)
   either false more is = omega (arith, more is)
 
 -- what comes after a place that comes after the given one comes after it too
-after_all : (after : Option ℕ) (from count : ℕ) → ((place : ℕ) → from ≤ place → is_after after place ≡ true) → filter (is_after after) (range_with_len from count) ≡ range_with_len from count
+after_all : (after : Option ℕ) (from count : ℕ) → ((place : ℕ) → from ≤ place → is_after after place ≡ true)
+    → filter (is_after after) (range_with_len from count) ≡ range_with_len from count
 after_all after from zero later = refl
 after_all after from (suc count) later =
-    ap (λ (b : Bool). if b then from ∷ filter (is_after after) (range_with_len (from + 1) count) else filter (is_after after) (range_with_len (from + 1) count)) (later from (omega arith))
+    ap (λ (b : Bool). if b then from ∷ filter (is_after after) (range_with_len (from + 1) count) else filter (is_after after) (range_with_len (from + 1) count))
+    (later from (omega arith))
     ∙ ap (λ (rest : List ℕ). from ∷ rest) (after_all after (from + 1) count (λ place above. later place (omega (arith, above))))
 
 still_after : (after : Option ℕ) (from place : ℕ) → is_after after from ≡ true → from ≤ place → is_after after place ≡ true
@@ -100,38 +106,43 @@ next_one : (state : WorkerState) (most : ℕ) (after : Option ℕ) (taken : List
     → taken_from state most taken (filter (is_after after) (range_with_len from count))
     ≡ taken_from state most taken (ticket ∷ filter (is_after (Some ticket)) (range_with_len from count))
 next_one state most after taken ticket from zero is = absurd cc
-next_one state most after taken ticket from (suc count) is = either (is_after after from) (released state from) refl refl (next_one state most after taken ticket (from + 1) count) is where
-  rest : List ℕ
-  rest = range_with_len (from + 1) count
+next_one state most after taken ticket from (suc count) is =
+    either (is_after after from) (released state from) refl refl (next_one state most after taken ticket (from + 1) count) is where
+      rest : List ℕ
+      rest = range_with_len (from + 1) count
 
-  drop_one : from ≤ ticket → filter (is_after (Some ticket)) (from ∷ rest) ≡ filter (is_after (Some ticket)) rest
-  drop_one below = ap (λ (b : Bool). if b then from ∷ filter (is_after (Some ticket)) rest else filter (is_after (Some ticket)) rest) (not_after ticket from below)
+      drop_one : from ≤ ticket → filter (is_after (Some ticket)) (from ∷ rest) ≡ filter (is_after (Some ticket)) rest
+      drop_one below =
+          ap (λ (b : Bool). if b then from ∷ filter (is_after (Some ticket)) rest else filter (is_after (Some ticket)) rest) (not_after ticket from below)
 
-  Next : Type 0
-  Next = first_that (λ t. is_after after t && released state t) rest ≡ Some ticket
-      → taken_from state most taken (filter (is_after after) rest) ≡ taken_from state most taken (ticket ∷ filter (is_after (Some ticket)) rest)
+      Next : Type 0
+      Next = first_that (λ t. is_after after t && released state t) rest ≡ Some ticket
+          → taken_from state most taken (filter (is_after after) rest) ≡ taken_from state most taken (ticket ∷ filter (is_after (Some ticket)) rest)
 
-  go_on : Next → first_that (λ t. is_after after t && released state t) rest ≡ Some ticket
-      → taken_from state most taken (filter (is_after after) rest) ≡ taken_from state most taken (ticket ∷ filter (is_after (Some ticket)) (from ∷ rest))
-  go_on next is =
-      let below = not_before (λ t. is_after after t && released state t) (from + 1) count ticket is in
-      next is
-      ∙ ap (λ (xs : List ℕ). taken_from state most taken (ticket ∷ xs)) (sym (drop_one (omega (arith, below))))
+      go_on : Next → first_that (λ t. is_after after t && released state t) rest ≡ Some ticket
+          → taken_from state most taken (filter (is_after after) rest) ≡ taken_from state most taken (ticket ∷ filter (is_after (Some ticket)) (from ∷ rest))
+      go_on next is =
+          let below = not_before (λ t. is_after after t && released state t) (from + 1) count ticket is in
+          next is
+          ∙ ap (λ (xs : List ℕ). taken_from state most taken (ticket ∷ xs)) (sym (drop_one (omega (arith, below))))
 
-  either : (later free : Bool) → is_after after from ≡ later → released state from ≡ free → Next
-      → (if later && free then Some from else first_that (λ t. is_after after t && released state t) rest) ≡ Some ticket
-      → taken_from state most taken (if later then from ∷ filter (is_after after) rest else filter (is_after after) rest)
-      ≡ taken_from state most taken (ticket ∷ filter (is_after (Some ticket)) (from ∷ rest))
-  either true true later free next is =
-      let same : from ≡ ticket = cc in
-      let here : filter (is_after after) rest ≡ rest = after_all after (from + 1) count (λ place above. still_after after from place later (omega (arith, above))) in
-      let there : filter (is_after (Some ticket)) rest ≡ rest = after_all (Some ticket) (from + 1) count (λ place above. lt-ltb ticket place (omega (arith, above, same))) in
-      ap₂ (λ (n : ℕ) (xs : List ℕ). taken_from state most taken (n ∷ xs)) same (here ∙ sym there ∙ sym (drop_one (omega (arith, same))))
-  either true false later free next is = passed_over state most taken from (filter (is_after after) rest) free ∙ go_on next is
-  either false free later at next is = go_on next is
+      either : (later free : Bool) → is_after after from ≡ later → released state from ≡ free → Next
+          → (if later && free then Some from else first_that (λ t. is_after after t && released state t) rest) ≡ Some ticket
+          → taken_from state most taken (if later then from ∷ filter (is_after after) rest else filter (is_after after) rest)
+          ≡ taken_from state most taken (ticket ∷ filter (is_after (Some ticket)) (from ∷ rest))
+      either true true later free next is =
+          let same : from ≡ ticket = cc in
+          let here : filter (is_after after) rest ≡ rest =
+          after_all after (from + 1) count (λ place above. still_after after from place later (omega (arith, above))) in
+          let there : filter (is_after (Some ticket)) rest ≡ rest =
+          after_all (Some ticket) (from + 1) count (λ place above. lt-ltb ticket place (omega (arith, above, same))) in
+          ap₂ (λ (n : ℕ) (xs : List ℕ). taken_from state most taken (n ∷ xs)) same (here ∙ sym there ∙ sym (drop_one (omega (arith, same))))
+      either true false later free next is = passed_over state most taken from (filter (is_after after) rest) free ∙ go_on next is
+      either false free later at next is = go_on next is
 
 -- one more released command was looked at
-pub walked_on : (state : WorkerState) (most : ℕ) (after : Option ℕ) (ticket : ℕ) (core new : WorkerCore) (works more : List Work) → IsWalked state most after core works
+pub walked_on : (state : WorkerState) (most : ℕ) (after : Option ℕ) (ticket : ℕ) (core new : WorkerCore) (works more : List Work)
+    → IsWalked state most after core works
     → length works < most → ready_of state.session.groups (is_one_of state.ran) after ≡ Some ticket → IsBeginning new more state
     → tickets_of more ≡ (if is_taken state (tickets_of works) ticket then tickets_of works ++ ticket ∷ [] else tickets_of works)
     → IsWalked state most (Some ticket) new more
@@ -139,16 +150,19 @@ walked_on state most after ticket core new works more walked room ready begins t
   begins = begins;
   left =
       let rest : List ℕ = filter (is_after (Some ticket)) (places_of state) in
-      let open_to : nat_lt (length (tickets_of works)) most ≡ true = lt-ltb (length (tickets_of works)) most (omega (arith, room, length-map works (λ (w : Work). w.ticket))) in
+      let open_to : nat_lt (length (tickets_of works)) most ≡ true =
+      lt-ltb (length (tickets_of works)) most (omega (arith, room, length-map works (λ (w : Work). w.ticket))) in
       ap (λ (ts : List ℕ). taken_from state most ts rest) taken
       ∙ either rest (is_taken state (tickets_of works) ticket) refl
-      ∙ ap (λ (b : Bool). if b && is_taken state (tickets_of works) ticket then taken_from state most (tickets_of works ++ ticket ∷ []) rest else taken_from state most (tickets_of works) rest) (sym open_to)
+      ∙ ap (λ (b : Bool). if b && is_taken state (tickets_of works) ticket then taken_from state most (tickets_of works ++ ticket ∷ []) rest
+      else taken_from state most (tickets_of works) rest) (sym open_to)
       ∙ sym (next_one state most after (tickets_of works) ticket 0 (length (members_of state.session.groups)) ready)
       ∙ walked.left;
 } where
   either : (rest : List ℕ) (b : Bool) → is_taken state (tickets_of works) ticket ≡ b
       → taken_from state most (if is_taken state (tickets_of works) ticket then tickets_of works ++ ticket ∷ [] else tickets_of works) rest
-      ≡ (if is_taken state (tickets_of works) ticket then taken_from state most (tickets_of works ++ ticket ∷ []) rest else taken_from state most (tickets_of works) rest)
+      ≡ (if is_taken state (tickets_of works) ticket then taken_from state most (tickets_of works ++ ticket ∷ []) rest
+      else taken_from state most (tickets_of works) rest)
   either rest true is = rw is refl
   either rest false is = rw is refl
 

@@ -30,7 +30,8 @@ open_with group (suc more) = Some (record { head = head_of group; told = is_told
 
 -- the group of a number, while commands of it aren't complete
 abbrev pub open_of : List Group → List ℕ → ℕ → Option OpenGroup
-open_of groups ran number = option_and_then (λ (group : Group). open_with group (left_of groups number ran)) (slice_get groups number)
+open_of groups ran number =
+    option_and_then (λ (group : Group). open_with group (left_of groups number ran)) (slice_get groups number)
 
 -- These groups were asked for, and their commands at these places are complete.
 pub record IsAdmitted (admitted : Admitted) (groups : List Group) (ran : List ℕ) : Type 0 where
@@ -84,4 +85,5 @@ KeepsTable old new = (other : ℕ) → get nat_cmp new other ≡ get nat_cmp old
 -- a table in which a group has one command less left
 abbrev pub CountsDown : BTreeMap ℕ OpenGroup → ℕ → BTreeMap ℕ OpenGroup → Type 0
 CountsDown old number new = (other : ℕ) → get nat_cmp new other
-    ≡ (if other == number then option_and_then (λ (group : OpenGroup). while_left (one_less group)) (get nat_cmp old number) else get nat_cmp old other)
+    ≡ (if other == number then option_and_then (λ (group : OpenGroup). while_left (one_less group))
+    (get nat_cmp old number) else get nat_cmp old other)

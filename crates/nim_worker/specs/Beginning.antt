@@ -6,7 +6,8 @@ use Rattle.nim_worker.specs.declared.batch.Work.{Work}
 use Rattle.nim_worker.specs.Works.{IsWork, begun_as}
 
 -- one more work is out, of this command
-pub record IsBegun (old : Stored) (works : List Work) (ticket : ℕ) (new : Stored) (more : List Work) (command : Command) : Type 0 where
+pub record IsBegun (old : Stored) (works : List Work) (ticket : ℕ) (new : Stored) (more : List Work)
+    (command : Command) : Type 0 where
   pub work : Work
   pub last : more ≡ works ++ work ∷ []
   pub is : IsWork old.shapes (slot_at old) (slot_at new) (begun_as ticket command.kind) work

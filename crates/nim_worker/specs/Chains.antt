@@ -23,7 +23,8 @@ IsApart kind begun = (slot : Slot) → does_touch kind slot ≡ true → do_touc
 abbrev pub AreWorks : List Shape → (Slot → Option Held) → (Slot → Option Held) → List Begun → List Work → Type 0
 AreWorks shapes before now [] [] = before ≡ now
 AreWorks shapes before now (begun ∷ more) (work ∷ works) =
-    (between : Slot → Option Held) × (IsWork shapes before between begun work × (IsApart begun.kind more × AreWorks shapes between now more works))
+    (between : Slot → Option Held) × (IsWork shapes before between begun work
+    × (IsApart begun.kind more × AreWorks shapes between now more works))
 AreWorks shapes before now _ _ = ⊥
 
 -- each work is what one of the others was, or that one performed
@@ -35,7 +36,8 @@ KeepWorks _ _ = ⊥
 -- a work's inputs have what its command reads of these slots
 pub record HasRead (before : Slot → Option Held) (kind : Kind) (work : Work) : Type 0 where
   pub contents : work.inputs.value.contents.items ≡ map (content_seen before) (reads_taken kind)
-  pub values : reads_of work.inputs.value.values.items work.inputs.value.places.items ≡ map (λ slot. (seen before slot).value) (reads_taken kind)
+  pub values : reads_of work.inputs.value.values.items work.inputs.value.places.items
+      ≡ map (λ slot. (seen before slot).value) (reads_taken kind)
 
 -- the same of each of these works
 abbrev pub HaveRead : (Slot → Option Held) → List Begun → List Work → Type 0

@@ -17,9 +17,13 @@ use Rattle.nim_worker.specs.Works.{Begun}
 abbrev pub through_of : GroupHead → Bool → List Out
 through_of head through = if through then Out.Report (Through head.epoch head.instance) ∷ [] else []
 
--- A command is complete: it has its frame, it left what it leaves where the other works are out, and gave what it gives.
-pub record HasLeft (all : List Shape) (state : WorkerState) (asked : Asked) (more : List Begun) (out : List Work) (before : List Out) (through : Bool) (core : WorkerCore) (after : List Out) : Type 0 where
+-- A command is complete: it has its frame, it left what it leaves where the other works are out, and gave what it
+-- gives.
+pub record HasLeft (all : List Shape) (state : WorkerState) (asked : Asked) (more : List Begun) (out : List Work)
+    (before : List Out) (through : Bool) (core : WorkerCore) (after : List Out) : Type 0 where
   pub inbox : core.inbox ≡ inbox_after state asked
   pub shapes : core.store.shapes ≡ all
-  pub works : AreWorks all (kept_by all (value_for state asked) asked.command.kind state.slots) (slot_at core.store) more out
-  pub given : after ≡ before ++ (own_outs asked.group asked.command.kind state.slots ++ through_of (head_of asked.group) through)
+  pub works : AreWorks all (kept_by all (value_for state asked) asked.command.kind state.slots) (slot_at core.store)
+      more out
+  pub given : after ≡ before ++ (own_outs asked.group asked.command.kind state.slots
+      ++ through_of (head_of asked.group) through)

@@ -16,7 +16,8 @@ use Rattle.nim_worker.specs.declared.inputs.Taken.{Taken}
 
 -- what was taken out of a slot: nothing, or a content with its value
 abbrev pub held_of : Taken → Grid → Option Held
-held_of taken value = option_map (λ (content : Object × ℕ). record { object = content.0; version = content.1; value = value }) taken.content
+held_of taken value = option_map (λ (content : Object × ℕ). record
+    { object = content.0; version = content.1; value = value }) taken.content
 
 -- the slots once all that was taken is given back
 abbrev pub given_back : List Taken → List Grid → (Slot → Option Held) → Slot → Option Held
@@ -60,7 +61,8 @@ AreIdle all = All (λ (inputs : Box Inputs Global). IsIdle inputs.value) all
 
 -- The inputs of a task with these parameters that reads and writes these slots, taken out of slots that had this before
 -- and have that now.
-pub record AreInputs (all : List Shape) (numbers : List ℤ) (reads writes : List Slot) (before now : Slot → Option Held) (inputs : Inputs) : Type 0 where
+pub record AreInputs (all : List Shape) (numbers : List ℤ) (reads writes : List Slot) (before now : Slot → Option Held)
+    (inputs : Inputs) : Type 0 where
   pub params : inputs.params.items ≡ numbers
   pub back : given_back inputs.taken.items inputs.values.items now ≡ before
   pub among : AreAmong reads inputs.taken.items

@@ -22,7 +22,8 @@ pub record IsHeadOf (head : GroupHead) (group : Group) : Type 0 where
 
 -- a Run leaves its results, where it has some
 abbrev pub left_with : List Shape → Option Grid → Kind → Option (List Grid) → (Slot → Option Held) → Slot → Option Held
-left_with shapes frame (Run position func params reads writes) (Some results) before = put_results shapes (version_after position) writes results before
+left_with shapes frame (Run position func params reads writes) (Some results) before =
+    put_results shapes (version_after position) writes results before
 left_with shapes frame (Run position func params reads writes) None before = before
 left_with shapes frame kind results before = kept_by shapes frame kind before
 

@@ -39,7 +39,8 @@ abbrev pub half_asked : Installed → ℕ → Asked → List Entry
 half_asked installed block asked = edited_by asked.edits (halves_of installed block)
 
 -- An instance of a block was asked for: its half is edited, and the commands that it then stands for were admitted.
-pub record IsInstantiated (old : Installed) (waited : Admitted) (head : GroupHead) (block : ℕ) (asked : Asked) (new : Installed) (waits : Admitted) : Type 0 where
+pub record IsInstantiated (old : Installed) (waited : Admitted) (head : GroupHead) (block : ℕ) (asked : Asked)
+    (new : Installed) (waits : Admitted) : Type 0 where
   pub has : Has new (with_list block (half_asked old block asked) (halves_of old)) (patches_of old)
   pub admitted : (groups : List Group) (ran : List ℕ) (next : Group) → IsAdmitted waited groups ran
       → IsGroupOf head true (expanded asked.base asked.args asked.versions 0 (half_asked old block asked)) next

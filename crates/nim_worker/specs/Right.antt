@@ -10,5 +10,6 @@ use Rattle.nim_worker.specs.declared.batch.Work.{Work}
 -- A Run reads the versions that program order names, and their values.
 abbrev pub ReadsRight : Job → Work → Type 0
 ReadsRight job work = (position : ℕ) → work.position ≡ Some position
-    → IsSomeAnd (slice_get (tasks_of job) position) (λ task. (work.inputs.value.contents.items ≡ reads_at job position task)
+    → IsSomeAnd (slice_get (tasks_of job) position)
+    (λ task. (work.inputs.value.contents.items ≡ reads_at job position task)
     × (reads_of work.inputs.value.values.items work.inputs.value.places.items ≡ values_read job position task))

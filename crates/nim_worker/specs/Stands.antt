@@ -32,7 +32,8 @@ after_completions state places = fold after_happening state (completions places)
 
 -- what the works of commands at these places were begun for
 abbrev pub begun_at : List Group → ℕ → List Begun
-begun_at groups place = option_map_or (λ (asked : Asked). begun_as place asked.command.kind ∷ []) (asked_at groups place) []
+begun_at groups place =
+    option_map_or (λ (asked : Asked). begun_as place asked.command.kind ∷ []) (asked_at groups place) []
 
 -- what the works of these commands were begun for, in order
 abbrev pub begun_of : List Group → List ℕ → List Begun
@@ -61,12 +62,14 @@ pub record IsAtRest (core : WorkerCore) (state : WorkerState) : Type 0 where
 -- worker's slots.
 pub record IsAtWork (core : WorkerCore) (works : List Work) (state : WorkerState) : Type 0 where
   pub may : MayAllHappen state (completions (tickets_of works))
-  pub chain : AreWorks state.session.shapes state.slots (slot_at core.store) (begun_of state.session.groups (tickets_of works)) works
+  pub chain : AreWorks state.session.shapes state.slots (slot_at core.store)
+      (begun_of state.session.groups (tickets_of works)) works
 
 -- The works of a batch that is being begun are out, of commands that aren't complete.
 pub record IsBeginning (core : WorkerCore) (works : List Work) (state : WorkerState) : Type 0 where
   pub has : HasState core state
-  pub chain : AreWorks state.session.shapes state.slots (slot_at core.store) (begun_of state.session.groups (tickets_of works)) works
+  pub chain : AreWorks state.session.shapes state.slots (slot_at core.store)
+      (begun_of state.session.groups (tickets_of works)) works
   pub waiting : All (λ place. is_one_of state.ran place ≡ false) (tickets_of works)
 
 -- a batch has room for the most works

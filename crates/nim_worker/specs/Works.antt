@@ -32,32 +32,38 @@ position_of _ = None
 -- The function that a command applies. This and what follows: nothing where it is no Run, or its counts aren't its
 -- function's.
 abbrev pub func_taken : Kind → Option Func
-func_taken (Run position func params reads writes) = if has_counts func (length params) (length reads) (length writes) then Some func else None
+func_taken (Run position func params reads writes) =
+    if has_counts func (length params) (length reads) (length writes) then Some func else None
 func_taken _ = None
 
 -- the parameters that it takes
 abbrev pub params_taken : Kind → List ℤ
-params_taken (Run position func params reads writes) = if has_counts func (length params) (length reads) (length writes) then params else []
+params_taken (Run position func params reads writes) =
+    if has_counts func (length params) (length reads) (length writes) then params else []
 params_taken _ = []
 
 -- the slots that its inputs are taken from
 abbrev pub reads_taken : Kind → List Slot
-reads_taken (Run position func params reads writes) = if has_counts func (length params) (length reads) (length writes) then reads else []
+reads_taken (Run position func params reads writes) =
+    if has_counts func (length params) (length reads) (length writes) then reads else []
 reads_taken _ = []
 
 -- the slots that its results go to
 abbrev pub writes_taken : Kind → List Slot
-writes_taken (Run position func params reads writes) = if has_counts func (length params) (length reads) (length writes) then writes else []
+writes_taken (Run position func params reads writes) =
+    if has_counts func (length params) (length reads) (length writes) then writes else []
 writes_taken _ = []
 
 -- the inputs of a command, taken out of slots that had this before and have that now
 abbrev pub AreInputsOf : List Shape → Kind → (Slot → Option Held) → (Slot → Option Held) → Inputs → Type 0
-AreInputsOf shapes kind before now inputs = AreInputs shapes (params_taken kind) (reads_taken kind) (writes_taken kind) before now inputs
+AreInputsOf shapes kind before now inputs =
+    AreInputs shapes (params_taken kind) (reads_taken kind) (writes_taken kind) before now inputs
 
 -- the results of a command that was performed
 abbrev pub results_of : List Shape → Kind → (Slot → Option Held) → Option (List Grid)
 results_of shapes kind before =
-    option_map (λ (func : Func). results_for shapes func (params_taken kind) (reads_taken kind) (writes_taken kind) before) (func_taken kind)
+    option_map (λ (func : Func). results_for shapes func (params_taken kind) (reads_taken kind) (writes_taken kind)
+    before) (func_taken kind)
 
 -- the results that a work has
 abbrev pub results_in : Work → Option (List Grid)
@@ -68,7 +74,8 @@ abbrev pub results_from : Work → Option (List Grid)
 results_from work =
     option_map
     (λ (func : Func).
-    apply_of func work.inputs.value.params.items (reads_of work.inputs.value.values.items work.inputs.value.places.items) work.inputs.value.shapes.items)
+    apply_of func work.inputs.value.params.items (reads_of work.inputs.value.values.items
+    work.inputs.value.places.items) work.inputs.value.shapes.items)
     work.func
 
 -- whether nothing is left to perform
@@ -94,4 +101,5 @@ pub record IsWork (shapes : List Shape) (before now : Slot → Option Held) (beg
 -- whatever a work is the work of, it stays
 abbrev pub KeepsWork : Work → Work → Type 0
 KeepsWork old new =
-    (shapes : List Shape) (before now : Slot → Option Held) (begun : Begun) → IsWork shapes before now begun old → IsWork shapes before now begun new
+    (shapes : List Shape) (before now : Slot → Option Held) (begun : Begun) → IsWork shapes before now begun old
+    → IsWork shapes before now begun new

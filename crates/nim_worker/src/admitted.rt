@@ -32,7 +32,8 @@ pub(crate) struct OpenGroup {
     pub(crate) left: u64,
 }
 
-/// A command that has become complete, what is known of its group, and whether it is to be told that the group is through.
+/// A command that has become complete, what is known of its group, and whether it is to be told that the group is
+/// through.
 #[derive(Drop)]
 pub(crate) struct Ended {
     pub(crate) command: Command,
@@ -59,9 +60,11 @@ impl Admitted {
         told: bool,
         commands: Vec<Command>,
     ) -> Result<(), NoMemory>
-        ensures ok { (groups : List group_type) (ran : List ℕ) (next : group_type) → IsAdmitted self.old groups ran → IsGroupOf head told commands.items next
+        ensures ok { (groups : List group_type) (ran : List ℕ) (next : group_type) → IsAdmitted self.old groups ran
+            → IsGroupOf head told commands.items next
             → OnOk result (IsAdmitted self.new (groups ++ next ∷ []) ran) }
-        ensures err { (groups : List group_type) (ran : List ℕ) → IsAdmitted self.old groups ran → OnErr result (IsAdmitted self.new groups ran) }
+        ensures err { (groups : List group_type) (ran : List ℕ) → IsAdmitted self.old groups ran
+            → OnErr result (IsAdmitted self.new groups ran) }
     {
         if self.given == u64::MAX {
             return Err(NoMemory);
@@ -74,7 +77,8 @@ impl Admitted {
     fn open_group(&mut self, head: GroupHead, told: bool, left: u64) -> Result<(), NoMemory>
         ensures queue { self.new.queue ≡ self.old.queue }
         ensures given { self.new.given ≡ self.old.given }
-        ensures ok { OnOk result (Opens self.old.unfinished self.old.given (record { head = head; told = told; left = left }) self.new.unfinished) }
+        ensures ok { OnOk result (Opens self.old.unfinished self.old.given
+            (record { head = head; told = told; left = left }) self.new.unfinished) }
         ensures err { OnErr result (KeepsTable self.old.unfinished self.new.unfinished) }
     {
         if left > 0 {
@@ -87,7 +91,8 @@ impl Admitted {
     // Gives the commands of the group that was opened to the queue; closes the group again where memory is refused.
     fn enqueue(&mut self, commands: Vec<Command>) -> Result<(), NoMemory>
         requires { self.old.given + 1 < 2 ^ 64 }
-        ensures queue { (groups : List group_type) (ran : List ℕ) (next : group_type) → QueueStands self.old.queue groups (is_one_of ran) → next.commands ≡ commands.items
+        ensures queue { (groups : List group_type) (ran : List ℕ) (next : group_type)
+            → QueueStands self.old.queue groups (is_one_of ran) → next.commands ≡ commands.items
             → OnOk result (QueueStands self.new.queue (groups ++ next ∷ []) (is_one_of ran)) }
         ensures given { OnOk result (self.new.given ≡ self.old.given + 1) }
         ensures table { OnOk result (self.new.unfinished ≡ self.old.unfinished) }
@@ -111,7 +116,8 @@ impl Admitted {
     /// The ticket of the first command after the given one, the first of all where none is given, that isn't complete
     /// and whose waits are all complete; takes no memory.
     pub(crate) fn ready(&self, after: Option<u64>) -> Option<u64>
-        ensures first { (groups : List group_type) (ran : List ℕ) → IsAdmitted self.now groups ran → result ≡ ready_of groups (is_one_of ran) after }
+        ensures first { (groups : List group_type) (ran : List ℕ) → IsAdmitted self.now groups ran
+            → result ≡ ready_of groups (is_one_of ran) after }
         ensures later { IfSome result (λ ticket. is_after after ticket ≡ true) }
     {
         self.queue.ready(after)
@@ -119,14 +125,16 @@ impl Admitted {
 
     /// The command of a ticket, while it isn't complete; takes no memory.
     pub(crate) fn command(&self, ticket: u64) -> Option<&Command>
-        ensures { (groups : List group_type) (ran : List ℕ) → IsAdmitted self.now groups ran → option_copied result ≡ command_of groups (is_one_of ran) ticket }
+        ensures { (groups : List group_type) (ran : List ℕ) → IsAdmitted self.now groups ran
+            → option_copied result ≡ command_of groups (is_one_of ran) ticket }
     {
         self.queue.command(ticket)
     }
 
     /// What is known of the group of a command, while it isn't complete; takes no memory.
     pub(crate) fn head(&self, ticket: u64) -> Option<GroupHead>
-        ensures { (groups : List group_type) (ran : List ℕ) → IsAdmitted self.now groups ran → result ≡ head_at groups ran ticket }
+        ensures { (groups : List group_type) (ran : List ℕ) → IsAdmitted self.now groups ran
+            → result ≡ head_at groups ran ticket }
     {
         match self.queue.group(ticket) {
             Some(number) => head_in(&self.unfinished, number),
@@ -136,9 +144,11 @@ impl Admitted {
 
     /// The command of a ticket is complete; gives it where it wasn't.
     pub(crate) fn complete(&mut self, ticket: u64) -> Option<Ended>
-        ensures ended { (groups : List group_type) (ran : List ℕ) → IsAdmitted self.old groups ran → ticket < count_of groups → is_one_of ran ticket ≡ false
+        ensures ended { (groups : List group_type) (ran : List ℕ) → IsAdmitted self.old groups ran
+            → ticket < count_of groups → is_one_of ran ticket ≡ false
             → result ≡ ended_at groups ran ticket }
-        ensures stands { (groups : List group_type) (ran : List ℕ) → IsAdmitted self.old groups ran → ticket < count_of groups → is_one_of ran ticket ≡ false
+        ensures stands { (groups : List group_type) (ran : List ℕ) → IsAdmitted self.old groups ran
+            → ticket < count_of groups → is_one_of ran ticket ≡ false
             → IsAdmitted self.new groups (ran ++ ticket ∷ []) }
     {
         let (Some(number), Some(command)) = (self.queue.group(ticket), self.queue.complete(ticket))

@@ -21,7 +21,8 @@ pub struct Work {
     pub(crate) func: Option<Func>,
     pub(crate) inputs: Box<Inputs>,
     pub(crate) results: Option<Vec<Value>>,
-    ghost counted: { IfSome func (λ (f : func_type). HasCounts f inputs.value.params.items inputs.value.places.items inputs.value.shapes.items) } by { Prim.hlevel props },
+    ghost counted: { IfSome func (λ (f : func_type). HasCounts f inputs.value.params.items inputs.value.places.items
+        inputs.value.shapes.items) } by { Prim.hlevel props },
 }
 
 /// Commands that may run at once, each a work of its own.

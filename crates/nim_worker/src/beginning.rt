@@ -31,13 +31,16 @@ impl WorkerCore {
         requires least { 1 ≤ most }
         requires most { most ≤ 16 }
         requires free { self.old.busy ≡ false }
-        ensures stands { (history : List Happening) → Stands self.old None history → Stands self.new (Some result) history }
-        ensures taken { (history : List Happening) → Stands self.old None history → tickets_of result.works.items ≡ taken_of (state_of history) most }
+        ensures stands { (history : List Happening) → Stands self.old None history
+            → Stands self.new (Some result) history }
+        ensures taken { (history : List Happening) → Stands self.old None history
+            → tickets_of result.works.items ≡ taken_of (state_of history) most }
         ensures empty { (history : List Happening) → Stands self.old None history → result.works.items ≡ []
             → (place : ℕ) → MayComplete (state_of history) place → ⊥ }
         ensures epoch { result.epoch ≡ self.old.epoch }
         ensures stale { self.new.stale ≡ self.old.stale }
-        ensures reads { (job : job_type) (history : List Happening) → IsTrue (is_whole job) → IsHandedTruth job history → Stands self.old None history
+        ensures reads { (job : job_type) (history : List Happening) → IsTrue (is_whole job) → IsHandedTruth job history
+            → Stands self.old None history
             → All (ReadsRight job) result.works.items }
         ensures runs { (history : List Happening) → Stands self.old None history
             → all_read_by result.works.items ≡ runs_read (state_of history) (tickets_of result.works.items) }
@@ -85,8 +88,10 @@ impl WorkerCore {
         requires { most ≤ 16 }
         ensures epoch { result.epoch ≡ self.old.epoch }
         ensures rest { self.new ≡ record self.old { store = self.new.store } }
-        ensures begins { (state : WorkerState) → IsBeginning self.old [] state → IsBeginning self.new result.works.items state }
-        ensures taken { (state : WorkerState) → IsBeginning self.old [] state → tickets_of result.works.items ≡ taken_of state most }
+        ensures begins { (state : WorkerState) → IsBeginning self.old [] state
+            → IsBeginning self.new result.works.items state }
+        ensures taken { (state : WorkerState) → IsBeginning self.old [] state
+            → tickets_of result.works.items ≡ taken_of state most }
         ensures room { HasRoom result }
     {
         let Room {
@@ -108,8 +113,10 @@ impl WorkerCore {
         requires enough { most ≤ vec_len spare.old }
         requires idle { AreIdle spare.old.items }
         ensures rest { self.new ≡ record self.old { store = self.new.store } }
-        ensures begins { (state : WorkerState) → IsBeginning self.old [] state → IsBeginning self.new works.new.items state }
-        ensures taken { (state : WorkerState) → IsBeginning self.old [] state → tickets_of works.new.items ≡ taken_of state most }
+        ensures begins { (state : WorkerState) → IsBeginning self.old [] state
+            → IsBeginning self.new works.new.items state }
+        ensures taken { (state : WorkerState) → IsBeginning self.old [] state
+            → tickets_of works.new.items ≡ taken_of state most }
         ensures idle { AreIdle spare.new.items }
         ensures count { vec_len works.new + vec_len spare.new ≡ vec_len spare.old }
         ensures room { vec_capacity works.new ≡ vec_capacity works.old }
@@ -141,11 +148,14 @@ impl WorkerCore {
         requires enough { 1 ≤ vec_len spare.old }
         requires idle { AreIdle spare.old.items }
         ensures rest { self.new ≡ record self.old { store = self.new.store } }
-        ensures begins { (state : WorkerState) → IsBeginning self.old works.old.items state → is_released state.session.groups (is_one_of state.ran) ticket ≡ true
+        ensures begins { (state : WorkerState) → IsBeginning self.old works.old.items state
+            → is_released state.session.groups (is_one_of state.ran) ticket ≡ true
             → IsBeginning self.new works.new.items state }
-        ensures taken { (state : WorkerState) → IsBeginning self.old works.old.items state → is_released state.session.groups (is_one_of state.ran) ticket ≡ true
+        ensures taken { (state : WorkerState) → IsBeginning self.old works.old.items state
+            → is_released state.session.groups (is_one_of state.ran) ticket ≡ true
             → tickets_of works.new.items
-            ≡ (if is_taken state (tickets_of works.old.items) ticket then tickets_of works.old.items ++ ticket ∷ [] else tickets_of works.old.items) }
+            ≡ (if is_taken state (tickets_of works.old.items) ticket then tickets_of works.old.items ++ ticket ∷ []
+            else tickets_of works.old.items) }
         ensures idle { AreIdle spare.new.items }
         ensures count { vec_len works.new + vec_len spare.new ≡ vec_len works.old + vec_len spare.old }
         ensures more { vec_len works.new ≤ vec_len works.old + 1 }
@@ -188,7 +198,8 @@ fn begin_work(
     requires enough { 1 ≤ vec_len spare.old }
     requires idle { AreIdle spare.old.items }
     ensures work { (groups : List group_type) (ran : List ℕ) → IsAdmitted admitted.now groups ran
-        → MayBeBegun store.old works.old.items ticket store.new works.new.items (command_of groups (is_one_of ran) ticket) }
+        → MayBeBegun store.old works.old.items ticket store.new works.new.items
+        (command_of groups (is_one_of ran) ticket) }
     ensures shapes { store.new.shapes ≡ store.old.shapes }
     ensures idle { AreIdle spare.new.items }
     ensures count { vec_len works.new + vec_len spare.new ≡ vec_len works.old + vec_len spare.old }

@@ -41,8 +41,10 @@ impl WorkerCore {
         ensures stands { (history : List Happening) → Stands self.old (Some batch) history
             → OnOk result (Stands self.new None (history ++ completions_of self.old batch)) }
         ensures outs { (history : List Happening) → Stands self.old (Some batch) history
-            → IfOk result (λ outs. Gave (state_of history) outs.items (state_of (history ++ completions_of self.old batch))) }
-        ensures good { (job : job_type) (history : List Happening) → IsTrue (is_whole job) → IsHandedTruth job history → Stands self.old (Some batch) history
+            → IfOk result (λ outs. Gave (state_of history) outs.items
+            (state_of (history ++ completions_of self.old batch))) }
+        ensures good { (job : job_type) (history : List Happening) → IsTrue (is_whole job) → IsHandedTruth job history
+            → Stands self.old (Some batch) history
             → IfOk result (λ outs. All (IsGoodOut job) outs.items) }
         ensures worker { self.new.worker ≡ self.old.worker }
         ensures failed { OnErr result (self.new.failed ≡ true) }
@@ -61,7 +63,8 @@ impl WorkerCore {
         ensures stands { (history : List Happening) → Stands self.old (Some batch) history
             → OnOk result (Stands self.new None (history ++ completions_of self.old batch)) }
         ensures outs { (history : List Happening) → Stands self.old (Some batch) history
-            → IfOk result (λ outs. Gave (state_of history) outs.items (state_of (history ++ completions_of self.old batch))) }
+            → IfOk result (λ outs. Gave (state_of history) outs.items
+            (state_of (history ++ completions_of self.old batch))) }
         ensures worker { self.new.worker ≡ self.old.worker }
     {
         self.busy = false;
@@ -111,11 +114,14 @@ impl WorkerCore {
 
     /// Completes the command of a work, the first of those that are out.
     fn complete_one(&mut self, work: Work, outs: &mut Vec<Out>) -> Result<Box<Inputs>, NoMemory>
-        ensures at { (state : WorkerState) (works : List work_type) → HasState self.old state → IsAtWork self.old (work ∷ works) state
+        ensures at { (state : WorkerState) (works : List work_type) → HasState self.old state
+            → IsAtWork self.old (work ∷ works) state
             → OnOk result (HasState self.new (completed state work.ticket)) }
-        ensures works { (state : WorkerState) (works : List work_type) → HasState self.old state → IsAtWork self.old (work ∷ works) state
+        ensures works { (state : WorkerState) (works : List work_type) → HasState self.old state
+            → IsAtWork self.old (work ∷ works) state
             → OnOk result (IsAtWork self.new works (completed state work.ticket)) }
-        ensures outs { (state : WorkerState) (works : List work_type) → HasState self.old state → IsAtWork self.old (work ∷ works) state
+        ensures outs { (state : WorkerState) (works : List work_type) → HasState self.old state
+            → IsAtWork self.old (work ∷ works) state
             → OnOk result (outs.new.items ≡ outs.old.items ++ outs_at state work.ticket) }
         ensures idle { IfOk result (λ inputs. IsIdle inputs.value) }
         ensures busy { self.new.busy ≡ self.old.busy }
@@ -137,10 +143,13 @@ impl WorkerCore {
         outs: &mut Vec<Out>,
     ) -> Result<Box<Inputs>, NoMemory>
         ensures rest { self.new ≡ record self.old { store = self.new.store; inbox = self.new.inbox } }
-        ensures left { (state : WorkerState) (asked : Asked) (begun : begun_type) (more : List begun_type) (works : List work_type)
-            → self.old.inbox ≡ state.inbox → ended.command ≡ asked.command → ended.head ≡ head_of asked.group → begun.kind ≡ asked.command.kind
+        ensures left { (state : WorkerState) (asked : Asked) (begun : begun_type) (more : List begun_type)
+            (works : List work_type)
+            → self.old.inbox ≡ state.inbox → ended.command ≡ asked.command → ended.head ≡ head_of asked.group
+            → begun.kind ≡ asked.command.kind
             → AreWorks self.old.store.shapes state.slots (slot_at self.old.store) (begun ∷ more) (work ∷ works)
-            → OnOk result (HasLeft self.old.store.shapes state asked more works outs.old.items ended.through self.new outs.new.items) }
+            → OnOk result (HasLeft self.old.store.shapes state asked more works outs.old.items ended.through self.new
+            outs.new.items) }
         ensures idle { IfOk result (λ inputs. IsIdle inputs.value) }
     {
         let Ended {
@@ -171,9 +180,11 @@ impl WorkerCore {
 /// Takes the frame that a command receives out of the inbox, if it receives one and the frame is there.
 fn take_frame(inbox: &mut Inbox, head: GroupHead, number: u32, kind: &Kind) -> Option<Value>
     ensures value { (group : group_type) → head.epoch ≡ group.epoch → head.instance ≡ group.instance
-        → result ≡ option_and_then (λ (key : key_type). map.get inbox.old key) (history.key_received group number kind.now) }
+        → result ≡ option_and_then (λ (key : key_type). map.get inbox.old key)
+        (history.key_received group number kind.now) }
     ensures rest { (group : group_type) → head.epoch ≡ group.epoch → head.instance ≡ group.instance
-        → inbox.new ≡ option_map_or (λ (key : key_type). map.remove inbox.old key) (history.key_received group number kind.now) inbox.old }
+        → inbox.new ≡ option_map_or (λ (key : key_type). map.remove inbox.old key)
+        (history.key_received group number kind.now) inbox.old }
 {
     match key_received(head, number, kind) {
         Some(key) => inbox.take(&key),

@@ -131,7 +131,8 @@ fn receive(
     frame: Option<Value>,
 ) -> Result<(), NoMemory>
     ensures slots { OnOk result (slot_at store.new
-        ≡ option_map_or (λ (value : Grid). put_at slot (Some (spec.held_at slot version value)) (slot_at store.old)) frame
+        ≡ option_map_or (λ (value : Grid). put_at slot (Some (spec.held_at slot version value)) (slot_at store.old))
+        frame
         (slot_at store.old)) }
     ensures shapes { store.new.shapes ≡ store.old.shapes }
 {

@@ -19,7 +19,8 @@ use nim_store::Key;
 /// Whether the command of a ticket touches a slot that one of the works touches, or receives a frame that one of them
 /// receives.
 pub(crate) fn meets_any(admitted: &Admitted, works: &[Work], ticket: u64) -> bool
-    ensures { (groups : List group_type) (ran : List ℕ) → IsAdmitted admitted.now groups ran → All (λ earlier. is_one_of ran earlier ≡ false) (tickets_of works.now) → is_one_of ran ticket ≡ false
+    ensures { (groups : List group_type) (ran : List ℕ) → IsAdmitted admitted.now groups ran
+        → All (λ earlier. is_one_of ran earlier ≡ false) (tickets_of works.now) → is_one_of ran ticket ≡ false
         → result ≡ list_any (λ earlier. spec.do_meet groups earlier ticket) (tickets_of works.now) }
 {
     for work in works {
@@ -31,14 +32,16 @@ pub(crate) fn meets_any(admitted: &Admitted, works: &[Work], ticket: u64) -> boo
 }
 
 fn do_meet(admitted: &Admitted, one: u64, other: u64) -> bool
-    ensures { (groups : List group_type) (ran : List ℕ) → IsAdmitted admitted.now groups ran → is_one_of ran one ≡ false → is_one_of ran other ≡ false
+    ensures { (groups : List group_type) (ran : List ℕ) → IsAdmitted admitted.now groups ran → is_one_of ran one ≡ false
+        → is_one_of ran other ≡ false
         → result ≡ spec.do_meet groups one other }
 {
     touch_one_slot(admitted, one, other) || have_one_frame(admitted, one, other)
 }
 
 fn touch_one_slot(admitted: &Admitted, one: u64, other: u64) -> bool
-    ensures { (groups : List group_type) (ran : List ℕ) → IsAdmitted admitted.now groups ran → is_one_of ran one ≡ false → is_one_of ran other ≡ false
+    ensures { (groups : List group_type) (ran : List ℕ) → IsAdmitted admitted.now groups ran → is_one_of ran one ≡ false
+        → is_one_of ran other ≡ false
         → result ≡ spec.touch_one_slot groups one other }
 {
     match (admitted.command(one), admitted.command(other)) {
@@ -48,7 +51,8 @@ fn touch_one_slot(admitted: &Admitted, one: u64, other: u64) -> bool
 }
 
 fn have_one_frame(admitted: &Admitted, one: u64, other: u64) -> bool
-    ensures { (groups : List group_type) (ran : List ℕ) → IsAdmitted admitted.now groups ran → is_one_of ran one ≡ false → is_one_of ran other ≡ false
+    ensures { (groups : List group_type) (ran : List ℕ) → IsAdmitted admitted.now groups ran → is_one_of ran one ≡ false
+        → is_one_of ran other ≡ false
         → result ≡ spec.have_one_frame groups one other }
 {
     match (key_of(admitted, one), key_of(admitted, other)) {
@@ -69,7 +73,8 @@ fn is_key(one: &Key, other: &Key) -> bool
 
 /// The key of the frame that the command of a ticket receives, if it receives one.
 pub(crate) fn key_of(admitted: &Admitted, ticket: u64) -> Option<Key>
-    ensures { (groups : List group_type) (ran : List ℕ) → IsAdmitted admitted.now groups ran → is_one_of ran ticket ≡ false → result ≡ key_at groups ticket }
+    ensures { (groups : List group_type) (ran : List ℕ) → IsAdmitted admitted.now groups ran
+        → is_one_of ran ticket ≡ false → result ≡ key_at groups ticket }
 {
     let command = admitted.command(ticket)?;
     if !is_receive(&command.kind) {
@@ -90,7 +95,8 @@ fn is_receive(kind: &Kind) -> bool
 
 /// The key of the frame that a command of a group receives, if it receives one.
 pub(crate) fn key_received(head: GroupHead, number: u32, kind: &Kind) -> Option<Key>
-    ensures { (group : group_type) → head.epoch ≡ group.epoch → head.instance ≡ group.instance → result ≡ history.key_received group number kind.now }
+    ensures { (group : group_type) → head.epoch ≡ group.epoch → head.instance ≡ group.instance
+        → result ≡ history.key_received group number kind.now }
 {
     match kind {
         Kind::Receive { slot, version } => Some(Key {

@@ -21,7 +21,8 @@ impl WorkerCore {
     pub fn on_message(&mut self, order: ToWorker) -> Result<(), NoMemory>
         ensures stands { (history : List Happening) (out : Option batch_type) → Stands self.old out history
             → OnOk result (Stands self.new out (history ++ Ordered order ∷ [])) }
-        ensures err { (history : List Happening) (out : Option batch_type) → Stands self.old out history → OnErr result (Stands self.new out history) }
+        ensures err { (history : List Happening) (out : Option batch_type) → Stands self.old out history
+            → OnErr result (Stands self.new out history) }
         ensures dropped { spec.is_passed self.old order ≡ true → self.old.failed ≡ false → IsOk result }
         ensures stale { self.new.stale ≡ (if is_ok result && is_reset order then self.old.busy else self.old.stale) }
         ensures busy { self.new.busy ≡ self.old.busy }
@@ -43,7 +44,8 @@ impl WorkerCore {
     pub fn on_data(&mut self, frame: Data) -> Result<(), NoMemory>
         ensures stands { (history : List Happening) (out : Option batch_type) → Stands self.old out history
             → OnOk result (Stands self.new out (history ++ Framed frame ∷ [])) }
-        ensures err { (history : List Happening) (out : Option batch_type) → Stands self.old out history → OnErr result (Stands self.new out history) }
+        ensures err { (history : List Happening) (out : Option batch_type) → Stands self.old out history
+            → OnErr result (Stands self.new out history) }
         ensures dropped { nat_lt frame.epoch self.old.epoch ≡ true → self.old.failed ≡ false → IsOk result }
         ensures stale { self.new.stale ≡ self.old.stale }
         ensures busy { self.new.busy ≡ self.old.busy }
@@ -84,8 +86,10 @@ impl WorkerCore {
     /// Takes an order that isn't passed over.
     fn take(&mut self, order: ToWorker) -> Result<(), NoMemory>
         requires { spec.is_passed self.old order ≡ false }
-        ensures at { (state : WorkerState) (out : Option batch_type) → StandsAt self.old out state → OnOk result (StandsAt self.new out (ordered state order)) }
-        ensures err { (state : WorkerState) (out : Option batch_type) → StandsAt self.old out state → OnErr result (StandsAt self.new out state) }
+        ensures at { (state : WorkerState) (out : Option batch_type) → StandsAt self.old out state
+            → OnOk result (StandsAt self.new out (ordered state order)) }
+        ensures err { (state : WorkerState) (out : Option batch_type) → StandsAt self.old out state
+            → OnErr result (StandsAt self.new out state) }
         ensures stale { self.new.stale ≡ (if is_ok result && is_reset order then self.old.busy else self.old.stale) }
         ensures busy { self.new.busy ≡ self.old.busy }
         ensures worker { self.new.worker ≡ self.old.worker }

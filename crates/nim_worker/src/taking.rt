@@ -161,7 +161,8 @@ fn content_of(taken: Taken) -> (Object, Version)
 // The content and the value of what a slot has, apart.
 fn apart(alloc: Global, held: Option<Held>) -> (Option<(Object, Version)>, Value)
     ensures held { option_map
-        (λ (content : object × ℕ). record { object = content.0; version = content.1; value = result.1 }) result.0 ≡ held }
+        (λ (content : object × ℕ). record { object = content.0; version = content.1; value = result.1 }) result.0
+        ≡ held }
     ensures value { result.1 ≡ option_map_or (λ (h : held_in). h.value) held empty_grid }
 {
     match held {

@@ -11,12 +11,14 @@ pub returns-then-not-is_kept : goal.returns-then-not-is_kept
 returns-then-not-is_kept c =
     let commands = c.args.commands.now in
     all_not (is_kept_in_order commands c.args.later) c.args.later c.loop-earlier.earlier c.loop-earlier-test.true
-    (sym (kept_at commands c.args.later c.loop-earlier.earlier c.index-commands-later.result c.index-commands-earlier.result c.args.row.now _ c.requires.later c.loop-earlier-test.true c.requires.row)
+    (sym (kept_at commands c.args.later c.loop-earlier.earlier c.index-commands-later.result c.index-commands-earlier.result c.args.row.now _ c.requires.later
+    c.loop-earlier-test.true c.requires.row)
     ∙ sym c.is_kept.ensures ∙ c.if-not-is_kept.true)
 
 pub loop-earlier-preserved : goal.loop-earlier-preserved
 loop-earlier-preserved c =
     let commands = c.args.commands.now in
     all_more (is_kept_in_order commands c.args.later) c.loop-earlier.earlier c.loop-earlier.invariant
-    (sym (kept_at commands c.args.later c.loop-earlier.earlier c.index-commands-later.result c.index-commands-earlier.result c.args.row.now _ c.requires.later c.loop-earlier-test.true c.requires.row)
+    (sym (kept_at commands c.args.later c.loop-earlier.earlier c.index-commands-later.result c.index-commands-earlier.result c.args.row.now _ c.requires.later
+    c.loop-earlier-test.true c.requires.row)
     ∙ sym c.is_kept.ensures ∙ c.if-not-is_kept.false)

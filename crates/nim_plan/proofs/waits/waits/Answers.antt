@@ -27,13 +27,17 @@ loop-at-preserved c =
     let within : old ≤ place = c.loop-at.invariant.within in
     let there : place < length members = c.requires.place in
     let there_too : place ≤ length members = omega arith in
-    let waited = waited_at members next old place earlier later free above within there c.index-members-at.is c.index-members-place.is c.loop-at.invariant.free in
+    let waited =
+    waited_at members next old place earlier later free above within there c.index-members-at.is c.index-members-place.is c.loop-at.invariant.free in
     record {
       within = omega arith;
       free =
-          free_step members next old place later.command.kind earlier free c.keep_free.new.slots.items above within there_too c.index-members-at.is c.loop-at.invariant.free
+          free_step members next old place later.command.kind earlier free c.keep_free.new.slots.items above within there_too c.index-members-at.is
+          c.loop-at.invariant.free
           (c.keep_free.ensures ∙ ap (λ (m : Member). kept_free m.command.kind free) c.earlier.view_is);
       waits =
-          waits_step (waits_for members place) next old place c.loop-at.waits.items c.push_if.new.waits.items c.is_waited-waited.result above within c.loop-at.invariant.waits
-          (c.is_waited-waited.ensures ∙ ap (λ (slots : List Slot). is_waited_free earlier slots later) c.as_slice.ensures.value ∙ waited) c.in_ok-push_if.ensures;
+          waits_step (waits_for members place) next old place c.loop-at.waits.items c.push_if.new.waits.items c.is_waited-waited.result above within
+          c.loop-at.invariant.waits
+          (c.is_waited-waited.ensures ∙ ap (λ (slots : List Slot). is_waited_free earlier slots later) c.as_slice.ensures.value ∙ waited)
+          c.in_ok-push_if.ensures;
     }

@@ -28,7 +28,8 @@ loop-link-preserved c =
                 step t ∙ ap (option_map (followed (more t))) (before.0 t)
                 ∙ followed_twice (gathered t past) (more t) (gathered t (past ++ x ∷ [])) (get nat_eq c.args.waiting.now t) (gathered_more key own t past x),
             subst (AreWithin (λ (v : Waiting). v.followers) (get nat_eq c.follow_one.new.waiting)) total
-                (within_more (λ (v : Waiting). v.followers) followed (get nat_eq c.loop-link.waiting) (get nat_eq c.follow_one.new.waiting) more (k + length past)
+                (within_more (λ (v : Waiting). v.followers) followed (get nat_eq c.loop-link.waiting) (get nat_eq c.follow_one.new.waiting) more
+                (k + length past)
                 (λ ms v. refl) step (few_at key own n x here.0) before.1),
           );
       whole = append_assoc past (x ∷ []) c.next.new.self.rest.items ∙ whole;

@@ -26,9 +26,11 @@ loop-reading-preserved c =
           let total : k + length past + 1 ≡ k + length (past ++ x ∷ []) = omega (arith, length-append past (x ∷ [])) in (
             λ t.
                 step t ∙ ap (option_map (more_read (more t))) (before.0 t)
-                ∙ read_twice (gathered_reads t past) (more t) (gathered_reads t (past ++ x ∷ [])) (used_in c.args.slots.now.items t) (gathered_more key own t past x),
+                ∙ read_twice (gathered_reads t past) (more t) (gathered_reads t (past ++ x ∷ [])) (used_in c.args.slots.now.items t)
+                (gathered_more key own t past x),
             subst (AreWithin (λ (v : SlotUse). v.readers) (used_in c.read_one.new.slots.items)) total
-                (within_more (λ (v : SlotUse). v.readers) more_read (used_in c.loop-reading.slots.items) (used_in c.read_one.new.slots.items) more (k + length past)
+                (within_more (λ (v : SlotUse). v.readers) more_read (used_in c.loop-reading.slots.items) (used_in c.read_one.new.slots.items) more
+                (k + length past)
                 (λ ms v. refl) step (few_at key own n x here.0) before.1),
           );
       whole = append_assoc past (x ∷ []) c.next.new.self.rest.items ∙ whole;

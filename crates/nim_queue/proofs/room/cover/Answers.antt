@@ -13,7 +13,8 @@ loop-slot-preserved c = record {
   covered =
       all_more (λ (slot : Slot). is_some (used_in c.cover_one.new.slots.items slot.0)) c.args.used.now c.loop-slot.slot-index (record { 0 = 0 })
       (search rules)
-      (all_stay (λ (slot : Slot). is_some (used_in c.loop-slot.slots.items slot.0)) (λ (slot : Slot). is_some (used_in c.cover_one.new.slots.items slot.0)) (take c.loop-slot.slot-index c.args.used.now)
+      (all_stay (λ (slot : Slot). is_some (used_in c.loop-slot.slots.items slot.0)) (λ (slot : Slot). is_some (used_in c.cover_one.new.slots.items slot.0))
+      (take c.loop-slot.slot-index c.args.used.now)
       (λ slot there. (one_used _ _ _ _ c.in_ok-cover_one.ensures.uses).stays slot.0 there) c.loop-slot.invariant.covered)
       (search rules);
 }

@@ -13,7 +13,8 @@ loop-arrival-preserved c = record {
   covered =
       all_more (are_covered (used_in c.cover_arrival.new.slots.items)) c.args.arrived.now c.loop-arrival.arrival-index c.arrival-item.result
       (search rules)
-      (all_stay (are_covered (used_in c.loop-arrival.slots.items)) (are_covered (used_in c.cover_arrival.new.slots.items)) (take c.loop-arrival.arrival-index c.args.arrived.now)
+      (all_stay (are_covered (used_in c.loop-arrival.slots.items)) (are_covered (used_in c.cover_arrival.new.slots.items))
+      (take c.loop-arrival.arrival-index c.args.arrived.now)
       (λ a there. covered_still _ _ _ a c.cover_arrival.ensures.same there) c.loop-arrival.invariant.covered)
       (search rules);
 }

@@ -12,4 +12,5 @@ returns-in-Some-pop-clause-work c = λ groups ran admitted.
 
 pub returns-in-Some-pop-clause-idle : goal.returns-in-Some-pop-clause-idle
 returns-in-Some-pop-clause-idle c =
-    (All-pop (λ (inputs : Box Inputs Global). IsIdle inputs.value) c.args.spare.now.items c.pop.new.self.items (Some c.in-Some-pop.inputs) c.in-Some-pop.ensures.items c.requires.idle).0
+    (All-pop (λ (inputs : Box Inputs Global). IsIdle inputs.value) c.args.spare.now.items c.pop.new.self.items (Some c.in-Some-pop.inputs)
+    c.in-Some-pop.ensures.items c.requires.idle).0

@@ -9,5 +9,6 @@ use Rattle.nim_worker.proofs.meets.meets_any.Given as goal
 
 -- none of the works so far meets the command
 abbrev pub invariant-loop-work : goal.invariant-loop-work
-invariant-loop-work l = (groups : List Group) (ran : List ℕ) → IsAdmitted l.admitted groups ran → All (λ (earlier : ℕ). is_one_of ran earlier ≡ false) (tickets_of l.works)
+invariant-loop-work l =
+    (groups : List Group) (ran : List ℕ) → IsAdmitted l.admitted groups ran → All (λ (earlier : ℕ). is_one_of ran earlier ≡ false) (tickets_of l.works)
     → is_one_of ran l.ticket ≡ false → list_any (λ (earlier : ℕ). do_meet groups earlier l.ticket) (take l.work-index (tickets_of l.works)) ≡ false

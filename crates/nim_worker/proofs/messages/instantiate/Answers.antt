@@ -15,8 +15,10 @@ returns-clause-ok c =
     c.in_ok-half.ensures.half ∙ ap (λ (edits : List Edit). edited_by edits (halves_of old c.args.block)) c.as_slice-3.ensures in
     let made : c.in_ok-half.commands.items ≡ expanded c.args.asked.base c.args.asked.args c.args.asked.versions 0 (half_asked old c.args.block c.args.asked) =
     c.in_ok-half.ensures.commands
-    ∙ ap (λ (edits : List Edit). expanded c.args.asked.base c.as_slice.result.now c.as_slice-2.result.now 0 (edited_by edits (halves_of old c.args.block))) c.as_slice-3.ensures
-    ∙ ap₂ (λ (args : List ℤ) (versions : List ℕ). expanded c.args.asked.base args versions 0 (half_asked old c.args.block c.args.asked)) c.as_slice.ensures c.as_slice-2.ensures in
+    ∙ ap (λ (edits : List Edit). expanded c.args.asked.base c.as_slice.result.now c.as_slice-2.result.now 0 (edited_by edits (halves_of old c.args.block)))
+    c.as_slice-3.ensures
+    ∙ ap₂ (λ (args : List ℤ) (versions : List ℕ). expanded c.args.asked.base args versions 0 (half_asked old c.args.block c.args.asked)) c.as_slice.ensures
+    c.as_slice-2.ensures in
     record {
       has = record {
         halves = c.replace.ensures.halves

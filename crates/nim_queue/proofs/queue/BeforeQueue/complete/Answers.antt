@@ -16,8 +16,10 @@ returns-clause-stands c groups done stands =
     elim (option_cases (get nat_eq old.waiting c.args.ticket)) [
       | inl none ↦
           closed (subst (Keeps new groups) (sym (nothing_kept old groups done c.args.ticket (opened stands) none))
-          (stands_still old new groups done (opened stands) (c.free.ensures.absent none) (λ t s. refl) (λ t s now. refl) free (opened stands).brief refl refl refl))
-      | inr some ↦ closed (completed old new groups done c.args.ticket some.0 (opened stands) some.1 (c.free.ensures.gone some.0 some.1) free (λ s. refl) refl refl refl)
+          (stands_still old new groups done (opened stands) (c.free.ensures.absent none) (λ t s. refl) (λ t s now. refl) free (opened stands).brief refl refl
+          refl))
+      | inr some ↦ closed (completed old new groups done c.args.ticket some.0 (opened stands) some.1 (c.free.ensures.gone some.0 some.1) free (λ s. refl) refl
+          refl refl)
     ]
 
 pub returns-clause-command : goal.returns-clause-command

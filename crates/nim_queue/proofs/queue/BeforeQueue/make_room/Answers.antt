@@ -40,7 +40,8 @@ returns-clause-room c =
     (λ enough have few. record {
       arrived =
           subst (λ (k : ℕ → Option Waiting). HaveArrived k (used_in new.slots.items) old.given [] c.args.arrived.now) kept
-          (arrivals_same (get nat_eq old.waiting) (used_in old.slots.items) (used_in new.slots.items) old.given [] c.args.arrived.now c.cover_all.ensures.same have);
+          (arrivals_same (get nat_eq old.waiting) (used_in old.slots.items) (used_in new.slots.items) old.given [] c.args.arrived.now c.cover_all.ensures.same
+          have);
       covered = c.in_ok-cover_all.ensures.covered;
       few = few;
       spare = c.in_ok-reserve.ensures.ok;

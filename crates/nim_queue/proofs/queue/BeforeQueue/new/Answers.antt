@@ -8,4 +8,5 @@ use Rattle.nim_queue.proofs.queue.BeforeQueue.new.Goals as goal
 
 pub returns : goal.returns
 returns c =
-    closed (begun _ (λ t. ap (lookup (λ k. nat_eq t k)) c.new.ensures.empty) (λ s. ap (λ (xs : List (Option SlotUse)). used_in xs s) c.new-2.ensures.items) c.new-3.ensures refl refl)
+    closed (begun _ (λ t. ap (lookup (λ k. nat_eq t k)) c.new.ensures.empty) (λ s. ap (λ (xs : List (Option SlotUse)). used_in xs s) c.new-2.ensures.items)
+    c.new-3.ensures refl refl)

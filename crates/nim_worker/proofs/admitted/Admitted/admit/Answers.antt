@@ -7,7 +7,8 @@ use Rattle.nim_worker.proofs.admitted.Admitted.admit.Goals as goal
 
 pub returns-clause-ok : goal.returns-clause-ok
 returns-clause-ok c = λ groups ran next is group.
-    admitted_ok c.enqueue.result c.args.self.now c.open_group.new.self c.enqueue.new.self groups ran c.args.head c.args.told c.args.commands.items c.len.result next is group (search rules)
+    admitted_ok c.enqueue.result c.args.self.now c.open_group.new.self c.enqueue.new.self groups ran c.args.head c.args.told c.args.commands.items c.len.result
+    next is group (search rules)
     c.in_ok-open_group.ensures.ok c.in_ok-open_group.ensures.given
     (c.enqueue.ensures.queue groups ran next
     (subst (λ (q : BeforeQueue). queue.Stands q groups (is_one_of ran)) (sym c.in_ok-open_group.ensures.queue) is.queue) group.commands)

@@ -14,7 +14,15 @@ loop-value-preserved-in-Continue-1 c =
     let ts = c.pop-in-Some.new.self.items in
     let vs = c.pop.new.self.items in
     let f = slot_at c.loop-value.store in
-    let paired : length ts ≡ length vs = omega (arith, inv.paired, ap length c.in-Some.ensures.items, ap length c.in-Some-pop.ensures.items, length_push ts c.in-Some-pop.from, length_push vs c.in-Some.value) in
+    let paired : length ts ≡ length vs = omega (
+      arith,
+      inv.paired,
+      ap length c.in-Some.ensures.items,
+      ap length c.in-Some-pop.ensures.items,
+      length_push ts
+          c.in-Some-pop.from,
+      length_push vs c.in-Some.value,
+    ) in
     record {
       back = ap (given_back ts vs) (c.in_ok-set.ensures.ok ∙ ap (λ h. put_at c.in-Some-pop.from.slot h f) c.held_of.ensures)
           ∙ sym (given_back-snoc ts vs c.in-Some-pop.from c.in-Some.value f paired)

@@ -30,5 +30,11 @@ loop-slot-preserved c =
       few = omega (arith, read.fits, inv.few);
       right = read.seen;
       fit = rw c.push_reserved.ensures.items (fits_more _ _ _ _ read.more inv.fit read.place);
-      room = (read.room.0, read.room.1, omega (arith, c.push_reserved.ensures.capacity, inv.room), omega (arith, c.push_reserved-in-loop-slot.ensures.capacity, inv.room));
+      room = (
+        read.room.0,
+        read.room.1,
+        omega (arith, c.push_reserved.ensures.capacity, inv.room),
+        omega
+            (arith, c.push_reserved-in-loop-slot.ensures.capacity, inv.room),
+      );
     }

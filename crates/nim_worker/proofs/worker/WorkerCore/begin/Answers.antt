@@ -9,7 +9,8 @@ use Rattle.nim_worker.proofs.Runs.{works_run}
 use Rattle.nim_worker.proofs.worker.WorkerCore.begin.Goals as goal
 
 -- no work is out of a core whose room was taken
-room_taken : (core : WorkerCore) (room : Option Room) (history : List Happening) → Stands core None history → IsBeginning (record core { room = room; busy = true }) [] (state_of history)
+room_taken : (core : WorkerCore) (room : Option Room) (history : List Happening) → Stands core None history
+    → IsBeginning (record core { room = room; busy = true }) [] (state_of history)
 room_taken core room history stands =
     let has = stands.at.has in
     begins_none (record core { room = room; busy = true }) (state_of history)

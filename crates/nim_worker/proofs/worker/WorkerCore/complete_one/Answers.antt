@@ -16,7 +16,8 @@ returns-in-Some-clause-at c = λ state works has at.
     (c.leave.ensures.left state first.asked (begun_as c.args.work.ticket first.asked.command.kind)
     (begun_of state.session.groups (tickets_of works)) works has.inbox
     (ap (λ (e : Ended). e.command) ended) (ap (λ (e : Ended). e.head) ended) refl (chain_out c.args.self.now state c.args.work works first has))
-    (has_then c.args.self.now c.leave.new.self c.complete.new.self state c.args.work works c.args.outs.now.items c.leave.new.outs.items c.in-Some.ended.through first has
+    (has_then c.args.self.now c.leave.new.self c.complete.new.self state c.args.work works c.args.outs.now.items c.leave.new.outs.items c.in-Some.ended.through
+    first has
     c.leave.ensures.rest (c.complete.ensures.stands state.session.groups state.ran has.admitted first.within first.waiting))
 
 pub returns-in-Some-clause-works : goal.returns-in-Some-clause-works

@@ -37,7 +37,8 @@ returns-clause-stands c = λ history stands.
     let work = ok.work state has at in
     stands_finished old c.put_back.new.self c.args.batch history c.in_ok-outs.outs.items stands c.if-self.false
     (record {
-      has = subst (λ (core : WorkerCore). HasState core after) (sym rest) (has_room c.complete_all.new.self c.put_back.new.self.room after (ok.at state has at));
+      has =
+          subst (λ (core : WorkerCore). HasState core after) (sym rest) (has_room c.complete_all.new.self c.put_back.new.self.room after (ok.at state has at));
       work = subst (λ (core : WorkerCore). IsAtWork core [] after) (sym rest) (record { may = work.may; chain = work.chain });
       gave = ok.outs state has at;
     })

@@ -21,22 +21,26 @@ pub returns-clause-left : goal.returns-clause-left
 returns-clause-left c = λ state asked begun more works same_inbox same_command same_head same_kind are.
     let at_epoch = ap (λ (h : GroupHead). h.epoch) same_head in
     let at_instance = ap (λ (h : GroupHead). h.instance) same_head in
-    let head : IsHeadOf c.args.ended.head asked.group = record { epoch = at_epoch; instance = at_instance; single = ap (λ (h : GroupHead). h.single) same_head } in
+    let head : IsHeadOf c.args.ended.head asked.group =
+    record { epoch = at_epoch; instance = at_instance; single = ap (λ (h : GroupHead). h.single) same_head } in
     let all = c.args.self.now.store.shapes in
     let is : begun.kind ≡ c.args.ended.command.kind = same_kind ∙ ap (λ (k : Command). k.kind) (sym same_command) in
     let frame : c.take_frame-frame.result ≡ value_for state asked =
     c.take_frame-frame.ensures.value asked.group at_epoch at_instance
-    ∙ ap₂ (λ (inbox : map.FinMap key_cmp Grid) (k : Command). option_and_then (λ (key : Key). map.get inbox key) (key_received asked.group k.id k.kind)) same_inbox same_command in
+    ∙ ap₂ (λ (inbox : map.FinMap key_cmp Grid) (k : Command). option_and_then (λ (key : Key). map.get inbox key) (key_received asked.group k.id k.kind))
+    same_inbox same_command in
     let told : option_to_list c.in_ok-out.out ≡ own_outs asked.group asked.command.kind state.slots =
     c.in_ok-out.ensures.outs state.slots begun more works asked.group is are head ∙ ap (λ (kind : Kind). own_outs asked.group kind state.slots) same_kind in
     record {
       inbox = c.take_frame-frame.ensures.rest asked.group at_epoch at_instance
-          ∙ ap₂ (λ (inbox : map.FinMap key_cmp Grid) (k : Command). option_map_or (λ (key : Key). map.remove inbox key) (key_received asked.group k.id k.kind) inbox) same_inbox same_command;
+          ∙ ap₂ (λ (inbox : map.FinMap key_cmp Grid) (k : Command). option_map_or (λ (key : Key). map.remove inbox key) (key_received asked.group k.id k.kind)
+          inbox) same_inbox same_command;
       shapes = c.in_ok-out.ensures.shapes;
       works = subst (λ (value : Option Grid). AreWorks all (kept_by all value asked.command.kind state.slots) (slot_at c.complete.new.store) more works) frame
           (subst (λ (kind : Kind). AreWorks all (kept_by all c.take_frame-frame.result kind state.slots) (slot_at c.complete.new.store) more works) same_kind
           (c.in_ok-out.ensures.chain state.slots begun more works is are));
       given = c.in_ok-tell_through.ensures
-          ∙ ap₂ (λ (outs : List Out) (h : GroupHead). outs ++ through_of h c.args.ended.through) (c.in_ok-give.ensures ∙ ap (λ (out : List Out). c.args.outs.now.items ++ out) told) same_head
+          ∙ ap₂ (λ (outs : List Out) (h : GroupHead). outs ++ through_of h c.args.ended.through)
+          (c.in_ok-give.ensures ∙ ap (λ (out : List Out). c.args.outs.now.items ++ out) told) same_head
           ∙ append_assoc c.args.outs.now.items (own_outs asked.group asked.command.kind state.slots) (through_of (head_of asked.group) c.args.ended.through);
     }

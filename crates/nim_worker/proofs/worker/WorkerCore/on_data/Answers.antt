@@ -13,4 +13,5 @@ pub returns-clause-stands : goal.returns-clause-stands
 returns-clause-stands c = λ history out stands.
     on_ok c.keep.result c.keep.ensures.ok (λ kept.
     stands_on (record c.args.self.now { inbox = c.keep.new.self }) out history (Framed c.args.frame ∷ []) stands.history (record {}, record {})
-    (stands_framed c.args.self.now c.keep.new.self out (state_of history) c.args.frame (not_less c.args.frame.epoch c.args.self.now.epoch c.if-frame-self.false) kept stands.at))
+    (stands_framed c.args.self.now c.keep.new.self out (state_of history) c.args.frame (not_less c.args.frame.epoch c.args.self.now.epoch c.if-frame-self.false)
+    kept stands.at))

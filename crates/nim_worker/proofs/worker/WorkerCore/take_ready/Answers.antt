@@ -24,7 +24,8 @@ loop-ticket-init c =
     record {
       rest = refl;
       walked = λ state begins.
-          subst (λ (works : List Work). IsWalked state c.args.most None c.args.self.now works) (sym c.requires.none) (walk_begins state c.args.most c.args.self.now begins);
+          subst (λ (works : List Work). IsWalked state c.args.most None c.args.self.now works) (sym c.requires.none)
+          (walk_begins state c.args.most c.args.self.now begins);
       idle = c.requires.idle;
       count = omega (arith, none);
       room = refl;
@@ -41,14 +42,18 @@ loop-ticket-preserved c =
           let groups = state.session.groups in
           let walked = inv.walked state begins in
           let ready : ready_of groups (is_one_of state.ran) c.loop-ticket.after ≡ Some c.in-Some.ticket =
-          ap (λ (b : Bool). if b then ready_of groups (is_one_of state.ran) c.loop-ticket.after else None) (sym (lt-ltb (length c.loop-ticket.works.items) c.args.most many))
-          ∙ ap (λ (works : List Work). if nat_lt (length works) c.args.most then ready_of groups (is_one_of state.ran) c.loop-ticket.after else None) (sym c.as_slice.ensures.value)
+          ap (λ (b : Bool). if b then ready_of groups (is_one_of state.ran) c.loop-ticket.after else None)
+          (sym (lt-ltb (length c.loop-ticket.works.items) c.args.most many))
+          ∙ ap (λ (works : List Work). if nat_lt (length works) c.args.most then ready_of groups (is_one_of state.ran) c.loop-ticket.after else None)
+          (sym c.as_slice.ensures.value)
           ∙ sym (c.next.ensures.first groups state.ran walked.begins.has.admitted)
           ∙ c.in-Some.is in
           let released : is_released groups (is_one_of state.ran) c.in-Some.ticket ≡ true =
           (and_parts (is_after c.loop-ticket.after c.in-Some.ticket) (is_released groups (is_one_of state.ran) c.in-Some.ticket)
-          (passes (λ (ticket : ℕ). is_after c.loop-ticket.after ticket && is_released groups (is_one_of state.ran) ticket) (range_with_len 0 (count_of groups)) c.in-Some.ticket ready)).1 in
-          walked_on state c.args.most c.loop-ticket.after c.in-Some.ticket c.loop-ticket.self c.take_one.new.self c.loop-ticket.works.items c.take_one.new.works.items
+          (passes (λ (ticket : ℕ). is_after c.loop-ticket.after ticket && is_released groups (is_one_of state.ran) ticket) (range_with_len 0 (count_of groups))
+          c.in-Some.ticket ready)).1 in
+          walked_on state c.args.most c.loop-ticket.after c.in-Some.ticket c.loop-ticket.self c.take_one.new.self c.loop-ticket.works.items
+          c.take_one.new.works.items
           walked many ready (c.take_one.ensures.begins state walked.begins released) (c.take_one.ensures.taken state walked.begins released);
       idle = c.take_one.ensures.idle;
       count = c.take_one.ensures.count ∙ inv.count;
@@ -59,6 +64,7 @@ pub returns-clause-taken : goal.returns-clause-taken
 returns-clause-taken c = λ state begins.
     let walked = c.loop-ticket.invariant.walked state begins in
     walk_ends state c.args.most c.loop-ticket.after c.loop-ticket.self c.loop-ticket.works.items walked
-    (ap (λ (works : List Work). if nat_lt (length works) c.args.most then ready_of state.session.groups (is_one_of state.ran) c.loop-ticket.after else None) (sym c.as_slice.ensures.value)
+    (ap (λ (works : List Work). if nat_lt (length works) c.args.most then ready_of state.session.groups (is_one_of state.ran) c.loop-ticket.after else None)
+    (sym c.as_slice.ensures.value)
     ∙ sym (c.next.ensures.first state.session.groups state.ran walked.begins.has.admitted)
     ∙ c.in_default.is)
