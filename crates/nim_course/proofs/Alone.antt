@@ -29,7 +29,8 @@ use Rattle.nim_place.specs.Versions.{Versions, after_kind}
 use Rattle.nim_place.proofs.Begins.{singles_extend}
 use Rattle.nim_place.proofs.History.{stands_more}
 use Rattle.nim_place.specs.Directed.{Directed, by_number}
-use Rattle.nim_course.specs.Leads.{AreLeading, AreRight, RunsAtHome, position_run}
+use Rattle.nim_course.specs.Leads.{AreLeading, AreRight}
+use Rattle.nim_place.specs.TaskRuns.{RunsAtHome, position_run}
 use Rattle.nim_course.specs.OrdersGiven.{no_instance, single_for}
 use Rattle.nim_course.proofs.Lists.{more_alone}
 

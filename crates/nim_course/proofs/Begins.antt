@@ -43,7 +43,8 @@ use Rattle.nim_place.proofs.Puts.{put_all}
 use Rattle.nim_place.proofs.Starts.{map_starts}
 use Rattle.nim_course.specs.Controller.{Controller}
 use Rattle.nim_place.specs.Directed.{Directed, by_number, directed}
-use Rattle.nim_course.specs.Leads.{AreRight, IsToBegin, position_run}
+use Rattle.nim_course.specs.Leads.{AreRight, IsToBegin}
+use Rattle.nim_place.specs.TaskRuns.{position_run}
 use Rattle.nim_course.specs.OrdersGiven.{epoch_orders, first_command, first_commands, first_kind, single_for}
 use Rattle.nim_course.proofs.Alone.{AreLed, AreQuiet, ComeTo, alone_comes, quiet_homes, quiet_runs, right_more}
 use Rattle.nim_course.proofs.Homes.{home_live, live_below}

@@ -37,7 +37,8 @@ use Rattle.nim_place.proofs.Singles.{schedule_asks, singles_covered}
 use Rattle.nim_place.proofs.TaskPairs.{schedule_paired}
 use Rattle.nim_course.specs.Controller.{Controller}
 use Rattle.nim_place.specs.Directed.{Directed, by_number, directed}
-use Rattle.nim_course.specs.Leads.{AreLeading, RunsAtHome, is_key_from, position_run}
+use Rattle.nim_course.specs.Leads.{AreLeading, is_key_from}
+use Rattle.nim_place.specs.TaskRuns.{RunsAtHome, position_run}
 use Rattle.nim_course.specs.OrdersGiven.{after_instance, instance_orders}
 use Rattle.nim_course.proofs.Alone.{AreLed, AreQuiet, none_weaker, quiet_homes, quiet_runs, right_more}
 use Rattle.nim_course.proofs.Asking.{AreNext}

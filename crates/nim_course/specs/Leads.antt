@@ -1,13 +1,10 @@
 -- How a controller leads its job: where its driver stands, and what its orders so far come to.
-use Rattle.std.specs.Prelude.{◌≡◌, ℕ, ◌+◌, ◌-◌, ◌≤◌, ◌==◌, nat_le, Bool, true, false, ◌&&◌, List, [], ◌∷◌, length, map, All, None, Some, IfSome, slice_get}
+use Rattle.std.specs.Prelude.{◌≡◌, ℕ, ◌+◌, ◌-◌, ◌≤◌, ◌==◌, nat_le, Bool, true, false, ◌&&◌, List, [], ◌∷◌, length, map, All, None, Some, IfSome}
 use Rattle.std.specs.List.{flat_map, list_any, range_with_len}
 use Rattle.nim_base.specs.declared.number.Object.{Object}
 use Rattle.nim_base.specs.declared.number.Worker.{Worker}
-use Rattle.nim_base.specs.declared.task.Task.{Task}
 use Rattle.nim_base.specs.Value.{Grid}
 use Rattle.nim_command.specs.declared.command.Command.{Command}
-use Rattle.nim_command.specs.declared.command.Kind.{Kind}
-use Rattle.nim_command.specs.declared.command.Kind.TheVariants.{Run}
 use Rattle.nim_command.specs.Covered.{is_covered}
 use Rattle.nim_command.specs.Waits.{placed_commands}
 use Rattle.nim_message.specs.Orders.{session_of}
@@ -16,7 +13,6 @@ use Rattle.nim_job.specs.declared.ask.Ask.{Ask}
 use Rattle.nim_job.specs.declared.job.Job.{Job}
 use Rattle.nim_job.specs.Follows.{IsOf, StandsAt, state_at}
 use Rattle.nim_job.specs.Machine.{Machine, after_ask, ask_of}
-use Rattle.nim_job.specs.Objects.{objects_of}
 use Rattle.nim_job.specs.Serial.{serial_of, tasks_of}
 use Rattle.nim_job.specs.Versions.{read_version, version_value}
 use Rattle.nim_job.specs.Whole.{is_whole}
@@ -24,7 +20,7 @@ use Rattle.nim_plan.specs.Legal.{IsLegal}
 use Rattle.nim_plan.specs.Paired.{ArePaired, Key}
 use Rattle.nim_place.specs.declared.placement.Placement.{Placement}
 use Rattle.nim_place.specs.Extends.{HaveNone, is_live, live_lists}
-use Rattle.nim_place.specs.Schedule.{owner_of}
+use Rattle.nim_place.specs.TaskRuns.{RunsAtHome, position_run}
 use Rattle.nim_place.specs.TaskOrders.{AreSoFar, IsAt}
 use Rattle.nim_place.specs.Versions.{Versions, no_versions}
 use Rattle.nim_course.specs.declared.fetched.Fetched.{Fetched}
@@ -90,18 +86,6 @@ pub record IsFetchedAt (job : Job) (position : ℕ) (f : Fetched) : Type 0 where
 -- whether a key is of this epoch, and of this instance or a later one
 abbrev pub is_key_from : ℕ → ℕ → Key → Bool
 is_key_from epoch instance key = (key.epoch == epoch) && nat_le instance key.instance
-
--- the position of a Run
-abbrev pub position_run : Kind → List ℕ
-position_run (Run position func params reads writes) = position ∷ []
-position_run kind = []
-
--- a Run is of the job's task at its position, and stands at this task's home
-abbrev pub RunsAtHome : Job → Placement → List Bool → Worker → Kind → Type 0
-RunsAtHome job place live worker (Run position func params reads writes) =
-    IfSome (slice_get (tasks_of job) position)
-    (λ (task : Task). worker ≡ owner_of place task (objects_of job.vars) live)
-RunsAtHome job place live worker kind = Unit {0}
 
 -- The orders so far ask for commands that the map of versions stands for, and the map is at the position. No key passes
 -- the test of those that are still to come. Since the epoch began, each task was run once, in order, at its home; epoch

@@ -17,7 +17,8 @@ use Rattle.nim_course.specs.declared.pending.Pending.{Pending}
 use Rattle.nim_course.specs.declared.pending.Pending.TheVariants.{Begin, Idle, Block, Cell, Parts, Ended}
 use Rattle.nim_course.specs.Controller.{Controller}
 use Rattle.nim_place.specs.Directed.{Directed, orders_to}
-use Rattle.nim_course.specs.Leads.{AreLeading, AreLeadingFor, Leads, is_key_from, position_run}
+use Rattle.nim_course.specs.Leads.{AreLeading, AreLeadingFor, Leads, is_key_from}
+use Rattle.nim_place.specs.TaskRuns.{position_run}
 use Rattle.nim_history.specs.History.{Asked, asked_at}
 use Rattle.nim_history.proofs.Members.{listed_at}
 use Rattle.nim_lockstep.specs.Cluster.{ClusterState}

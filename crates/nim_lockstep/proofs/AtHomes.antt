@@ -20,7 +20,8 @@ use Rattle.nim_course.specs.declared.pending.Pending.{Pending}
 use Rattle.nim_course.specs.declared.pending.Pending.TheVariants.{Begin, Idle, Block, Cell, Parts, Ended}
 use Rattle.nim_course.specs.Controller.{Controller}
 use Rattle.nim_place.specs.Directed.{Directed, orders_to}
-use Rattle.nim_course.specs.Leads.{AreLeading, AreLeadingFor, Leads, RunsAtHome, is_key_from}
+use Rattle.nim_course.specs.Leads.{AreLeading, AreLeadingFor, Leads, is_key_from}
+use Rattle.nim_place.specs.TaskRuns.{RunsAtHome}
 use Rattle.nim_course.proofs.Homes.{live_below}
 use Rattle.nim_lockstep.specs.Cluster.{ClusterState}
 use Rattle.nim_lockstep.specs.InStep.{AreAtHomes}

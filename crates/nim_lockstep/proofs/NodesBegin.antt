@@ -20,7 +20,7 @@ use Rattle.nim_job.specs.Serial.{tasks_of}
 use Rattle.nim_job.specs.Whole.{is_whole}
 use Rattle.nim_plan.specs.Legal.{reads_at}
 use Rattle.nim_place.specs.Extends.{worker_of}
-use Rattle.nim_course.specs.Leads.{position_run}
+use Rattle.nim_place.specs.TaskRuns.{position_run}
 use Rattle.nim_store.specs.declared.held.Held.{Held}
 use Rattle.nim_history.specs.History.{Asked, MayComplete, WorkerState, asked_at, has_frame, state_of}
 use Rattle.nim_history.specs.Kept.{content_seen, contents_read}

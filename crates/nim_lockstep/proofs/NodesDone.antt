@@ -11,7 +11,7 @@ use Rattle.nim_command.specs.declared.command.Kind.TheVariants.{Run}
 use Rattle.nim_message.specs.Orders.{Session}
 use Rattle.nim_order.specs.Progress.{is_one_of}
 use Rattle.nim_job.specs.declared.job.Job.{Job}
-use Rattle.nim_course.specs.Leads.{position_run}
+use Rattle.nim_place.specs.TaskRuns.{position_run}
 use Rattle.nim_history.specs.History.{Asked, Completed, WorkerState, asked_at, state_of}
 use Rattle.nim_history.specs.InTurn.{MayAllComplete}
 use Rattle.nim_history.proofs.InTurn.{session_stays}

@@ -13,7 +13,7 @@ use Rattle.nim_message.specs.declared.order.ToWorker.TheVariants.{Single, Instal
 use Rattle.nim_message.specs.Orders.{Session, after_order, no_session, session_of}
 use Rattle.nim_course.specs.declared.pending.Pending.{Pending}
 use Rattle.nim_course.specs.declared.pending.Pending.TheVariants.{Begin}
-use Rattle.nim_course.specs.Leads.{position_run}
+use Rattle.nim_place.specs.TaskRuns.{position_run}
 use Rattle.nim_history.specs.History.{Asked, asked_at}
 use Rattle.nim_history.specs.InTurn.{is_reset}
 use Rattle.nim_history.proofs.InTurn.{asked_still}

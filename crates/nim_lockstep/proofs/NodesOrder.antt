@@ -16,7 +16,7 @@ use Rattle.nim_job.specs.declared.job.Job.{Job}
 use Rattle.nim_plan.specs.Legal.{IsLegal, MayFollow}
 use Rattle.nim_plan.proofs.Steps.{by_steps}
 use Rattle.nim_course.specs.declared.pending.Pending.{Pending}
-use Rattle.nim_course.specs.Leads.{position_run}
+use Rattle.nim_place.specs.TaskRuns.{position_run}
 use Rattle.nim_history.specs.History.{Asked, Happening, Ordered, WorkerState, asked_at, order_in, ordered, orders_in, state_of}
 use Rattle.nim_history.specs.InTurn.{MayAllComplete, is_reset}
 use Rattle.nim_history.proofs.GoesOn.{history_goes_on, truth_goes_on}

@@ -16,7 +16,7 @@ use Rattle.nim_message.specs.declared.order.ToWorker.{ToWorker}
 use Rattle.nim_message.specs.declared.report.FromWorker.TheVariants.{Ran, Through, Value}
 use Rattle.nim_message.specs.Orders.{Session}
 use Rattle.nim_order.specs.Progress.{is_one_of}
-use Rattle.nim_course.specs.Leads.{position_run}
+use Rattle.nim_place.specs.TaskRuns.{position_run}
 use Rattle.nim_store.specs.declared.held.Held.{Held}
 use Rattle.nim_history.specs.declared.out.Out.{Out}
 use Rattle.nim_history.specs.History.{Asked, Completed, Happening, MayComplete, WorkerState, after_asked, asked_at, completed, has_frame, left_of, order_in, orders_in, outs_of, state_of, through_outs}

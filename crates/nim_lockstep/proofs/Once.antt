@@ -10,7 +10,7 @@ use Rattle.std.proofs.lemmas.Option.{same_Some, slice_get_within}
 use Rattle.nim_command.specs.declared.command.Kind.{Kind}
 use Rattle.nim_command.specs.declared.command.Kind.TheVariants.{Run}
 use Rattle.nim_order.specs.Progress.{is_one_of}
-use Rattle.nim_course.specs.Leads.{position_run}
+use Rattle.nim_place.specs.TaskRuns.{position_run}
 use Rattle.nim_history.specs.History.{Asked, MayComplete, WorkerState, after_asked, asked_at, completed, has_frame, state_of}
 use Rattle.nim_history.specs.InTurn.{MayAllComplete}
 use Rattle.nim_lockstep.specs.declared.ran.Ran.{Ran as ran_type}

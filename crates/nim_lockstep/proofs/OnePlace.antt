@@ -8,7 +8,7 @@ use Rattle.nim_base.specs.declared.number.Worker.{Worker}
 use Rattle.nim_command.specs.declared.command.Command.{Command}
 use Rattle.nim_place.specs.Extends.{worker_of}
 use Rattle.nim_place.specs.Stands.{commands_for}
-use Rattle.nim_course.specs.Leads.{position_run}
+use Rattle.nim_place.specs.TaskRuns.{position_run}
 
 -- the numbers that the item at a place stands for
 abbrev pub numbers_at : {X : Type 0} → (X → List ℕ) → List X → ℕ → List ℕ

@@ -17,7 +17,8 @@ use Rattle.nim_course.specs.declared.pending.Pending.TheVariants.{Begin}
 use Rattle.nim_course.specs.declared.setup.Setup.{Setup}
 use Rattle.nim_course.specs.Controller.{Controller, Flight}
 use Rattle.nim_place.specs.Directed.{orders_to}
-use Rattle.nim_course.specs.Leads.{Leads, position_run}
+use Rattle.nim_course.specs.Leads.{Leads}
+use Rattle.nim_place.specs.TaskRuns.{position_run}
 use Rattle.nim_history.specs.History.{Asked, IsHistory, WorkerState, asked_at, orders_in, state_of}
 use Rattle.nim_history.specs.InTurn.{MayAllComplete, is_reset}
 use Rattle.nim_history.specs.Truth.{IsHandedTruth}

@@ -15,7 +15,8 @@ use Rattle.nim_place.specs.Extends.{is_live}
 use Rattle.nim_course.specs.declared.outcome.Outcome.TheVariants.{Done, NoWorker}
 use Rattle.nim_course.specs.Controller.{Controller}
 use Rattle.nim_place.specs.Directed.{Directed, orders_to}
-use Rattle.nim_course.specs.Leads.{AreRight, EndsBy, RunsAtHome}
+use Rattle.nim_course.specs.Leads.{AreRight, EndsBy}
+use Rattle.nim_place.specs.TaskRuns.{RunsAtHome}
 use Rattle.nim_lockstep.specs.declared.ran.Ran.{Ran}
 use Rattle.nim_lockstep.specs.Cluster.{ClusterState, Node}
 use Rattle.nim_lockstep.specs.Events.{IsNew, IsStep}

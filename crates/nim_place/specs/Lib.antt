@@ -8,4 +8,5 @@ pub mod Sound
 pub mod Stands
 pub mod Starts
 pub mod TaskOrders
+pub mod TaskRuns
 pub mod Versions

@@ -7,6 +7,7 @@ pub mod Given
 pub mod Instance
 pub mod MainSlots
 pub mod MayBuild
+pub mod Runs
 pub mod StaysBefore
 pub mod Tasks
 pub mod Walk

@@ -9,6 +9,7 @@ ghost use Rattle.nim_template.specs.Given.{InstallsExtend, InstancesExtend};
 ghost use Rattle.nim_template.specs.Instance.{LeavesEffect};
 ghost use Rattle.nim_template.specs.MainSlots.{AreMainSlots};
 ghost use Rattle.nim_template.specs.MayBuild.{MayBuild};
+ghost use Rattle.nim_template.specs.Runs.{RunTasks};
 ghost use Rattle.nim_template.specs.Tasks.{DoTasks};
 ghost use Rattle.nim_template.specs.Walk as walks;
 ghost use Rattle.nim_template.specs.Written.{HasEffect};
@@ -47,6 +48,7 @@ pub fn build_halves(
     ensures installs { IfOk result (λ built. InstallsExtend live.now built) }
     ensures instances { IfOk result (λ built. InstancesExtend live.now objects built) }
     ensures sound { IfOk result (λ built. IsSound built) }
+    ensures runs { IfOk result (λ built. RunTasks place.now live.now objects built) }
 {
     let template = built(alloc, template, place, objects, live)?;
     Ok(template)
