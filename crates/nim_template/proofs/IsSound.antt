@@ -5,8 +5,7 @@ use Rattle.std.proofs.Common.{Option, Some}
 use Rattle.std.specs.Prelude.{◌*◌, ◌^◌, ◌==◌, All, count_by, if◌then◌else◌, take, ℤ}
 use Rattle.std.specs.List.{AllByRecursion, list_all, list_any, range_with_len}
 use Rattle.std.specs.Option.{option_map_or}
-use Rattle.std.proofs.lemmas.List.{append-nil, length-map}
-use Rattle.std.proofs.lemmas.List.Concat.{flat_map-append}
+use Rattle.std.proofs.lemmas.List.{length-map}
 use Rattle.std.proofs.lemmas.List.Elements.{All-from_recursion, All-nil, recursion_from_All}
 use Rattle.std.proofs.Math.Nat.{mul-le-mul_left}
 use Rattle.nim_base.specs.declared.number.Object.{Object}
@@ -20,42 +19,37 @@ use Rattle.nim_command.specs.Numbers.{main_slot}
 use Rattle.nim_job.specs.Serial.{tasks_of}
 use Rattle.nim_job.specs.Versions.{read_version}
 use Rattle.nim_place.specs.declared.placement.Placement.{Placement}
-use Rattle.nim_place.specs.Sound.{AreFound, DoesTasks, EachEndOnce, IsSound, Plane, by_rank, commands_from, first_plane, is_end, owned_from, run_by}
+use Rattle.nim_place.specs.Sound.{AreFound, DoesTasks, EachEndOnce, IsSound, Plane, by_rank, commands_from, first_plane, is_end}
 use Rattle.nim_place.specs.Sound.{walked as walked_plane}
-use Rattle.nim_place.specs.Stands.{commands_for}
 use Rattle.nim_place.specs.Versions.{Versions, after_commands, held_at, is_current, latest_of, no_versions}
 use Rattle.nim_place.proofs.GoesOn.{before_within, position_few}
-use Rattle.nim_place.proofs.Held.{for_append}
-use Rattle.nim_place.proofs.Places.{both_true}
 use Rattle.nim_template.specs.declared.closing.Closing.{Closing}
 use Rattle.nim_template.specs.declared.template.ControllerTemplate.{ControllerTemplate}
 use Rattle.nim_template.specs.declared.walk.Walk.{Walk}
 use Rattle.nim_template.specs.Built.{all_halves, all_slots, built, effect_at, effect_here, effect_of, end_of, half_for, needs_of}
 use Rattle.nim_template.specs.Closing.{after_closings, closing_entries, closings}
 use Rattle.nim_template.specs.Fits.{is_fit}
-use Rattle.nim_template.specs.Tasks.{scheduled_from, task_with, without_before}
+use Rattle.nim_template.specs.Tasks.{scheduled_from, task_with}
 use Rattle.nim_template.specs.Walk.{home_of, empty_walk}
 use Rattle.nim_template.proofs.Again.{home_within, needs_are, nothing_held, start_walked}
 use Rattle.nim_template.proofs.AtEntry.{AreGood, IsAtEntry, at_entry, entry_map}
-use Rattle.nim_template.proofs.ByRank.{RanksAscend, ascends_lower, ascends_then, in_order}
 use Rattle.nim_template.proofs.Chosen.{command_at, plain}
 use Rattle.nim_template.proofs.Closes.{AreNeeds, Closes, closes}
 use Rattle.nim_template.proofs.Ends.{closings_alike}
-use Rattle.nim_template.proofs.Fits.{few_reads}
 use Rattle.nim_template.proofs.Given.{tasks_from}
 use Rattle.nim_template.proofs.Halves.{needed_current, start_alike}
+use Rattle.nim_template.proofs.InOrder.{AreInOrder, are_in_order}
 use Rattle.nim_template.proofs.InTurn.{AreTasksFrom}
 use Rattle.nim_template.proofs.Left.{IsDoneBy, closing_of, done_by}
-use Rattle.nim_template.proofs.Numbers.{closings_few, filter_few, slots_long}
+use Rattle.nim_template.proofs.Numbers.{filter_few, slots_long}
 use Rattle.nim_template.proofs.Planes.{IsRun, below_more}
-use Rattle.nim_template.proofs.Ranked.{AreShort, closing_runs, closings_ascend, ranked_ascend, ranked_for, ranked_from, ranked_runs, runs_of}
+use Rattle.nim_template.proofs.Ranked.{ranked_from}
 use Rattle.nim_template.proofs.RankedEnds.{Ends, all_ends, ends_once, ends_received, ends_sent}
-use Rattle.nim_template.proofs.Sames.{AreSame}
 use Rattle.nim_template.proofs.Sizes.{like_commands}
 use Rattle.nim_template.proofs.ClosingsRun.{closings_run}
 use Rattle.nim_template.proofs.TasksRun.{AreRun, run_then, tasks_run}
 use Rattle.nim_template.proofs.Walks.{IsWalked, IsWalkedTo, walk_kept}
-use Rattle.nim_template.proofs.Plain.{found_plain, plain_found, received_plain, runs_plain, sent_plain, walked_plain}
+use Rattle.nim_template.proofs.Plain.{found_plain, plain_found, received_plain, sent_plain, walked_plain}
 use Rattle.nim_template.proofs.Says.{IsEnd, SaysOf, each_flat_all, item_says, unnamed}
 
 -- ---- slots that meet the preconditions
@@ -74,11 +68,6 @@ needs_good version slots workers objects offsets (need ∷ needs) rows columns a
       needs_good version slots workers objects offsets needs rows columns are.3 held.1,
     )
 
-shorts : (objects : ℕ) (forms : List TaskForm) → list_all (is_fit objects) forms ≡ true → AreShort forms
-shorts objects [] fit = tt
-shorts objects (form ∷ forms) fit =
-    let each = both_true (is_fit objects form) (list_all (is_fit objects) forms) fit in (few_reads objects form each.0, shorts objects forms each.1)
-
 -- ---- a block with tasks
 
 sound_some : (place : Placement) (objects : ℕ) (live : List Bool) (template : ControllerTemplate) (first : TaskForm) (others : List TaskForm)
@@ -93,7 +82,7 @@ sound_some place objects live template first others forms_are some workers_few o
         received = subst (λ (es : Ends). EachEndOnce es (ends_sent listed)) (sym received_is) (subst (EachEndOnce (ends_received all)) (sym sent_is) once);
       };
       owners = length-map forms (home_of place objects live);
-      runs = runs;
+      runs = are_listed.runs;
       effect =
           All-from_recursion (SaysOf (walked_plane (first_plane slots) listed).slots version base) made.effect
           (subst (λ (p : Plane). AllByRecursion (SaysOf p.slots version base) made.effect) (sym walked_is)
@@ -218,32 +207,15 @@ sound_some place objects live template first others forms_are some workers_few o
       run =
           run_then job slots (first_plane slots) ranked last (64 * (0 + length forms)) (65536 + 0 + length copies) mid after first_run.run last_run.run
 
-      copies_few : length copies ≤ length needs
-      copies_few = closings_few walk.offsets needs
-
-      order : RanksAscend (128 * 0) (2 * (65536 + 0 + length copies)) all
-      order =
-          ascends_then (128 * 0) (128 * (0 + length forms)) (2 * (65536 + 0 + length copies)) ranked last
-          (ranked_ascend place live base args 0 entry forms (omega (arith, few)) (shorts objects forms fit))
-          (ascends_lower (128 * (0 + length forms)) (2 * (65536 + 0)) (2 * (65536 + 0 + length copies)) last (omega (arith, few))
-          (closings_ascend base args 0 copies (omega (arith, copies_few, needs_few))))
-
-      commands : List (Worker × Command)
-      commands = commands_from version base args 0 made.halves
+      are_listed : AreInOrder place objects live template base args entry version
+      are_listed =
+          are_in_order place objects live template base args entry version workers_few objects_few few fit at.pre.columns (omega (arith, room)) is
 
       listed : List (Worker × Command)
-      listed = by_rank base commands
-
-      same : AreSame commands all
-      same worker =
-          is.same version worker
-          ∙ ap (map without_before)
-          (for_append worker real last
-          ∙ ap (λ (cs : List Command). cs ++ commands_for worker last) (ranked_for place live base args 0 entry forms worker)
-          ∙ sym (for_append worker ranked last))
+      listed = by_rank base (commands_from version base args 0 made.halves)
 
       ordered : map plain listed ≡ map plain all
-      ordered = in_order base (128 * 0) (2 * (65536 + 0 + length copies)) commands all order same
+      ordered = are_listed.ordered
 
       sent_is : ends_sent listed ≡ ends_received all
       sent_is = sym (sent_plain listed) ∙ ap ends_sent ordered ∙ sent_plain all ∙ all_ends place live base args entry forms copies
@@ -252,20 +224,11 @@ sound_some place objects live template first others forms_are some workers_few o
       received_is = sym (received_plain listed) ∙ ap ends_received ordered ∙ received_plain all
 
       once : EachEndOnce (ends_received all) (ends_received all)
-      once = ends_once (128 * 0) (2 * (65536 + 0 + length copies)) all order
+      once = ends_once 0 are_listed.high all are_listed.ascend
 
       walked_is : walked_plane (first_plane slots) listed ≡ walked_plane (first_plane slots) all
       walked_is =
           sym (walked_plain (first_plane slots) listed) ∙ ap (walked_plane (first_plane slots)) ordered ∙ walked_plain (first_plane slots) all
-
-      runs : runs_of listed ≡ owned_from base made.owners
-      runs =
-          sym (runs_plain listed) ∙ ap runs_of ordered ∙ runs_plain all
-          ∙ flat_map-append (λ (c : Worker × Command). run_by c.0 c.1.kind) ranked last
-          ∙ ap₂ (λ (xs ys : List (Worker × ℕ)). xs ++ ys)
-          (ranked_runs place live base args 0 objects entry forms at.pre.columns (omega (arith, room, few))) (closing_runs base args 0 copies)
-          ∙ append-nil (owned_from (base + 0) (map (home_of place objects live) forms))
-          ∙ ap (λ (n : ℕ). owned_from n (map (home_of place objects live) forms)) (base_is base)
 
       offsets : Versions
       offsets = after_closings walk.offsets needs

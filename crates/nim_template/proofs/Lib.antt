@@ -15,6 +15,7 @@ pub mod Fits
 pub mod Forms
 pub mod Given
 pub mod Halves
+pub mod InOrder
 pub mod InTurn
 pub mod Instances
 pub mod IsSound
@@ -28,6 +29,7 @@ pub mod Planes
 pub mod Ranges
 pub mod Ranked
 pub mod RankedEnds
+pub mod RunOnce
 pub mod SameKeys
 pub mod Sames
 pub mod Says

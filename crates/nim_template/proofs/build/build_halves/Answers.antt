@@ -8,6 +8,7 @@ use Rattle.nim_template.specs.Written.{HasEffect}
 use Rattle.nim_template.specs.Given.{InstallsExtend, InstancesExtend}
 use Rattle.nim_template.specs.Instance.{LeavesEffect}
 use Rattle.nim_template.specs.MainSlots.{AreMainSlots}
+use Rattle.nim_template.specs.Runs.{RunTasks}
 use Rattle.nim_template.proofs.Again.{built_again}
 use Rattle.nim_template.proofs.Given.{built_installs, built_instances}
 use Rattle.nim_template.specs.Tasks.{DoTasks}
@@ -16,6 +17,7 @@ use Rattle.nim_template.proofs.IsSound.{built_sound}
 use Rattle.nim_template.proofs.Left.{built_left}
 use Rattle.nim_template.proofs.MainSlots.{built_needs}
 use Rattle.nim_template.proofs.Numbers.{built_ascend}
+use Rattle.nim_template.proofs.RunOnce.{built_runs}
 use Rattle.nim_template.proofs.Written.{built_effect}
 use Rattle.nim_template.proofs.build.build_halves.Goals as goal
 
@@ -65,4 +67,10 @@ pub returns-clause-sound : goal.returns-clause-sound
 returns-clause-sound c =
     subst IsSound (sym c.in_ok-template.ensures)
     (built_sound c.args.place.now c.args.objects c.args.live.now c.args.template.now c.requires.live c.requires.workers c.requires.objects
+    c.requires.many c.requires.fit)
+
+pub returns-clause-runs : goal.returns-clause-runs
+returns-clause-runs c =
+    subst (RunTasks c.args.place.now c.args.live.now c.args.objects) (sym c.in_ok-template.ensures)
+    (built_runs c.args.place.now c.args.objects c.args.live.now c.args.template.now c.requires.live c.requires.workers c.requires.objects
     c.requires.many c.requires.fit)
