@@ -13,6 +13,7 @@ use Rattle.nim_job.specs.declared.ask.Ask.{Ask}
 use Rattle.nim_job.specs.declared.job.Job.{Job}
 use Rattle.nim_job.specs.Follows.{IsOf, StandsAt, state_at}
 use Rattle.nim_job.specs.Machine.{Machine, after_ask, ask_of}
+use Rattle.nim_job.specs.Objects.{objects_of}
 use Rattle.nim_job.specs.Serial.{serial_of, tasks_of}
 use Rattle.nim_job.specs.Versions.{read_version, version_value}
 use Rattle.nim_job.specs.Whole.{is_whole}
