@@ -108,7 +108,8 @@ impl ControllerCore {
         })
     }
 
-    /// Goes as far as it can, and gives the orders, each with the worker that it is for. Where memory is refused that is
+    /// Goes as far as it can, and gives the orders, each with the worker that it is for. Where memory is refused that
+    /// is
     /// the outcome. A controller that is held up, as it is by any outcome, gives no orders and takes no memory.
     pub fn turn(&mut self) -> Result<Vec<(Worker, ToWorker)>, NoMemory>
         ensures turned { IfOk result (λ orders. IsTurned self.old orders.items self.new) }

@@ -10,7 +10,8 @@ use nim_course::Fetched;
 use nim_message::ToWorker;
 use std::alloc::Global;
 
-/// Fetches so many objects from one on, each in its latest version from the lowest worker that holds it, the first under
+/// Fetches so many objects from one on, each in its latest version from the lowest worker that holds it, the first
+/// under
 /// this ticket. Gives what is awaited then.
 pub(crate) fn fetch_objects(
     alloc: Global,

@@ -70,7 +70,8 @@ run_leads c given block args none idle is =
 fetching_leads : (c : Controller) (given : List Directed) (objects : List Object) (pending : Pending) → c.outcome ≡ None → IsIdle c given
     → AreThere c.job objects
     → let next : Controller = fetching (record c { machine = after_ask c.machine }) objects pending in
-    StandsFor c.job next pending → AreLeadingFor c.job next (given ++ fetch_orders c objects) pending → does_fetch pending ≡ true → (pending ≡ Pending.Ended → ⊥)
+    StandsFor c.job next pending → AreLeadingFor c.job next (given ++ fetch_orders c objects) pending → does_fetch pending ≡ true
+    → (pending ≡ Pending.Ended → ⊥)
     → begun_by next pending ≤ (after_ask c.machine).driver.count
     → Leads c.job next (given ++ fetch_orders c objects)
 fetching_leads c given objects pending none idle there driver leading fetches apart few =

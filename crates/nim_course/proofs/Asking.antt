@@ -60,7 +60,8 @@ pub record IsQuiet (old new : Driver) : Type 0 where
 quiet_kept : (n : ℕ) (driver : Driver) → IsQuiet driver (quiet_steps n driver)
 quiet_kept zero driver = record { output = refl; count = omega arith }
 quiet_kept (suc n) driver = either (quiet_kept n (quiet_step driver)) (is_quiet driver.todo) where
-  either : IsQuiet (quiet_step driver) (quiet_steps n (quiet_step driver)) → (b : Bool) → IsQuiet driver (if b then quiet_steps n (quiet_step driver) else driver)
+  either : IsQuiet (quiet_step driver) (quiet_steps n (quiet_step driver)) → (b : Bool)
+      → IsQuiet driver (if b then quiet_steps n (quiet_step driver) else driver)
   either rest false = record { output = refl; count = omega arith }
   either rest true = record { output = rest.output; count = omega (arith, rest.count) }
 
@@ -125,7 +126,8 @@ followed : (job : Job) (m : Machine) (p : ℕ) (ask : Ask) → is_whole job ≡ 
 followed job m p ask whole open_at is other = follows job whole m (open_at.at (asks_open m ask is other)).0
 
 -- a machine that goes on stands at a state of the job again
-goes_open : (job : Job) (m next : Machine) (p : ℕ) (tasks : List Task) → (StandsAt job m × (p ≡ (state_at job m).position)) → GoesFurther job m next tasks → IsOpenAt job next (p + length tasks)
+goes_open : (job : Job) (m next : Machine) (p : ℕ) (tasks : List Task) → (StandsAt job m × (p ≡ (state_at job m).position)) → GoesFurther job m next tasks
+    → IsOpenAt job next (p + length tasks)
 goes_open job m next p tasks at further = record {
   answered = ap (λ (k : Machine). k.asked) further.goes.stands.machine;
   is_of = (stays job).stands next further.goes.stands;
@@ -139,7 +141,8 @@ goes_open_quiet job m next p at further =
     subst (IsOpenAt job next) same (goes_open job m next p [] at further)
 
 -- what the objects hold where the machine stands is what the tasks so far leave
-values_there : (job : Job) (m : Machine) (p : ℕ) → IsOpenAt job m p → (StandsAt job m × (p ≡ (state_at job m).position)) → (state_at job m).values ≡ values_after job p
+values_there : (job : Job) (m : Machine) (p : ℕ) → IsOpenAt job m p → (StandsAt job m × (p ≡ (state_at job m).position))
+    → (state_at job m).values ≡ values_after job p
 values_there job m p open_at at =
     keeps_versions job m.driver.count (omega (arith, at.0.within.counted, open_at.is_of.steps)) ∙ ap (values_after job) (sym at.1)
 
@@ -156,7 +159,8 @@ behind [] (y ∷ next) k is below = absurd cc
 behind (x ∷ xs) (y ∷ next) zero is below = let same : x ≡ y = cc in ap Some same
 behind (x ∷ xs) (y ∷ next) (suc k) is below = let rest : take (length next) xs ≡ next = cc in behind xs next k rest (omega (arith, below))
 
-behind_more : {X : Type 0} (xs before next : List X) (k : ℕ) → take (length (before ++ next)) xs ≡ before ++ next → k < length next → slice_get xs (length before + k) ≡ slice_get next k
+behind_more : {X : Type 0} (xs before next : List X) (k : ℕ) → take (length (before ++ next)) xs ≡ before ++ next → k < length next
+    → slice_get xs (length before + k) ≡ slice_get next k
 behind_more xs [] next k is below = let same : 0 + k ≡ k = omega arith in ap (slice_get xs) same ∙ behind xs next k is below
 behind_more [] (y ∷ before) next k is below = absurd cc
 behind_more (x ∷ xs) (y ∷ before) next k is below =
@@ -192,7 +196,8 @@ run_next job m p block args whole open_at is =
     (subst (λ (q : ℕ). AreNext job q (tasks_next job (state_at job (before_ask m)))) here (next_there job (before_ask m).driver.count runs.within))
 
 -- as many tasks ran before as there are at most
-pub position_there : (job : Job) (m : Machine) (p : ℕ) (block : ℕ) (args : List ℤ) → is_whole job ≡ true → IsOpenAt job m p → ask_of m ≡ Ask.Run block args → p ≤ length (tasks_of job)
+pub position_there : (job : Job) (m : Machine) (p : ℕ) (block : ℕ) (args : List ℤ) → is_whole job ≡ true → IsOpenAt job m p → ask_of m ≡ Ask.Run block args
+    → p ≤ length (tasks_of job)
 position_there job m p block args whole open_at is =
     let at = open_at.at (asks_open m (Ask.Run block args) is (run_apart block args)) in
     let n = m.driver.count in
@@ -205,7 +210,8 @@ position_there job m p block args whole open_at is =
     )
 
 -- its ask is answered, and its tasks were given
-pub run_goes : (job : Job) (m next : Machine) (p : ℕ) (block : ℕ) (args : List ℤ) (cell : ℤ) → is_whole job ≡ true → IsOpenAt job m p → ask_of m ≡ Ask.Run block args
+pub run_goes : (job : Job) (m next : Machine) (p : ℕ) (block : ℕ) (args : List ℤ) (cell : ℤ) → is_whole job ≡ true → IsOpenAt job m p
+    → ask_of m ≡ Ask.Run block args
     → next ≡ answered (after_ask m) cell → IsOpenAt job next (p + length (block_tasks_of job block args))
 run_goes job m next p block args cell whole open_at is same =
     let all = followed job m p (Ask.Run block args) whole open_at is (run_apart block args) in
@@ -230,13 +236,15 @@ get_apart : (object : Object) (row cell : ℕ) → Ask.Get object row cell ≡ A
 get_apart object row cell is = cc
 
 -- the object whose cell is asked for is there
-pub get_allowed : (job : Job) (m : Machine) (p : ℕ) (object : Object) (row cell : ℕ) → is_whole job ≡ true → IsOpenAt job m p → ask_of m ≡ Ask.Get object row cell
+pub get_allowed : (job : Job) (m : Machine) (p : ℕ) (object : Object) (row cell : ℕ) → is_whole job ≡ true → IsOpenAt job m p
+    → ask_of m ≡ Ask.Get object row cell
     → object.0 < objects_of job.vars
 get_allowed job m p object row cell whole open_at is =
     subst (IsThere job) is (followed job m p (Ask.Get object row cell) whole open_at is (get_apart object row cell)).asks.there
 
 -- the cell of what the object holds was told
-pub get_goes : (job : Job) (m next : Machine) (p : ℕ) (object : Object) (row cell : ℕ) (told : ℤ) → is_whole job ≡ true → IsOpenAt job m p → ask_of m ≡ Ask.Get object row cell
+pub get_goes : (job : Job) (m next : Machine) (p : ℕ) (object : Object) (row cell : ℕ) (told : ℤ) → is_whole job ≡ true → IsOpenAt job m p
+    → ask_of m ≡ Ask.Get object row cell
     → told ≡ cell_of (value_at (values_after job p) object) row cell → next ≡ answered (after_ask m) told → IsOpenAt job next p
 get_goes job m next p object row cell told whole open_at is telling same =
     let all = followed job m p (Ask.Get object row cell) whole open_at is (get_apart object row cell) in
@@ -266,7 +274,8 @@ output_goes job m next p var text whole open_at is printed same =
     elim (leb_tells sum output_limit) [
       | inl fits ↦
           subst (λ (k : Machine). IsOpenAt job k p) (sym (same ∙ ap (appended (after_ask m)) right))
-          (goes_open_quiet job m (appended (after_ask m) (output_of job.vars (state_at job m).values var)) p at (prints.goes (omega (arith, fits.1, long, before))))
+          (goes_open_quiet job m (appended (after_ask m) (output_of job.vars (state_at job m).values var)) p at
+          (prints.goes (omega (arith, fits.1, long, before))))
       | inr past ↦
           let shut : next ≡ record (after_ask m) { asked = None; full = true } = same ∙ cond-false (nat_le sum output_limit) _ _ past.0 in
           record {
@@ -329,7 +338,8 @@ ends_all job m p whole open_at is =
     omega (arith, at.1, before.position, ap (λ (s : State). s.position) last, (moved job job.steps).1)
 
 -- the limit is reached
-pub ends_limit : (job : Job) (m : Machine) (p : ℕ) → is_whole job ≡ true → IsOpenAt job m p → ask_of m ≡ Ask.Limit → serial_of job ≡ record { status = 4; bytes = [] }
+pub ends_limit : (job : Job) (m : Machine) (p : ℕ) → is_whole job ≡ true → IsOpenAt job m p → ask_of m ≡ Ask.Limit
+    → serial_of job ≡ record { status = 4; bytes = [] }
 ends_limit job m p whole open_at is = either m.full refl where
   either : (b : Bool) → m.full ≡ b → serial_of job ≡ record { status = 4; bytes = [] }
   either true full = open_at.full full

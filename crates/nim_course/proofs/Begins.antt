@@ -72,12 +72,15 @@ get_behind : {X : Type 0} (xs ys : List X) (k : ℕ) → slice_get (xs ++ ys) (l
 get_behind [] ys k = let same : 0 + k ≡ k = omega arith in ap (slice_get ys) same
 get_behind (x ∷ xs) ys k = let next : length (x ∷ xs) + k ≡ suc (length xs + k) = omega arith in ap (slice_get (x ∷ (xs ++ ys))) next ∙ get_behind xs ys k
 
-part_value : (v : Var) (init : Init) (part : ℕ) → part < v.parts → get_or (initial_parts v init) part (first_value v.shape init part) ≡ first_value v.shape init part
+part_value : (v : Var) (init : Init) (part : ℕ) → part < v.parts
+    → get_or (initial_parts v init) part (first_value v.shape init part) ≡ first_value v.shape init part
 part_value v (Fill number) part below =
     get_or_from_slice_get (replicate v.parts (filled v.shape number)) part (filled v.shape number) (filled v.shape number)
-    (ap (λ (gs : List Grid). slice_get gs part) (sym (append-nil (replicate v.parts (filled v.shape number)))) ∙ get_replicate v.parts (filled v.shape number) [] part below)
+    (ap (λ (gs : List Grid). slice_get gs part) (sym (append-nil (replicate v.parts (filled v.shape number))))
+    ∙ get_replicate v.parts (filled v.shape number) [] part below)
 part_value v Iota part below =
-    get_or-map-range_with_len (λ k. iota_of v.shape (pos (first_cell v.shape k))) 0 v.parts part part (iota_of v.shape (pos (first_cell v.shape part))) below (omega arith)
+    get_or-map-range_with_len (λ k. iota_of v.shape (pos (first_cell v.shape k))) 0 v.parts part part (iota_of v.shape (pos (first_cell v.shape part))) below
+    (omega arith)
 part_value v (Loaded values) part below = either part values where
   either : (k : ℕ) (gs : List Grid) → get_or gs k (get_or gs k empty_grid) ≡ get_or gs k empty_grid
   either k [] = refl
@@ -101,10 +104,13 @@ main_of object below = let same : object.0 % 512 ≡ object.0 = omega (arith, be
 -- a value of the object's shape may be made where it is the first one
 made_legal : (job : Job) (object : Object) (shape : Shape) (value : Grid) (made : Shape → Grid) → object.0 < 512
     → slice_get (shapes_of job.vars) object.0 ≡ Some shape → slice_get (initial_values job.vars) object.0 ≡ Some value → made shape ≡ value
-    → IsSomeAnd (slice_get (shapes_of job.vars) (object_of (main_slot object)).0) (λ s. slice_get (initial_values job.vars) (object_of (main_slot object)).0 ≡ Some (made s))
+    → IsSomeAnd (slice_get (shapes_of job.vars) (object_of (main_slot object)).0)
+    (λ s. slice_get (initial_values job.vars) (object_of (main_slot object)).0 ≡ Some (made s))
 made_legal job object shape value made few shaped valued is =
-    subst (λ (o : Object). IsSomeAnd (slice_get (shapes_of job.vars) o.0) (λ s. slice_get (initial_values job.vars) o.0 ≡ Some (made s))) (sym (main_of object few))
-    (subst (λ (o : Option Shape). IsSomeAnd o (λ s. slice_get (initial_values job.vars) object.0 ≡ Some (made s))) (sym shaped) (valued ∙ ap (λ (g : Grid). Some g) (sym is)))
+    subst (λ (o : Object). IsSomeAnd (slice_get (shapes_of job.vars) o.0) (λ s. slice_get (initial_values job.vars) o.0 ≡ Some (made s)))
+    (sym (main_of object few))
+    (subst (λ (o : Option Shape). IsSomeAnd o (λ s. slice_get (initial_values job.vars) object.0 ≡ Some (made s))) (sym shaped)
+    (valued ∙ ap (λ (g : Grid). Some g) (sym is)))
 
 -- it may be made, or put there
 first_legal : (job : Job) (before : Slot → Content) (object : Object) (shape : Shape) (init : Init) (part : ℕ) → object.0 < 512 → object.0 < objects_of job.vars
@@ -158,7 +164,8 @@ first_append job live number next (x ∷ xs) ys first is second =
 -- what the job has from an object on are the shapes and first values of these variables
 abbrev AreFrom : Job → ℕ → List Var → Type 0
 AreFrom job first vars = (k : ℕ) → k < objects_of vars
-    → (slice_get (shapes_of job.vars) (first + k) ≡ slice_get (shapes_of vars) k) × (slice_get (initial_values job.vars) (first + k) ≡ slice_get (initial_values vars) k)
+    → (slice_get (shapes_of job.vars) (first + k) ≡ slice_get (shapes_of vars) k)
+    × (slice_get (initial_values job.vars) (first + k) ≡ slice_get (initial_values vars) k)
 
 -- those of the first variable
 abbrev AreOfFirst : Job → Var → ℕ → ℕ → Type 0
@@ -276,7 +283,8 @@ firsts_come job live epoch number to_come given commands versions (c ∷ cs) cam
         keyless = are.0.plain.keyless;
         aside = are.0.plain.aside versions;
       });
-      workers = (put_all versions c.0 (version_of c.1.kind) (puts_of c.1.kind) (record { slots = stands.slots; all = stands.all }) below).workers ∙ came.workers;
+      workers =
+          (put_all versions c.0 (version_of c.1.kind) (puts_of c.1.kind) (record { slots = stands.slots; all = stands.all }) below).workers ∙ came.workers;
     } in
     subst (λ (ds : List Directed). CameTo job live epoch to_come ds (commands ++ c ∷ cs) (after_commands next cs))
     (append_assoc given (single_for epoch c ∷ []) (map (single_for epoch) cs))

@@ -224,7 +224,8 @@ tells_more : (values more : List Grid) (c : Controller) → Tells values c → T
 tells_more values more c tells =
     record { printed = text_more values more c.machine.driver.output tells.printed; fetched = fetched_more values more c.fetched tells.fetched }
 
-live_tells : (values : List Grid) (c : Controller) (from : Worker) (report : FromWorker) → Tells values c → Tells (values ++ value_of report) (reported c from report)
+live_tells : (values : List Grid) (c : Controller) (from : Worker) (report : FromWorker) → Tells values c
+    → Tells (values ++ value_of report) (reported c from report)
 live_tells values c from (Value epoch ticket object version value) tells =
     let more : Tells (values ++ value ∷ []) c = tells_more values (value ∷ []) c tells in
     cond_both (epoch == c.epoch) (record c { fetched = told c ticket object version value }) c (Tells (values ++ value ∷ []))

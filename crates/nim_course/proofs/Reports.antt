@@ -41,7 +41,8 @@ told_one : (job : Job) (position : ℕ) (f : Fetched) (object : Object) (version
     → is_asked object version f ≡ true → value ≡ version_value job object version → IsFetchedAt job position (record f { value = Some value })
 told_one job position f object version value at is good =
     let parts = and_parts (is_open f && (f.object.0 == object.0)) (f.version == version) is in
-    let same : object ≡ f.object = ap (λ (n : ℕ). record { 0 = n }) (sym (eqb-true f.object.0 object.0 (and_parts (is_open f) (f.object.0 == object.0) parts.0).1)) in
+    let same : object ≡ f.object =
+    ap (λ (n : ℕ). record { 0 = n }) (sym (eqb-true f.object.0 object.0 (and_parts (is_open f) (f.object.0 == object.0) parts.0).1)) in
     let also : version ≡ f.version = sym (eqb-true f.version version parts.1) in
     record { version = at.version; value = good ∙ ap₂ (version_value job) same also }
 

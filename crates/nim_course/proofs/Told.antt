@@ -100,7 +100,8 @@ cell_is job position fs object row cell all told are =
 
 -- some items of a list one by one
 items_taken : (values : List Grid) (first part n : ℕ) → first + part + n ≤ length values
-    → map (λ (object : Object). value_at values object) (map (λ (k : ℕ). record { 0 = first + k }) (range_with_len part n)) ≡ take n (drop (first + part) values)
+    → map (λ (object : Object). value_at values object) (map (λ (k : ℕ). record { 0 = first + k }) (range_with_len part n))
+    ≡ take n (drop (first + part) values)
 items_taken values first part zero within = refl
 items_taken values first part (suc n) within =
     let next : first + (part + 1) ≡ suc (first + part) = omega arith in

@@ -24,7 +24,8 @@ pub record Flight : Type 0 where
 abbrev pub is_in_flight : Flight → Bool
 is_in_flight flight = list_any (λ (run : Option Worker). is_some run) flight.runs
 
--- A controller: its job, the rule of placement and a flag for each live worker; where its driver's machine stands; which
+-- A controller: its job, the rule of placement and a flag for each live worker; where its driver's machine stands;
+-- which
 -- versions lie where; the epoch; how many tasks, and in this epoch how many instances and tickets, were given; what it
 -- has to do before the driver goes on; what was fetched last, the first of it under this ticket; the instances in
 -- flight, oldest first; whether a turn is due; and the outcome, once it came.

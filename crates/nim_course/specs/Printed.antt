@@ -63,5 +63,6 @@ pub record IsOfValues (values : List Grid) (text : List ℕ) : Type 0 where
 -- Whatever happens at a controller, it prints nothing but texts of values that were reported to it.
 abbrev pub PrintsWhatIsTold : Type 0
 PrintsWhatIsTold =
-    (job : Job) (setup : Setup) (happened : List Happened) (c : Controller) → LeadsTo happened (new_controller job setup) c
+    (job : Job) (setup : Setup) (happened : List Happened) (c : Controller)
+    → LeadsTo happened (new_controller job setup) c
     → IsOfValues (values_by happened) c.machine.driver.output

@@ -21,7 +21,8 @@ is_asked object version f = is_open f && (f.object.0 == object.0) && (f.version 
 abbrev pub told_at : List Fetched → ℕ → Object → ℕ → Grid → List Fetched
 told_at fetched place object version value =
     option_map_or
-    (λ (f : Fetched). if is_asked object version f then slice_set fetched place (record f { value = Some value }) else fetched)
+    (λ (f : Fetched). if is_asked object version f then slice_set fetched place (record f { value = Some value })
+    else fetched)
     (slice_get fetched place) fetched
 
 -- a value is reported under a ticket

@@ -1,4 +1,5 @@
-//! The course of a cluster: what it has come to, what each event does to it, and the law that it then stays in step with
+//! The course of a cluster: what it has come to, what each event does to it, and the law that it then stays in step
+//! with
 //! program order.
 #![tactic(auto)]
 

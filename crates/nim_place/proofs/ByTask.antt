@@ -34,7 +34,8 @@ no_before : (f : Footprint) (rest : List Footprint) (later : Footprint) → f.wr
 no_before f rest later none nothing =
     ap₂ (λ (a b : Bool). a || b)
     (ap (list_any (λ (slot : Slot). (is_among later.reads slot || is_among later.writes slot) && not (is_rewritten rest slot))) none)
-    (any_nothing (λ (slot : Slot). is_among later.writes slot && not (is_rewritten rest slot)) (λ slot. ap (λ (ws : List Slot). is_among ws slot && not (is_rewritten rest slot)) nothing) f.reads)
+    (any_nothing (λ (slot : Slot). is_among later.writes slot && not (is_rewritten rest slot))
+    (λ slot. ap (λ (ws : List Slot). is_among ws slot && not (is_rewritten rest slot)) nothing) f.reads)
 
 quiet_before : (past : List Footprint) (later : Footprint) → Quiet past → later.writes ≡ [] → before_of past later ≡ []
 quiet_before [] later quiet nothing = refl
@@ -166,7 +167,8 @@ pub for_other : (versions : Versions) (owner worker : Worker) (number : ℕ) (ms
 for_other versions owner worker number [] is = refl
 for_other versions owner worker number (m ∷ ms) is =
     let others : List (Worker × Command) = filter (λ (c : Worker × Command). c.0.0 == worker.0) (copies_of versions number owner ms) in
-    ap (λ (b : Bool). map (λ (c : Worker × Command). c.1) (if m.from.0 == worker.0 then send_of number owner m ∷ (if b then receive_of versions number owner m ∷ others else others) else (if b then receive_of versions number owner m ∷ others else others))) is
+    ap (λ (b : Bool). map (λ (c : Worker × Command). c.1) (if m.from.0 == worker.0 then send_of number owner m
+    ∷ (if b then receive_of versions number owner m ∷ others else others) else (if b then receive_of versions number owner m ∷ others else others))) is
     ∙ sent (m.from.0 == worker.0) (send_of number owner m) others
     ∙ ap (λ (rest : List Command). if m.from.0 == worker.0 then (send_of number owner m).1 ∷ rest else rest) (for_other versions owner worker number ms is)
     ∙ sym (chosen (m.from.0 == worker.0) (λ (n : Moved). (send_of number owner n).1) m (filter (λ (n : Moved). n.from.0 == worker.0) ms))

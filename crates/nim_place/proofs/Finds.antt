@@ -30,7 +30,8 @@ found_merged false false own x y h is same = refl
 pub after_copies : (base versions : Versions) (number : ℕ) (owner : Worker) (ms : List Moved) (object : Object) → IsWhole versions → owner.0 < versions.workers
     → object.0 < versions.objects
     → (is_kept (after_commands versions (copies_of base number owner ms)) owner (main_slot object) ≡ true)
-    × (held_at (after_commands versions (copies_of base number owner ms)) owner (main_slot object) ≡ (if is_moved ms object then Some (latest_of base object) else held_at versions owner (main_slot object)))
+    × (held_at (after_commands versions (copies_of base number owner ms)) owner (main_slot object)
+    ≡ (if is_moved ms object then Some (latest_of base object) else held_at versions owner (main_slot object)))
 after_copies base versions number owner [] object whole below there = (kept_for versions owner (main_slot object) below there, refl)
 after_copies base versions number owner (m ∷ ms) object whole below there =
     let next : Versions = after_kind owner versions (Kind.Receive (main_slot m.object) (latest_of base m.object)) in
@@ -65,14 +66,16 @@ does_move versions owner past (next ∷ reads) object from held lacks first read
           ap (λ (n : ℕ). source_of versions owner past (record { 0 = n })) (eqb-true next.0 object.0 same)
           ∙ ap₂ (λ (a b : Bool). if a || b then None else holder versions object) first lacks ∙ held
 
-      either : (is_one_of (past ++ next ∷ []) object ≡ false → is_one_of reads object ≡ true → is_moved (moves versions owner (past ++ next ∷ []) reads) object ≡ true)
+      either : (is_one_of (past ++ next ∷ []) object ≡ false → is_one_of reads object ≡ true
+          → is_moved (moves versions owner (past ++ next ∷ []) reads) object ≡ true)
           → (b : Bool) → (next.0 == object.0) ≡ b → (b || is_one_of reads object) ≡ true → is_moved (moves versions owner past (next ∷ reads)) object ≡ true
       either later true same here =
           ap (λ (o : Option Worker). is_moved (moved_first (length past) next o (moves versions owner (past ++ next ∷ []) reads)) object) (source same)
           ∙ or_left (next.0 == object.0) (is_moved (moves versions owner (past ++ next ∷ []) reads) object) same
       either later false other here =
           shown (source_of versions owner past next)
-          (later (list_any-append (λ (o : Object). o.0 == object.0) past (next ∷ []) ∙ both_false (is_one_of past object) ((next.0 == object.0) || false) first (ap (λ (b : Bool). b || false) other)) here)
+          (later (list_any-append (λ (o : Object). o.0 == object.0) past (next ∷ [])
+          ∙ both_false (is_one_of past object) ((next.0 == object.0) || false) first (ap (λ (b : Bool). b || false) other)) here)
 
 pub current_held : (latest : ℕ) (held : Option ℕ) → option_map_or (λ (version : ℕ). version == latest) held false ≡ true → held ≡ Some latest
 current_held latest None is = absurd (false≢true is)
@@ -89,7 +92,8 @@ pub latest_there : (versions : Versions) (owner : Worker) (reads : List Object) 
     ≡ Some (latest_of versions object)
 latest_there versions owner reads object read some =
     pick_either (is_moved (moves versions owner [] reads) object) (Some (latest_of versions object)) (held_at versions owner (main_slot object))
-    (λ stays. current_held (latest_of versions object) (held_at versions owner (main_slot object)) (current stays (is_current versions object owner) refl (holder versions object) refl some)) where
+    (λ stays. current_held (latest_of versions object) (held_at versions owner (main_slot object))
+    (current stays (is_current versions object owner) refl (holder versions object) refl some)) where
       current : is_moved (moves versions owner [] reads) object ≡ false → (b : Bool) → is_current versions object owner ≡ b → (h : Option Worker)
           → holder versions object ≡ h → is_some h ≡ true → is_current versions object owner ≡ true
       current stays true is h held there = is

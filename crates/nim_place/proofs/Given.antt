@@ -45,7 +45,8 @@ all_stand (c ∷ cs) versions fit given stands =
     let workers : next.workers
     ≡ versions.workers = (put_all versions c.0 (version_of c.1.kind) (puts_of c.1.kind) (record { slots = stands.slots; all = stands.all }) fit.0).workers in
     subst (λ (l : List (Worker × Command)). Stands l (after_commands next cs)) (append_assoc given (c ∷ []) cs)
-    (all_stand cs next (subst (λ (n : ℕ). AllFit n cs) (sym workers) fit.2) (given ++ c ∷ []) (stands_more given versions c.0 c.1 stands fit.0 (aside versions c.1.kind fit.1)))
+    (all_stand cs next (subst (λ (n : ℕ). AllFit n cs) (sym workers) fit.2) (given ++ c ∷ [])
+    (stands_more given versions c.0 c.1 stands fit.0 (aside versions c.1.kind fit.1)))
 
 pub copies_fit : (versions : Versions) (number : ℕ) (owner : Worker) (reads : List Object) (moved : List Moved) → AreMoves versions owner reads moved
     → owner.0 < versions.workers

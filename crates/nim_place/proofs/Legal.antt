@@ -193,7 +193,8 @@ owner_legal job versions owner task number position given ms is are below stands
           ∙ schedule_finds versions owner task number below given stands object read (fits.reads object read) (at.holders object (fits.reads object read))
           ∙ ap₂ (λ (o : Object) (v : ℕ). Some (o, v)) (fits.main object read) (at.latest object (fits.reads object read))
 
-pub worker_legal : (job : Job) (versions : Versions) (owner worker : Worker) (task : Task) (number position : ℕ) (given : List (Worker × Command)) (ms : List Moved)
+pub worker_legal : (job : Job) (versions : Versions) (owner worker : Worker) (task : Task) (number position : ℕ) (given : List (Worker × Command))
+    (ms : List Moved)
     → ms ≡ moves versions owner [] task.reads
     → AreMoves versions owner task.reads ms → AreHeld versions ms → owner.0 < versions.workers → Stands given versions → IsAt job position versions
     → IsFor job versions task position

@@ -54,7 +54,8 @@ holder_facts versions object from (suc more) worker is =
           (omega (arith, number), sym (ap (is_current versions object) same) ∙ test)
       either false test later further = let rest = later further in (omega (arith, rest.0), rest.1)
 
-pub source_facts : (versions : Versions) (owner : Worker) (past : List Object) (object : Object) (from : Worker) → source_of versions owner past object ≡ Some from
+pub source_facts : (versions : Versions) (owner : Worker) (past : List Object) (object : Object) (from : Worker)
+    → source_of versions owner past object ≡ Some from
     → IsSource versions owner past object from
 source_facts versions owner past object from is = either (is_one_of past object) (is_current versions object owner) refl refl is where
   either : (a b : Bool) → is_one_of past object ≡ a → is_current versions object owner ≡ b → (if a || b then None else holder versions object) ≡ Some from
@@ -99,7 +100,8 @@ none_twice versions owner past (next ∷ reads) object is =
     (source_of versions owner past next) refl where
       other : (from : Worker) → source_of versions owner past next ≡ Some from → (b : Bool) → (next.0 == object.0) ≡ b → b ≡ false
       other from found true same =
-          absurd (false≢true (sym (source_facts versions owner past next from found).first ∙ ap (λ (n : ℕ). is_one_of past (record { 0 = n })) (eqb-true next.0 object.0 same) ∙ is))
+          absurd (false≢true (sym (source_facts versions owner past next from found).first
+          ∙ ap (λ (n : ℕ). is_one_of past (record { 0 = n })) (eqb-true next.0 object.0 same) ∙ is))
       other from found false same = refl
 
       either : is_moved (moves versions owner (past ++ next ∷ []) reads) object ≡ false → (o : Option Worker) → source_of versions owner past next ≡ o
@@ -119,8 +121,14 @@ moves_behind versions owner all past (next ∷ reads) within =
           → AreMoves versions owner all (moved_first (length past) next o (moves versions owner (past ++ next ∷ []) reads))
       either rest None found = rest
       either rest (Some from) found =
-          let facts = source_facts versions owner past next from found in
-          (facts.below, facts.apart, within next (or_left (next.0 == next.0) (is_one_of reads next) (eq-eqb next.0 next.0 refl)), none_twice versions owner (past ++ next ∷ []) reads next (now_one_of past next), rest)
+          let facts = source_facts versions owner past next from found in (
+            facts.below,
+            facts.apart,
+            within next (or_left (next.0 == next.0) (is_one_of reads next) (eq-eqb next.0 next.0 refl)),
+            none_twice versions owner
+                (past ++ next ∷ []) reads next (now_one_of past next),
+            rest,
+          )
 
 pub moves_facts : (versions : Versions) (owner : Worker) (reads : List Object) → AreMoves versions owner reads (moves versions owner [] reads)
 moves_facts versions owner reads = moves_behind versions owner reads [] reads (λ object is. is)

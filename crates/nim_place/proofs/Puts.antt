@@ -119,7 +119,8 @@ put_kept versions worker version slot whole kept = record {
       eqb-false worker.0 other.0 (and_false (slot.0 == at.0) (worker.0 == other.0) is (eq-eqb slot.0 at.0 each.1)) each.0
 
   held_after : (other : Worker) (at : Slot) → is_kept versions other at ≡ true
-      → (if is_kept versions other at then get_or (set versions.held (place_of versions worker slot) (Some version)) (place_of versions other at) None else None)
+      → (if is_kept versions other at then get_or (set versions.held (place_of versions worker slot) (Some version)) (place_of versions other at) None
+      else None)
       ≡ (if ((slot.0 == at.0) || false) && (worker.0 == other.0) then Some version else held_at versions other at)
   held_after other at there =
       let chosen : Bool → Option ℕ → Option ℕ = λ b o. if b then o else None in

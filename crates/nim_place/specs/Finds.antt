@@ -16,7 +16,9 @@ use Rattle.nim_place.specs.Versions.{Versions, holder, latest_of}
 -- the version that was the latest before them, whatever commands the map stood for.
 abbrev pub FindsLatest : Versions → Worker → Task → ℕ → Type 0
 FindsLatest versions owner task number =
-    (given : List (Worker × Command)) → Stands given versions → (object : Object) → is_one_of task.reads object ≡ true → object.0 < versions.objects
+    (given : List (Worker × Command)) → Stands given versions → (object : Object) → is_one_of task.reads object ≡ true
+    → object.0 < versions.objects
     → is_some (holder versions object) ≡ true
-    → let commands : List Command = commands_for owner (given ++ copies_of versions number owner (moves versions owner [] task.reads)) in
+    → let commands : List Command =
+    commands_for owner (given ++ copies_of versions number owner (moves versions owner [] task.reads)) in
     holds commands (length commands) (main_slot object) ≡ Some (object_of (main_slot object), latest_of versions object)

@@ -15,7 +15,8 @@ use Rattle.nim_place.specs.Versions.{Versions, holder, is_current, latest_of}
 
 -- the home of the first object that a task writes
 abbrev pub owner_of : Placement → Task → ℕ → List Bool → Worker
-owner_of place task objects live = option_map_or (λ (object : Object). home place object objects live) (slice_get task.writes 0) (record { 0 = 0 })
+owner_of place task objects live =
+    option_map_or (λ (object : Object). home place object objects live) (slice_get task.writes 0) (record { 0 = 0 })
 
 -- whether an object is one of these
 abbrev pub is_one_of : List Object → Object → Bool
@@ -24,7 +25,8 @@ is_one_of objects object = list_any (λ (o : Object). o.0 == object.0) objects
 -- Who sends an object that is read, behind other reads: the lowest worker that holds its latest version, unless the
 -- owner holds it too, or the object was read before.
 abbrev pub source_of : Versions → Worker → List Object → Object → Option Worker
-source_of versions owner past object = if is_one_of past object || is_current versions object owner then None else holder versions object
+source_of versions owner past object =
+    if is_one_of past object || is_current versions object owner then None else holder versions object
 
 -- an object's move before others, if it comes from anywhere, by the index of its read
 abbrev pub moved_first : ℕ → Object → Option Worker → List Moved → List Moved
@@ -35,21 +37,37 @@ moved_first index object (Some from) rest = record { index = index; object = obj
 abbrev pub moves : Versions → Worker → List Object → List Object → List Moved
 moves versions owner past [] = []
 moves versions owner past (object ∷ reads) =
-    moved_first (length past) object (source_of versions owner past object) (moves versions owner (past ++ object ∷ []) reads)
+    moved_first (length past) object (source_of versions owner past object)
+    (moves versions owner (past ++ object ∷ []) reads)
 
 -- it is sent by the worker that holds it
 abbrev pub send_of : ℕ → Worker → Moved → Worker × Command
-send_of number owner moved =
-    (moved.from, record { id = entry_number number 0 moved.index; kind = Kind.Send (main_slot moved.object) owner (entry_number number 1 moved.index); before = [] })
+send_of number owner moved = (
+  moved.from,
+  record {
+    id = entry_number number 0 moved.index;
+    kind =
+        Kind.Send (main_slot moved.object) owner (entry_number number 1 moved.index);
+    before = [];
+  },
+)
 
 -- and received by the owner
 abbrev pub receive_of : Versions → ℕ → Worker → Moved → Worker × Command
-receive_of versions number owner moved =
-    (owner, record { id = entry_number number 1 moved.index; kind = Kind.Receive (main_slot moved.object) (latest_of versions moved.object); before = [] })
+receive_of versions number owner moved = (
+  owner,
+  record {
+    id = entry_number number 1 moved.index;
+    kind =
+        Kind.Receive (main_slot moved.object) (latest_of versions moved.object);
+    before = [];
+  },
+)
 
 -- what moves for a task: each Send, and its Receive right behind it
 abbrev pub copies_of : Versions → ℕ → Worker → List Moved → List (Worker × Command)
-copies_of versions number owner moved = flat_map (λ (m : Moved). send_of number owner m ∷ receive_of versions number owner m ∷ []) moved
+copies_of versions number owner moved =
+    flat_map (λ (m : Moved). send_of number owner m ∷ receive_of versions number owner m ∷ []) moved
 
 -- the run over main slots, behind all that is received
 abbrev pub run_of : Task → ℕ → ℕ → List Moved → Command

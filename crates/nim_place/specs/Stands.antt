@@ -16,7 +16,8 @@ use Rattle.nim_place.specs.Versions.{Versions, held_at, is_kept, latest_of, puts
 
 -- the commands of one worker, in order
 abbrev pub commands_for : Worker → List (Worker × Command) → List Command
-commands_for worker given = map (λ (c : Worker × Command). c.1) (filter (λ (c : Worker × Command). c.0.0 == worker.0) given)
+commands_for worker given =
+    map (λ (c : Worker × Command). c.1) (filter (λ (c : Worker × Command). c.0.0 == worker.0) given)
 
 -- the greater of a version and the one that a command puts into a slot, if it puts one there
 abbrev pub greater_put : Slot → ℕ → Worker × Command → ℕ
@@ -34,7 +35,8 @@ pub record Stands (given : List (Worker × Command)) (versions : Versions) : Typ
   pub held : (worker : Worker) (slot : Slot) → is_kept versions worker slot ≡ true
       → holds (commands_for worker given) (length (commands_for worker given)) slot
       ≡ option_map (λ (version : ℕ). (object_of slot, version)) (held_at versions worker slot)
-  pub latest : (object : Object) → object.0 < versions.objects → latest_of versions object ≡ greatest_put (main_slot object) given
+  pub latest : (object : Object) → object.0 < versions.objects
+      → latest_of versions object ≡ greatest_put (main_slot object) given
 
 -- a Copy goes to no main slot
 abbrev pub is_aside : Versions → Kind → Bool

@@ -24,7 +24,13 @@ pub record Versions : Type 0 where
 -- no slot holds anything
 abbrev pub no_versions : ℕ → ℕ → Versions
 no_versions workers objects =
-    record { workers = workers; objects = objects; held = replicate (objects * workers) None; latest = replicate objects 0 }
+    record {
+      workers = workers;
+      objects = objects;
+      held = replicate (objects * workers) None;
+      latest =
+          replicate objects 0;
+    }
 
 -- whether the map has this worker and this slot, as the main slot of an object
 abbrev pub is_kept : Versions → Worker → Slot → Bool
@@ -36,7 +42,8 @@ place_of versions worker slot = worker.0 * versions.objects + slot.0
 
 -- what a worker's main slot holds
 abbrev pub held_at : Versions → Worker → Slot → Option ℕ
-held_at versions worker slot = if is_kept versions worker slot then slice_index_or versions.held (place_of versions worker slot) None else None
+held_at versions worker slot =
+    if is_kept versions worker slot then slice_index_or versions.held (place_of versions worker slot) None else None
 
 -- the latest version of an object
 abbrev pub latest_of : Versions → Object → ℕ
@@ -45,7 +52,8 @@ latest_of versions object = slice_index_or versions.latest object.0 0
 -- whether a worker's main slot of an object holds its latest version
 abbrev pub is_current : Versions → Object → Worker → Bool
 is_current versions object worker =
-    option_map_or (λ (version : ℕ). version == latest_of versions object) (held_at versions worker (main_slot object)) false
+    option_map_or (λ (version : ℕ). version == latest_of versions object) (held_at versions worker (main_slot object))
+    false
 
 -- the lowest of so many workers from one on whose main slot holds the latest version
 abbrev pub holder_from : Versions → Object → ℕ → ℕ → Option Worker
@@ -86,7 +94,8 @@ after_kind worker versions kind = fold (with_version worker (version_of kind)) v
 
 -- what commands leave, one after another
 abbrev pub after_commands : Versions → List (Worker × Command) → Versions
-after_commands versions commands = fold (λ (before : Versions) (c : Worker × Command). after_kind c.0 before c.1.kind) versions commands
+after_commands versions commands =
+    fold (λ (before : Versions) (c : Worker × Command). after_kind c.0 before c.1.kind) versions commands
 
 -- what an effect says of a main slot that has what its block began with: the version that is the latest then
 abbrev pub with_kept : Versions → Worker × Slot × ℕ → Versions
@@ -95,7 +104,8 @@ with_kept versions item =
 
 -- what an effect says of a main slot that has what a task of its block writes
 abbrev pub with_written : ℕ → Versions → Worker × Slot × ℕ → Versions
-with_written base versions item = if item.2 == 0 then versions else with_version item.0 (counted_from base item.2) versions item.1
+with_written base versions item =
+    if item.2 == 0 then versions else with_version item.0 (counted_from base item.2) versions item.1
 
 -- What an effect leaves, its block's task 0 at this position: first what the block began with, then what its tasks
 -- write.

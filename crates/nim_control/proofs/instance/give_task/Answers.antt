@@ -13,7 +13,8 @@ schedule-requires c = writes_first c.args.sites.now.versions.objects c.args.task
 
 pub returns-clause-orders : goal.returns-clause-orders
 returns-clause-orders c =
-    let at : c.saturating_add-position.result ≡ counted_from c.args.instance.base c.args.number = omega (arith, c.saturating_add-position.ensures, c.from.ensures) in
+    let at : c.saturating_add-position.result ≡ counted_from c.args.instance.base c.args.number =
+    omega (arith, c.saturating_add-position.ensures, c.from.ensures) in
     c.in_ok-push_singles.ensures
     ∙ ap₂ (λ (n : ℕ) (cs : List (Worker × Command)).
     c.args.orders.now.items ++ directed n (singles_of c.args.instance.epoch c.args.instance.instance cs))
