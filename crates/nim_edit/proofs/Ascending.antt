@@ -25,7 +25,7 @@ use Rattle.nim_edit.proofs.Leaves.{named}
 use Rattle.nim_edit.proofs.Migrations.{task_short}
 use Rattle.nim_edit.proofs.Puts.{AreOf, FirstRead, Indexed, IsShort, filter_indexed, first_indexed, receives_of, return_receives_of, return_sends_of, sends_of}
 
-order_bounds : (c : Command) → (2 * c.id ≤ order_of c) × (order_of c ≤ 2 * c.id + 1)
+pub order_bounds : (c : Command) → (2 * c.id ≤ order_of c) × (order_of c ≤ 2 * c.id + 1)
 order_bounds c = either (is_later c.kind) where
   either : (b : Bool) → (2 * c.id ≤ (if b then 2 * c.id + 1 else 2 * c.id)) × ((if b then 2 * c.id + 1 else 2 * c.id) ≤ 2 * c.id + 1)
   either true = (omega arith, omega arith)

@@ -190,7 +190,7 @@ half_tasks template before base args worker listed built are from (suc n) =
 
 -- ---- all halves
 
-commands_of_one : (worker : Worker) (number : ℕ) (cs : List Command) (b : Bool) → (number == worker.0) ≡ b
+pub commands_of_one : (worker : Worker) (number : ℕ) (cs : List Command) (b : Bool) → (number == worker.0) ≡ b
     → commands_for worker (map (λ (c : Command). (let here : Worker = record { 0 = number } in (here, c))) cs) ≡ (if b then cs else [])
 commands_of_one worker number [] true is = refl
 commands_of_one worker number [] false is = refl

@@ -16,10 +16,15 @@ pub mod LegalThen
 pub mod Listed
 pub mod Masks
 pub mod Migrations
+pub mod MovedExtend
+pub mod MovedInstances
+pub mod MovedParcels
 pub mod MovedSound
 pub mod NoTasks
 pub mod OneTask
 pub mod Owners
+pub mod ParcelKeys
+pub mod Parcels
 pub mod Parts
 pub mod Puts
 pub mod ReadFacts
@@ -30,4 +35,6 @@ pub mod Segments
 pub mod SlotsSo
 pub mod Stays
 pub mod TasksEnds
+pub mod TasksParcels
+pub mod Touched
 pub mod Turn

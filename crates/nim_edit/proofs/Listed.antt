@@ -55,13 +55,13 @@ use Rattle.nim_template.proofs.Sames.{AreSame}
 use Rattle.nim_template.proofs.Walks.{IsWalked, IsWalkedTo, walk_kept}
 
 -- the types of a walk and of closing copies
-abbrev TypeOf : {X : Type 0} → X → Type 0
+abbrev pub TypeOf : {X : Type 0} → X → Type 0
 TypeOf {X} x = X
 
-abbrev Walk : Type 0
+abbrev pub Walk : Type 0
 Walk = TypeOf (empty_walk 0 0)
 
-abbrev Closings : Type 0
+abbrev pub Closings : Type 0
 Closings = TypeOf (closings (no_versions 0 0) [])
 
 -- ---- what is begun with

@@ -87,7 +87,7 @@ among_more objects slot object is = either ((scratch_slot object).0 == slot.0) w
   either false = is
 
 -- what is written is there
-all_written : (slots : Slot → Content) (version : ℕ) (all objects : List Object) → AllByRecursion (λ (o : Object). o.0 < 512) objects
+pub all_written : (slots : Slot → Content) (version : ℕ) (all objects : List Object) → AllByRecursion (λ (o : Object). o.0 < 512) objects
     → ((slot : Slot) → is_among (written_slots true objects) slot ≡ true → is_among (written_slots true all) slot ≡ true)
     → AllByRecursion (λ (o : Object). (if is_among (written_slots true all) (scratch_slot o) then content_at (scratch_slot o) version
     else slots (scratch_slot o)) ≡ Some (o, version)) objects

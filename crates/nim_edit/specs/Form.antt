@@ -5,6 +5,7 @@ use Rattle.std.specs.Prelude.{None, slice_index_or}
 use Rattle.std.specs.List.{list_all}
 use Rattle.nim_base.specs.declared.number.Worker.{Worker}
 use Rattle.nim_command.specs.declared.edit.Edit.{Edit}
+use Rattle.nim_command.specs.declared.entry.Entry.{Entry}
 use Rattle.nim_command.specs.declared.template.WorkerTemplate.{WorkerTemplate}
 use Rattle.nim_command.specs.Edits.{run_over}
 use Rattle.nim_command.specs.Numbers.{phase_of, task_of}
@@ -25,6 +26,10 @@ is_worker_below workers worker = nat_lt worker.0 workers
 -- whether the worker that gets an edit is one of the first so many
 abbrev pub is_edit_below : ℕ → Worker × Edit → Bool
 is_edit_below workers edit = is_worker_below workers edit.0
+
+-- whether the worker that a half is of is one of the first so many
+abbrev pub is_half_below : ℕ → Worker × List Entry → Bool
+is_half_below workers half = is_worker_below workers half.0
 
 -- Of a task's phases from 2 on, the halves as built have just its run, at its home.
 abbrev pub HaveRuns : WorkerTemplate → Type 0

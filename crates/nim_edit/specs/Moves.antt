@@ -1,6 +1,7 @@
 -- A task of a block moves to another worker: the edits that move it, each at its worker, and the template behind them.
-use Rattle.std.specs.Prelude.{ℕ, ◌+◌, ◌==◌, if◌then◌else◌, List, [], ◌∷◌, ◌++◌, map, take, slice_index_or, slice_set}
-use Rattle.std.specs.List.{fold}
+use Rattle.std.specs.Prelude.{ℕ, ◌+◌, ◌==◌, Bool, true, not, ◌&&◌, if◌then◌else◌, List, [], ◌∷◌, ◌++◌, map, take}
+use Rattle.std.specs.Prelude.{slice_index_or, slice_set}
+use Rattle.std.specs.List.{fold, list_all}
 use Rattle.nim_base.specs.declared.number.Object.{Object}
 use Rattle.nim_base.specs.declared.number.Worker.{Worker}
 use Rattle.nim_base.specs.declared.task.Func.TheVariants.{Set}
@@ -81,6 +82,19 @@ edits_of template task to =
 -- the halves of all workers after an edit at a worker
 abbrev pub with_edit : List (List Entry) → Worker × Edit → List (List Entry)
 with_edit halves edit = slice_set halves edit.0.0 (edited edit.1 (slice_index_or halves edit.0.0 []))
+
+-- the half that an edit touches, with the edit
+abbrev pub touched_by : List (List Entry) → Worker × Edit → Worker × List Entry
+touched_by halves edit = (edit.0, edited edit.1 (slice_index_or halves edit.0.0 []))
+
+-- the halves of all workers with this one in place
+abbrev pub with_half : List (List Entry) → Worker × List Entry → List (List Entry)
+with_half halves half = slice_set halves half.0.0 half.1
+
+-- whether no two of these edits are at one worker
+abbrev pub are_apart : List (Worker × Edit) → Bool
+are_apart [] = true
+are_apart (edit ∷ edits) = list_all (λ (other : Worker × Edit). not (other.0.0 == edit.0.0)) edits && are_apart edits
 
 -- the template once a task has moved to a worker: the halves have the edits, which are to be sent
 abbrev pub migrated : WorkerTemplate → ℕ → Worker → WorkerTemplate

@@ -2,11 +2,12 @@ ghost use Rattle.std.specs.Prelude.{◌≡◌, ◌≤◌, true, length};
 ghost use Rattle.std.specs.List.{list_all, list_any};
 ghost use Rattle.nim_edit.specs.Form.{IsInForm, WasBuilt};
 ghost use Rattle.nim_edit.specs.Instances.{InstancesAreLegal};
+ghost use Rattle.nim_place.specs.Extends.{is_live};
 ghost use Rattle.nim_place.specs.Sound.{IsSound};
 ghost use Rattle.nim_template.specs.Again.{HoldAgain};
 ghost use Rattle.nim_template.specs.Built.{built};
 ghost use Rattle.nim_template.specs.Fits.{is_fit};
-ghost use Rattle.nim_template.specs.Given.{InstallsExtend};
+ghost use Rattle.nim_template.specs.Given.{InstallsExtend, InstancesExtend};
 ghost use Rattle.nim_template.specs.Instance.{LeavesEffect};
 ghost use Rattle.nim_template.specs.Written.{HasEffect};
 
@@ -55,4 +56,6 @@ pub fn moved_stays_good(
     ensures sound { IsSound template.now }
     ensures legal { InstancesAreLegal (length live.now) objects template.now }
     ensures installs { InstallsExtend live.now template.now }
+    ensures instances { list_all (is_live live.now) template.now.owners ≡ true
+        → InstancesExtend live.now objects template.now }
 {}

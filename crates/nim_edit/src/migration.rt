@@ -3,7 +3,7 @@ ghost use Rattle.std.specs.Prelude.{IfOk, IfErr, OnOk, OnErr};
 ghost use Rattle.std.specs.List.{fold, list_all};
 ghost use Rattle.nim_command.specs.declared.entry.Entry.{Entry};
 ghost use Rattle.nim_command.specs.Ruled.{entries_by_rule};
-ghost use Rattle.nim_edit.specs.Form.{IsInForm, WasBuilt, is_edit_below};
+ghost use Rattle.nim_edit.specs.Form.{IsInForm, WasBuilt, is_edit_below, is_half_below};
 ghost use Rattle.nim_edit.specs.Moves as moves;
 ghost use Rattle.nim_edit.specs.Refusals as spec;
 ghost use Rattle.nim_place.specs.Extends.{is_live};
@@ -51,11 +51,10 @@ pub fn migrate(
         return Err(EditFault::Refused(refused));
     }
     let edits = edits_of(template, task, to)?;
-    let halves = edited_halves(&template.halves, edits.as_slice())?;
-    let owners = with_owner(&template.owners, task, to)?;
+    let touched = edited_halves(&template.halves, edits.as_slice())?;
     push_edits(&mut template.unsent, edits)?;
-    template.halves = halves;
-    template.owners = owners;
+    put_halves(&mut template.halves, touched);
+    put_owner(&mut template.owners, task, to);
     Ok(())
 }
 
@@ -132,26 +131,49 @@ fn count_for(edits: &[(Worker, Edit)], worker: Worker) -> usize
     count
 }
 
-/// The halves after edits in order, each at its worker.
-fn edited_halves(halves: &Seq<Half>, edits: &[(Worker, Edit)]) -> Result<Seq<Half>, NoMemory>
-    requires { list_all (is_edit_below (length halves.now)) edits.now ≡ true }
-    ensures { IfOk result (λ after. after ≡ fold moves.with_edit halves.now edits.now) }
+/// The halves that edits touch, each with its edit, which stand for all edits once they are put in. No other half is
+/// copied.
+fn edited_halves(
+    halves: &Seq<Half>,
+    edits: &[(Worker, Edit)],
+) -> Result<Vec<(Worker, Half)>, NoMemory>
+    requires below { list_all (is_edit_below (length halves.now)) edits.now ≡ true }
+    requires apart { moves.are_apart edits.now ≡ true }
+    ensures value { IfOk result (λ touched. fold moves.with_half halves.now touched.items
+        ≡ fold moves.with_edit halves.now edits.now) }
+    ensures below { IfOk result (λ touched. list_all (is_half_below (length halves.now)) touched.items ≡ true) }
 {
-    let mut after = halves.copy()?.into_vec();
+    let mut touched = Vec::new(halves.alloc());
     for (worker, edit) in edits {
-        after[usize::from(worker.0)].apply_edit(edit)?;
+        let mut half = halves.as_slice()[usize::from(worker.0)].copy()?;
+        half.apply_edit(edit)?;
+        touched.push((*worker, half))?;
     }
-    Ok(Seq::from_vec(after))
+    Ok(touched)
 }
 
-/// The owners, where a task has this one.
-fn with_owner(owners: &Seq<Worker>, task: u16, to: Worker) -> Result<Seq<Worker>, NoMemory>
-    requires { task < length owners.now }
-    ensures { IfOk result (λ after. after ≡ slice_set owners.now task to) }
+/// Puts halves in place of those of their workers; takes no memory.
+fn put_halves(halves: &mut Seq<Half>, touched: Vec<(Worker, Half)>)
+    requires { list_all (is_half_below (length halves.old)) touched.items ≡ true }
+    ensures { halves.new ≡ fold moves.with_half halves.old touched.items }
 {
-    let mut after = Vec::from_slice(owners.alloc(), owners.as_slice())?;
-    after[usize::from(task)] = to;
-    Ok(Seq::from_vec(after))
+    let alloc = halves.alloc();
+    let mut all = mem::replace(halves, Seq::new(alloc)).into_vec();
+    for (worker, half) in touched {
+        all[usize::from(worker.0)] = half;
+    }
+    *halves = Seq::from_vec(all);
+}
+
+/// Gives a task this owner; takes no memory.
+fn put_owner(owners: &mut Seq<Worker>, task: u16, to: Worker)
+    requires { task < length owners.old }
+    ensures { owners.new ≡ slice_set owners.old task to }
+{
+    let alloc = owners.alloc();
+    let mut all = mem::replace(owners, Seq::new(alloc)).into_vec();
+    all[usize::from(task)] = to;
+    *owners = Seq::from_vec(all);
 }
 
 /// Adds edits; where memory is refused, there are those that there were.

@@ -154,7 +154,7 @@ task_latest job versions owner task number position may latest room whole object
 
 -- ---- who holds what a task reads
 
-found_holder : (base most : ℕ) (entry offsets versions : Versions) (owner : Worker) (reads : List Object) (object : Object)
+pub found_holder : (base most : ℕ) (entry offsets versions : Versions) (owner : Worker) (reads : List Object) (object : Object)
     → IsAlike base entry offsets versions → IsKept most offsets → IsEntry base offsets.objects entry → AreReady offsets owner reads → base + most < 2 ^ 64
     → is_one_of reads object ≡ true → is_some (holder versions object) ≡ true
 found_holder base most entry offsets versions owner reads object alike kept at ready room one = either (latest_of offsets object == 0) refl where
