@@ -39,7 +39,7 @@ other_edit : (halves : List (List Entry)) (edit : Worker × Edit) (i : ℕ) → 
 other_edit halves edit i is =
     get_or-set_other halves edit.0.0 i (edited edit.1 (slice_index_or halves edit.0.0 [])) [] (eqb-false i edit.0.0 is)
 
-long_edits : (halves : List (List Entry)) (edits : List (Worker × Edit)) → length (fold with_edit halves edits) ≡ length halves
+pub long_edits : (halves : List (List Entry)) (edits : List (Worker × Edit)) → length (fold with_edit halves edits) ≡ length halves
 long_edits halves [] = refl
 long_edits halves (edit ∷ edits) =
     long_edits (with_edit halves edit) edits ∙ length-set halves edit.0.0 (edited edit.1 (slice_index_or halves edit.0.0 []))
@@ -272,6 +272,20 @@ taken_move template task to live form long taken =
         below = subst (λ (n : ℕ). to.0 < n) long (live_below live to two);
         apart = three;
       }
+
+-- owners that are live are so behind it
+pub owned_still : (template : WorkerTemplate) (task : ℕ) (to : Worker) (live : List Bool) → refusal_of template task to live ≡ None
+    → list_all (is_live live) template.owners ≡ true → list_all (is_live live) (slice_set template.owners task to) ≡ true
+owned_still template task to live taken all = all_set (is_live live) template.owners task to all (lives (is_live live to) refl) where
+  either : (a b c d : Bool) → (if a then Some NoSuchTask else if not b then Some NotLive else if c then Some SamePlace else if d then Some TooMany else None)
+      ≡ None → b ≡ true
+  either true b c d none = absurd (some_not NoSuchTask none)
+  either false false c d none = absurd (some_not NotLive none)
+  either false true c d none = refl
+
+  lives : (b : Bool) → is_live live to ≡ b → is_live live to ≡ true
+  lives b is =
+      either (nat_le (length template.forms) task) (is_live live to) ((worker_at template.owners task).0 == to.0) (are_too_many template task to) taken
 
 -- what a move that is taken leaves
 pub moved_form : (template : WorkerTemplate) (task : ℕ) (to : Worker) (live : List Bool) (edits given : List (Worker × Edit)) (halves : List (List Entry))

@@ -2,6 +2,7 @@ pub mod Ascending
 pub mod Between
 pub mod Built
 pub mod ByRule
+pub mod Carried
 pub mod Cells
 pub mod Effects
 pub mod Elsewhere

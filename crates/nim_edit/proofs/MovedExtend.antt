@@ -1,7 +1,7 @@
 -- The orders of an instance of a template that was built, and of which tasks moved since, extend orders so far.
 use Rattle.std.proofs.Common.{◌≡◌, ℕ, zero, suc, ◌+◌, ◌<◌, ◌≤◌, Bool, true, false, List, [], ◌∷◌, ◌++◌, length, map, refl, ap, ap₂, sym, subst, ◌∙◌}
 use Rattle.std.proofs.Common.{arith, Some}
-use Rattle.std.specs.Prelude.{◌*◌, ◌==◌, ◌&&◌, count_by, drop, if◌then◌else◌, not, slice_index_or, take, ℤ}
+use Rattle.std.specs.Prelude.{◌*◌, ◌^◌, ◌==◌, ◌&&◌, All, count_by, drop, if◌then◌else◌, not, slice_index_or, take, ℤ}
 use Rattle.std.specs.List.{AllByRecursion, filter, flat_map, list_all, list_any, range_with_len}
 use Rattle.std.specs.Option.{option_map}
 use Rattle.std.proofs.lemmas.Bool.{and_from, eq-eqb, eqb-true, false_from_ne_true, false≢true, leb-true, ne_eqb}
@@ -13,25 +13,29 @@ use Rattle.nim_base.specs.declared.number.Slot.{Slot}
 use Rattle.nim_base.specs.declared.number.Worker.{Worker}
 use Rattle.nim_base.specs.declared.task.TaskForm.{TaskForm}
 use Rattle.nim_command.specs.declared.command.Command.{Command}
+use Rattle.nim_command.specs.declared.edit.Edit.{Edit}
 use Rattle.nim_command.specs.declared.entry.Entry.{Entry}
 use Rattle.nim_command.specs.declared.template.WorkerTemplate.{WorkerTemplate}
+use Rattle.nim_command.specs.Edits.{edited_by}
 use Rattle.nim_command.specs.Holds.{holds}
 use Rattle.nim_command.specs.Numbers.{main_slot}
 use Rattle.nim_command.specs.Ranks.{is_patch_number}
 use Rattle.nim_command.specs.Slots.{object_of}
-use Rattle.nim_command.specs.Waits.{Group}
+use Rattle.nim_command.specs.Waits.{Group, commands_of}
 use Rattle.nim_message.specs.declared.order.ToWorker.{ToWorker}
+use Rattle.nim_message.specs.Orders.{session_of}
+use Rattle.nim_order.specs.Orders.{IsOrderByRule}
 use Rattle.nim_order.proofs.Sessions.{orders_cover}
 use Rattle.nim_job.specs.declared.job.Job.{Job}
 use Rattle.nim_job.specs.Serial.{tasks_of}
 use Rattle.nim_job.specs.Tasks.{task_of as job_task}
-use Rattle.nim_plan.specs.Legal.{AreLegal}
+use Rattle.nim_plan.specs.Legal.{AreLegal, IsLegal}
 use Rattle.nim_plan.specs.Paired.{Key, is_key, keys_received, keys_sent}
 use Rattle.nim_place.specs.declared.placement.Placement.{Placement}
 use Rattle.nim_place.specs.Extends.{is_live, live_workers, longer}
 use Rattle.nim_place.specs.Sound.{commands_at, commands_from}
 use Rattle.nim_place.specs.Stands.{Stands, commands_for}
-use Rattle.nim_place.specs.TaskOrders.{IsAt}
+use Rattle.nim_place.specs.TaskOrders.{AreSoFar, IsAt}
 use Rattle.nim_place.specs.Versions.{Versions, after_commands, after_effect, held_at, is_current, latest_of}
 use Rattle.nim_place.proofs.Held.{for_append}
 use Rattle.nim_place.proofs.Keys.{new_received, new_sent}
@@ -65,10 +69,12 @@ use Rattle.nim_template.proofs.Planes.{Has}
 use Rattle.nim_template.proofs.Ranked.{closings_ascend, ranked_ascend, ranked_for, ranked_from}
 use Rattle.nim_template.proofs.Sames.{AllBelow, AreSame, same_left}
 use Rattle.nim_template.proofs.Sizes.{like_commands}
+use Rattle.nim_edit.specs.Carried.{CarriedExtend, IsInstantiatedBy, carried_of, edits_for}
 use Rattle.nim_edit.specs.Form.{IsInForm, WasBuilt}
 use Rattle.nim_edit.specs.Moves.{worker_at}
 use Rattle.nim_edit.proofs.Ascending.{in_order_ascends}
-use Rattle.nim_edit.proofs.Forms.{halves_long}
+use Rattle.nim_edit.proofs.Carried.{IsCarriedBy, carried_in, carried_legal, carried_ruled, edited_for}
+use Rattle.nim_edit.proofs.Forms.{halves_long, long_edits}
 use Rattle.nim_edit.proofs.InOrder.{AreOfHalf, commands_halves, commands_in_order, commands_of_one, commands_onward, in_order_same, late_commands, task_commands}
 use Rattle.nim_edit.proofs.Leaves.{was_left}
 use Rattle.nim_edit.proofs.LegalThen.{was_legal}
@@ -134,7 +140,7 @@ live_below live [] all = tt
 live_below live (c ∷ cs) all = (live_within live c.0 all.0, live_below live cs all.1)
 
 -- the home of each task is live
-homes_live : (place : Placement) (objects : ℕ) (live : List Bool) (forms : List TaskForm) → list_any (λ (flag : Bool). flag) live ≡ true
+pub homes_live : (place : Placement) (objects : ℕ) (live : List Bool) (forms : List TaskForm) → list_any (λ (flag : Bool). flag) live ≡ true
     → list_all (is_fit objects) forms ≡ true → list_all (is_live live) (map (home_of place objects live) forms) ≡ true
 homes_live place objects live [] some fit = refl
 homes_live place objects live (form ∷ forms) some fit =
@@ -143,11 +149,33 @@ homes_live place objects live (form ∷ forms) some fit =
 
 -- ---- an instance
 
-pub was_instances : (place : Placement) (objects : ℕ) (live : List Bool) (recorded : ControllerTemplate) (template : WorkerTemplate)
+-- it may be asked for behind orders so far
+record IsReady (live : List Bool) (objects : ℕ) (template : WorkerTemplate) (epoch base : ℕ) (lists : ℕ → List ToWorker) (given : List (Worker × Command))
+    (versions : Versions) : Type 0 where
+  pub so_far : AreSoFar live epoch lists given versions
+  pub before : IsBefore (length live) objects base versions
+  pub room : base + 1024 < 2 ^ 64
+  pub current : are_current versions template.preconditions ≡ true
+
+-- these orders ask each live worker for it
+record AreAsked (live : List Bool) (template : WorkerTemplate) (epoch instance base : ℕ) (args : List ℤ) (versions : Versions)
+    (more lists : ℕ → List ToWorker) : Type 0 where
+  pub on : (worker : Worker) → is_live live worker ≡ true
+      → IsInFor (lists worker.0) (more worker.0) epoch instance template.block (half_of template worker.0)
+      (own_commands (latest_of versions) base args (half_of template worker.0))
+  pub ruled : (worker : Worker) → All IsOrderByRule (lists worker.0) → All IsOrderByRule (longer lists more worker.0)
+  pub lawful : (job : Job) (worker : Worker) → is_live live worker ≡ true
+      → AreLegal job (commands_of (session_of (lists worker.0)).groups) (own_commands (latest_of versions) base args (half_of template worker.0))
+      → IsLegal job (lists worker.0) → IsLegal job (longer lists more worker.0)
+
+was_extended : (place : Placement) (objects : ℕ) (live : List Bool) (recorded : ControllerTemplate) (template : WorkerTemplate)
     → WasBuilt place objects live recorded template → list_any (λ (flag : Bool). flag) live ≡ true → length live ≤ 16 → objects ≤ 512
     → length recorded.forms ≤ 1024 → list_all (is_fit objects) recorded.forms ≡ true → list_all (is_live live) template.owners ≡ true
-    → InstancesExtend live objects template
-was_instances place objects live recorded template was some workers_few objects_few few fit owned epoch instance base args lists given versions may = extends where
+    → (epoch instance base : ℕ) (args : List ℤ) (more lists : ℕ → List ToWorker) (given : List (Worker × Command)) (versions : Versions)
+    → IsReady live objects template epoch base lists given versions → AreAsked live template epoch instance base args versions more lists
+    → IsInstantiatedBy live objects template epoch instance base args more lists given versions
+was_extended place objects live recorded template was some workers_few objects_few few fit owned epoch instance base args more lists given versions may asked =
+    extends where
   workers : ℕ
   workers = length live
 
@@ -428,16 +456,6 @@ was_instances place objects live recorded template was some workers_few objects_
 
   -- ---- the orders
 
-  more : ℕ → List ToWorker
-  more = instances_of epoch instance template base args versions
-
-  on : (worker : Worker) → is_live live worker ≡ true
-      → IsInFor (lists worker.0) (instance_with epoch instance template.block base args named (half_of template worker.0)) epoch instance template.block
-      (half_of template worker.0) (own_commands named base args (half_of template worker.0))
-  on worker there =
-      in_for epoch instance template.block base args named (half_of template worker.0) (lists worker.0) (may.so_far.ask.begun worker there)
-      (may.so_far.ask.epoch worker there) (may.installed worker there)
-
   own_is : (worker : Worker) → commands_for worker own ≡ own_commands named base args (half_of template worker.0)
   own_is worker = own_of named base args worker template.halves
 
@@ -445,15 +463,15 @@ was_instances place objects live recorded template was some workers_few objects_
   every P f [] = tt
   every P f (w ∷ ws) = (f w, every P f ws)
 
-  extends : IsInstantiated live objects template epoch instance base args lists given versions
+  extends : IsInstantiatedBy live objects template epoch instance base args more lists given versions
   extends = record {
     so_far = record {
       stands = stands;
       ask = record {
-        begun = λ worker there. (on worker there).begun;
-        epoch = λ worker there. (on worker there).epoch;
+        begun = λ worker there. (asked.on worker there).begun;
+        epoch = λ worker there. (asked.on worker there).epoch;
         asked = λ worker there.
-            (on worker there).asked
+            (asked.on worker there).asked
             ∙ ap₂ (λ (xs ys : List Command). xs ++ ys) (may.so_far.ask.asked worker there) (sym (own_is worker))
             ∙ sym (for_append worker given own);
         none = λ worker dead.
@@ -465,21 +483,20 @@ was_instances place objects live recorded template was some workers_few objects_
     before =
         subst (λ (k : ℕ). IsBefore workers objects (base + k) (after_effect base versions template.effect)) (sym many)
         (subst (IsBefore workers objects (base + n)) (sym effect_is) first.before);
-    installed = λ worker there. (on worker there).installed;
+    installed = λ worker there. (asked.on worker there).installed;
     covered = λ worker rule.
-        (let ruled = instance_ruled epoch instance template.block base args named (half_of template worker.0) (lists worker.0) rule in
-        record { by_rule = ruled; covered = orders_cover (longer lists more worker.0) ruled });
+        (let ruled = asked.ruled worker rule in record { by_rule = ruled; covered = orders_cover (longer lists more worker.0) ruled });
     paired =
         longer_paired (is_key_in epoch instance) live lists more (λ worker to. keys_to group to (parcels_from worker start moved))
         (λ worker. keys_to group worker (takings moved)) (record {
           sent = λ worker to there.
-              (on worker there).sent to
+              (asked.on worker there).sent to
               ∙ ap (λ (keys : List Key). keys_sent to (lists worker.0) ++ keys)
               (ap₂ (λ (past cs : List Command). new_sent to group past cs) (may.so_far.ask.asked worker there) (sym (own_is worker))
               ∙ new_sent_same to group (commands_for worker given) (commands_for worker own) (commands_for worker moved) (same worker)
               ∙ sent_for group to worker start (commands_for worker given) moved refl);
           received = λ worker there.
-              (on worker there).received
+              (asked.on worker there).received
               ∙ ap (λ (keys : List Key). keys_received (lists worker.0) ++ keys)
               (ap (new_received group) (sym (own_is worker))
               ∙ new_received_same group (commands_for worker own) (commands_for worker moved) (same worker)
@@ -500,8 +517,7 @@ was_instances place objects live recorded template was some workers_few objects_
               (each_to (λ (key : Key). count_by (is_key key) (keys_to group to (takings moved)) ≡ 1) group to (takings moved) (once_taken to));
         });
     legal = λ job at tasks worker there before.
-        instance_legal job epoch instance template.block base args named (half_of template worker.0) (lists worker.0)
-        (may.so_far.ask.begun worker there) (may.so_far.ask.epoch worker there) (may.installed worker there)
+        asked.lawful job worker there
         (subst (λ (past : List Command). AreLegal job past (own_commands named base args (half_of template worker.0))) (sym (may.so_far.ask.asked worker there))
         (subst (AreLegal job (commands_for worker given)) (own_is worker)
         (was_legal place objects live recorded template was some workers_few objects_few few fit job base args given versions may.so_far.stands may.before
@@ -514,3 +530,87 @@ was_instances place objects live recorded template was some workers_few objects_
           tasks = subst (λ (fs : List TaskForm). take (length fs) (drop base (tasks_of job)) ≡ map (job_task args) fs) was.forms tasks.tasks;
         })));
   }
+
+-- with no edits
+pub was_instances : (place : Placement) (objects : ℕ) (live : List Bool) (recorded : ControllerTemplate) (template : WorkerTemplate)
+    → WasBuilt place objects live recorded template → list_any (λ (flag : Bool). flag) live ≡ true → length live ≤ 16 → objects ≤ 512
+    → length recorded.forms ≤ 1024 → list_all (is_fit objects) recorded.forms ≡ true → list_all (is_live live) template.owners ≡ true
+    → InstancesExtend live objects template
+was_instances place objects live recorded template was some workers_few objects_few few fit owned epoch instance base args lists given versions may =
+    record {
+      so_far = extends.so_far;
+      before = extends.before;
+      installed = extends.installed;
+      covered = extends.covered;
+      paired = extends.paired;
+      legal = extends.legal;
+      next = extends.next;
+    } where
+      half : Worker → List Entry
+      half worker = half_of template worker.0
+
+      extends : IsInstantiatedBy live objects template epoch instance base args (instances_of epoch instance template base args versions) lists given versions
+      extends =
+          was_extended place objects live recorded template was some workers_few objects_few few fit owned epoch instance base args
+          (instances_of epoch instance template base args versions) lists given versions
+          (record { so_far = may.so_far; before = may.before; room = may.room; current = may.current })
+          (record {
+            on = λ worker there.
+                in_for epoch instance template.block base args (latest_of versions) (half worker) (lists worker.0) (may.so_far.ask.begun worker there)
+                (may.so_far.ask.epoch worker there) (may.installed worker there);
+            ruled = λ worker rule. instance_ruled epoch instance template.block base args (latest_of versions) (half worker) (lists worker.0) rule;
+            lawful = λ job worker there legal before.
+                instance_legal job epoch instance template.block base args (latest_of versions) (half worker) (lists worker.0)
+                (may.so_far.ask.begun worker there) (may.so_far.ask.epoch worker there) (may.installed worker there) legal before;
+          })
+
+-- with the edits that weren't sent yet
+pub was_carried : (place : Placement) (objects : ℕ) (live : List Bool) (recorded : ControllerTemplate) (template : WorkerTemplate)
+    → WasBuilt place objects live recorded template → list_any (λ (flag : Bool). flag) live ≡ true → length live ≤ 16 → objects ≤ 512
+    → length recorded.forms ≤ 1024 → list_all (is_fit objects) recorded.forms ≡ true → list_all (is_live live) template.owners ≡ true
+    → CarriedExtend live objects template
+was_carried place objects live recorded template was some workers_few objects_few few fit owned sent epoch instance base args lists given versions may =
+    record {
+      extended =
+          was_extended place objects live recorded template was some workers_few objects_few few fit owned epoch instance base args
+          (carried_of epoch instance template base args versions) lists given versions
+          (record { so_far = may.so_far; before = may.before; room = may.room; current = may.current })
+          (record {
+            on = λ worker there. (carried worker there).list;
+            ruled = λ worker rule.
+                carried_ruled epoch instance template.block base args (latest_of versions) (edits worker) (half worker) (lists worker.0) rule;
+            lawful = λ job worker there legal before.
+                carried_legal job epoch instance template.block base args (latest_of versions) (edits worker) (half worker) (lists worker.0)
+                (may.so_far.ask.begun worker there) (may.so_far.ask.epoch worker there) (has worker there) legal before;
+          });
+      as_sent = record { edited = refl; there = λ worker there. (carried worker there).half_is };
+    } where
+      half : Worker → List Entry
+      half worker = half_of template worker.0
+
+      edits : Worker → List Edit
+      edits worker = edits_for template.unsent worker.0
+
+      wide : length template.built ≡ length live
+      wide =
+          ap (λ (halves : List (List Entry)). length halves) was.built
+          ∙ length-map-range_with_len (λ (k : ℕ). half_for (record { 0 = k }) (entries_of place objects live recorded.forms)) 0 (length live)
+
+      sent_long : length sent ≡ length live
+      sent_long =
+          sym (long_edits sent template.unsent) ∙ sym (ap (λ (halves : List (List Entry)). length halves) may.as_sent.edited)
+          ∙ halves_long template was.form ∙ wide
+
+      has : (worker : Worker) → is_live live worker ≡ true
+          → edited_by (edits_for template.unsent worker.0) ((session_of (lists worker.0)).halves template.block) ≡ half_of template worker.0
+      has worker there =
+          ap (edited_by (edits_for template.unsent worker.0)) (may.as_sent.there worker there)
+          ∙ sym (edited_for sent template.unsent worker.0 (omega (arith, live_within live worker there, sent_long)))
+          ∙ sym (ap (λ (halves : List (List Entry)). slice_index_or halves worker.0 []) may.as_sent.edited)
+
+      carried : (worker : Worker) → is_live live worker ≡ true
+          → IsCarriedBy (lists worker.0) epoch instance template.block base args (latest_of versions) (edits_for template.unsent worker.0)
+          (half_of template worker.0)
+      carried worker there =
+          carried_in epoch instance template.block base args (latest_of versions) (edits worker) (half worker) (lists worker.0)
+          (may.so_far.ask.begun worker there) (may.so_far.ask.epoch worker there) (has worker there)

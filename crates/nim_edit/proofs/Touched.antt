@@ -1,9 +1,9 @@
 -- The halves that the edits of a move touch, put in place each with its edit, are those with all edits.
-use Rattle.std.proofs.Common.{◌≡◌, ℕ, zero, suc, ◌≤◌, Bool, true, false, List, [], ◌∷◌, ◌++◌, get_or, length, map, take, refl, ap, ap₂, sym, ◌∙◌}
+use Rattle.std.proofs.Common.{◌≡◌, ℕ, zero, suc, ◌≤◌, ◌<◌, Bool, true, false, List, [], ◌∷◌, ◌++◌, get_or, length, map, take, refl, ap, ap₂, sym, ◌∙◌}
 use Rattle.std.proofs.Common.{arith}
 use Rattle.std.specs.Prelude.{◌==◌, ◌&&◌, not, if◌then◌else◌, slice_index_or, slice_set}
 use Rattle.std.specs.List.{AllByRecursion, fold, list_all}
-use Rattle.std.proofs.lemmas.Bool.{eqb-true, eqb-false, ne_eqb}
+use Rattle.std.proofs.lemmas.Bool.{eqb-true, eqb-false, ltb-true, ne_eqb}
 use Rattle.std.proofs.lemmas.List.{get_or-set_other}
 use Rattle.nim_base.specs.declared.number.Worker.{Worker}
 use Rattle.nim_command.specs.declared.edit.Edit.{Edit}
@@ -60,13 +60,17 @@ touched_below n halves (e ∷ edits) below =
     let each = both_true (is_edit_below n e) (list_all (is_edit_below n) edits) below in
     ap₂ (λ (a b : Bool). a && b) each.0 (touched_below n halves edits each.1)
 
-taken_all : {X : Type 0} (n : ℕ) (xs : List X) → length xs ≤ n → take n xs ≡ xs
-taken_all n [] few = taken_none n where
-  taken_none : {X : Type 0} (k : ℕ) → take {X = X} k [] ≡ []
-  taken_none zero = refl
-  taken_none (suc k) = refl
+taken_all : (n : ℕ) (xs : List (Worker × Edit)) → length xs ≤ n → take n xs ≡ xs
+taken_all zero [] few = refl
+taken_all (suc n) [] few = refl
 taken_all zero (x ∷ xs) few = absurd (omega (arith, few))
-taken_all {X} (suc n) (x ∷ xs) few = ap (λ (ys : List X). x ∷ ys) (taken_all n xs (omega (arith, few)))
+taken_all (suc n) (x ∷ xs) few = ap (λ (ys : List (Worker × Edit)). x ∷ ys) (taken_all n xs (omega (arith, few)))
+
+-- the first of halves that are still to be put is one of so many
+pub first_below : (n : ℕ) (worker : Worker) (half : List Entry) (rest : List (Worker × List Entry))
+    → list_all (is_half_below n) ((worker, half) ∷ rest) ≡ true → worker.0 < n
+first_below n worker half rest below =
+    ltb-true worker.0 n (both_true (is_half_below n (worker, half)) (list_all (is_half_below n) rest) below).0
 
 -- once all are touched
 pub all_touched : (halves : List (List Entry)) (edits : List (Worker × Edit)) (touched : List (Worker × List Entry)) (n : ℕ)

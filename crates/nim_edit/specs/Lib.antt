@@ -1,3 +1,4 @@
+pub mod Carried
 pub mod Cells
 pub mod Form
 pub mod Halves

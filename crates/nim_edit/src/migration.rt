@@ -40,6 +40,8 @@ pub fn migrate(
     ensures form { IsInForm template.new }
     ensures built { (place : Place) (objects : ℕ) (living : List Bool) (recorded : ControllerTemplate)
         → WasBuilt place objects living recorded template.old → WasBuilt place objects living recorded template.new }
+    ensures owned { list_all (is_live live.now) template.old.owners ≡ true
+        → list_all (is_live live.now) template.new.owners ≡ true }
     ensures unsent { (sent : List (List Entry)) → template.old.halves ≡ fold moves.with_edit sent template.old.unsent
         → template.new.halves ≡ fold moves.with_edit sent template.new.unsent }
     ensures ascend { OnOk result (list_all (does_ascend 0) template.new.halves ≡ true) }

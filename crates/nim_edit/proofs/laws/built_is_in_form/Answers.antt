@@ -1,6 +1,11 @@
-use Rattle.std.proofs.Common.{refl, subst, sym}
+use Rattle.std.proofs.Common.{ap, refl, subst, sym, ◌∙◌}
+use Rattle.std.specs.List.{list_all}
+use Rattle.nim_base.specs.declared.number.Worker.{Worker}
+use Rattle.nim_command.specs.declared.template.WorkerTemplate.{WorkerTemplate}
+use Rattle.nim_place.specs.Extends.{is_live}
 use Rattle.nim_edit.specs.Form.{IsInForm, WasBuilt}
 use Rattle.nim_edit.proofs.Built.{built_form}
+use Rattle.nim_edit.proofs.MovedExtend.{homes_live}
 use Rattle.nim_edit.proofs.laws.built_is_in_form.Goals as goal
 
 pub returns-clause-form : goal.returns-clause-form
@@ -23,3 +28,8 @@ returns-clause-built c =
       effect = refl;
       homes = refl;
     })
+
+pub returns-clause-owned : goal.returns-clause-owned
+returns-clause-owned c =
+    ap (λ (t : WorkerTemplate). list_all (is_live c.args.live.now) t.owners) c.requires.built
+    ∙ homes_live c.args.place.now c.args.objects c.args.live.now c.args.recorded.now.forms c.requires.live c.requires.fit

@@ -1,7 +1,7 @@
 use Rattle.nim_edit.proofs.Installs.{form_installs}
 use Rattle.nim_edit.proofs.Leaves.{was_again, was_effect, was_left}
 use Rattle.nim_edit.proofs.LegalThen.{was_legal}
-use Rattle.nim_edit.proofs.MovedExtend.{was_instances}
+use Rattle.nim_edit.proofs.MovedExtend.{was_carried, was_instances}
 use Rattle.nim_edit.proofs.MovedSound.{was_sound}
 use Rattle.nim_edit.proofs.laws.moved_stays_good.Goals as goal
 
@@ -35,4 +35,9 @@ returns-clause-legal c =
 pub returns-clause-instances : goal.returns-clause-instances
 returns-clause-instances c =
     was_instances c.args.place.now c.args.objects c.args.live.now c.args.recorded.now c.args.template.now c.requires.built c.requires.live
+    c.requires.workers c.requires.objects c.requires.many c.requires.fit
+
+pub returns-clause-carried : goal.returns-clause-carried
+returns-clause-carried c =
+    was_carried c.args.place.now c.args.objects c.args.live.now c.args.recorded.now c.args.template.now c.requires.built c.requires.live
     c.requires.workers c.requires.objects c.requires.many c.requires.fit

@@ -1,12 +1,13 @@
-use Rattle.std.proofs.Common.{◌∙◌, ℕ, List, ap₂, refl, rules}
+use Rattle.std.proofs.Common.{◌∙◌, ℕ, List, ap, ap₂, refl, rules}
 use Rattle.std.specs.List.{list_all}
 use Rattle.nim_base.specs.declared.number.Worker.{Worker}
 use Rattle.nim_command.specs.declared.edit.Edit.{Edit}
+use Rattle.nim_place.specs.Extends.{is_live}
 use Rattle.nim_edit.specs.Form.{is_edit_below}
 use Rattle.nim_edit.proofs.ByRule.{halves_ascend, halves_ruled}
 use Rattle.nim_edit.proofs.Effects.{kept_effect}
 use Rattle.nim_edit.specs.Moves.{are_apart, edits_of}
-use Rattle.nim_edit.proofs.Forms.{halves_long, moved_form, moved_unsent, taken_move}
+use Rattle.nim_edit.proofs.Forms.{halves_long, moved_form, moved_unsent, owned_still, taken_move}
 use Rattle.nim_edit.proofs.Touched.{moves_apart}
 use Rattle.nim_edit.proofs.migration.migrate.Goals as goal
 
@@ -40,6 +41,12 @@ returns-clause-built c =
       effect = was.effect;
       homes = was.homes;
     }
+
+pub returns-clause-owned : goal.returns-clause-owned
+returns-clause-owned c =
+    λ all.
+    ap (list_all (is_live c.args.live.now)) c.put_owner.ensures
+    ∙ owned_still c.args.template.now c.args.task c.args.to c.args.live.now (search rules) all
 
 pub returns-clause-unsent : goal.returns-clause-unsent
 returns-clause-unsent c =
