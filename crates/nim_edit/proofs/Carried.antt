@@ -1,6 +1,6 @@
 -- One worker's order of an instance that carries edits: what its list comes to with it.
-use Rattle.std.proofs.Common.{◌≡◌, ℕ, ◌+◌, ◌<◌, Bool, true, false, List, [], ◌∷◌, ◌++◌, get_or, length, map, refl, ap, sym, subst, ◌∙◌, arith}
-use Rattle.std.specs.Prelude.{◌==◌, All, if◌then◌else◌, slice_index_or, ℤ}
+use Rattle.std.proofs.Common.{◌≡◌, ℕ, ◌<◌, Bool, true, false, List, [], ◌∷◌, ◌++◌, get_or, length, map, refl, ap, sym, subst, ◌∙◌, arith}
+use Rattle.std.specs.Prelude.{◌==◌, All, if◌then◌else◌, ℤ}
 use Rattle.std.specs.List.{filter, flat_map, fold}
 use Rattle.std.proofs.lemmas.Bool.{eq-eqb, eqb-false, eqb-true}
 use Rattle.std.proofs.lemmas.List.{append-nil, get_or-set_other, get_or-set_same, length-set}
@@ -27,7 +27,7 @@ use Rattle.nim_place.proofs.Keys.{keys_received_by, keys_sent_by}
 use Rattle.nim_template.specs.Given.{IsInstalled}
 use Rattle.nim_template.proofs.Bare.{new_received_by, new_sent_by}
 use Rattle.nim_template.proofs.Entries.{own_commands}
-use Rattle.nim_template.proofs.OneWorker.{IsInFor, counts, in_for, instance_legal, instance_ruled}
+use Rattle.nim_template.proofs.OneWorker.{IsInFor, counts, in_for}
 use Rattle.nim_edit.specs.Carried.{carried_with, carrying, edits_for}
 use Rattle.nim_edit.specs.Moves.{with_edit}
 

@@ -19,10 +19,12 @@ pub mod Masks
 pub mod Migrations
 pub mod MovedExtend
 pub mod MovedInstances
+pub mod MovedOrders
 pub mod MovedParcels
 pub mod MovedSound
 pub mod NoTasks
 pub mod OneTask
+pub mod OwnCommands
 pub mod Owners
 pub mod ParcelKeys
 pub mod Parcels
@@ -35,6 +37,7 @@ pub mod SamePlanes
 pub mod Segments
 pub mod SlotsSo
 pub mod Stays
+pub mod Taken
 pub mod TasksEnds
 pub mod TasksParcels
 pub mod Touched

@@ -1,12 +1,10 @@
 -- An instance of a template that was built, and of which tasks moved since, extends orders so far.
-use Rattle.std.proofs.Common.{◌≡◌, ℕ, zero, suc, ◌+◌, ◌<◌, ◌≤◌, Bool, true, false, List, [], ◌∷◌, ◌++◌, length, map, refl, ap, ap₂, sym, subst, ◌∙◌}
+use Rattle.std.proofs.Common.{◌≡◌, ℕ, zero, suc, ◌+◌, ◌<◌, ◌≤◌, Bool, true, false, List, [], ◌∷◌, ◌++◌, map, refl, ap, ap₂, sym, subst, ◌∙◌}
 use Rattle.std.proofs.Common.{arith, Option, None, Some}
-use Rattle.std.specs.Prelude.{◌*◌, ◌^◌, ◌==◌, ◌&&◌, count_by, if◌then◌else◌, nat_lt, not, slice_index_or, ℤ}
-use Rattle.std.specs.List.{AllByRecursion, filter, flat_map, list_all, list_any, range_with_len}
-use Rattle.std.specs.Option.{option_map}
-use Rattle.std.proofs.lemmas.Bool.{and_from, eq-eqb, false_from_ne_true, leb-true, ltb-true, ne_eqb}
+use Rattle.std.specs.Prelude.{◌*◌, ◌==◌, if◌then◌else◌, nat_lt, not, ℤ}
+use Rattle.std.specs.List.{AllByRecursion, filter, flat_map, range_with_len}
+use Rattle.std.proofs.lemmas.Bool.{false_from_ne_true, ltb-true}
 use Rattle.std.proofs.lemmas.List.{append-nil, append_assoc}
-use Rattle.std.proofs.Math.Nat.{mul-le-mul_left}
 use Rattle.nim_base.specs.declared.number.Object.{Object}
 use Rattle.nim_base.specs.declared.number.Slot.{Slot}
 use Rattle.nim_base.specs.declared.number.Worker.{Worker}
@@ -18,37 +16,30 @@ use Rattle.nim_command.specs.declared.edit.Spec.{Spec}
 use Rattle.nim_command.specs.declared.entry.Entry.{Entry}
 use Rattle.nim_command.specs.declared.entry.EntryKind.{EntryKind}
 use Rattle.nim_command.specs.declared.template.WorkerTemplate.{WorkerTemplate}
-use Rattle.nim_command.specs.Edits.{entry_of, first_reads, forward_receive, forward_send, return_receives, return_sends, run_over}
+use Rattle.nim_command.specs.Edits.{entry_of, first_reads, forward_receive, forward_send, return_receives, return_sends}
 use Rattle.nim_command.specs.Expansion.{version_at}
-use Rattle.nim_command.specs.Holds.{content_at, holds}
-use Rattle.nim_command.specs.Numbers.{entry_number, main_slot, offset_after, scratch_slot}
-use Rattle.nim_command.specs.Ranks.{is_patch_number}
+use Rattle.nim_command.specs.Holds.{content_at}
+use Rattle.nim_command.specs.Numbers.{entry_number, main_slot, scratch_slot}
 use Rattle.nim_command.specs.Slots.{object_of}
 use Rattle.nim_place.specs.declared.placement.Placement.{Placement}
 use Rattle.nim_place.specs.Schedule.{moves, receive_of, send_of}
-use Rattle.nim_place.specs.Sound.{commands_at, commands_from}
-use Rattle.nim_place.specs.Stands.{Stands, StandsOn, commands_for, is_aside}
-use Rattle.nim_place.specs.Versions.{Versions, after_commands, after_kind, held_at, latest_of, puts_of, version_of, with_version}
-use Rattle.nim_place.proofs.Held.{for_append}
+use Rattle.nim_place.specs.Stands.{Stands, StandsOn, is_aside}
+use Rattle.nim_place.specs.Versions.{Versions, after_commands, after_kind, latest_of, puts_of, version_of, with_version}
 use Rattle.nim_place.proofs.History.{stands_more}
-use Rattle.nim_place.proofs.Legal.{main_of}
 use Rattle.nim_place.proofs.Pairs.{each_append}
 use Rattle.nim_place.proofs.Puts.{IsPut, IsWhole, put_all}
 use Rattle.nim_template.specs.Closing.{closed_for, closing_entries, closing_from, closing_number, closings, copy_from}
-use Rattle.nim_template.specs.Tasks.{scheduled_from, task_with}
 use Rattle.nim_template.specs.Walk.{home_of, offset_for}
 use Rattle.nim_template.proofs.Chosen.{command_at}
 use Rattle.nim_template.proofs.Copies.{IsCopy, receive_at}
-use Rattle.nim_template.proofs.Effects.{some_kept}
 use Rattle.nim_template.proofs.Ends.{IsClosing, closing_next}
 use Rattle.nim_template.proofs.InTurn.{closing_copy}
 use Rattle.nim_template.proofs.Planes.{Has, current_there, taken_is}
 use Rattle.nim_template.proofs.Ranked.{ranked_from}
 use Rattle.nim_template.proofs.Sames.{AllBelow}
-use Rattle.nim_edit.specs.Form.{IsInForm}
 use Rattle.nim_edit.specs.Moves.{mask_for, spec_of, worker_at}
-use Rattle.nim_edit.proofs.Ascending.{away_commands, late_is}
-use Rattle.nim_edit.proofs.InOrder.{commands_in_order, commands_onward, commands_under, early_commands, late_commands, placed_command, task_commands}
+use Rattle.nim_edit.proofs.Ascending.{late_is}
+use Rattle.nim_edit.proofs.InOrder.{commands_onward, early_commands, late_commands, placed_command, task_commands}
 use Rattle.nim_edit.proofs.LateEntries.{at_worker}
 use Rattle.nim_edit.proofs.Parcels.{Held, Parcel, has_puts, held_with, parcels, puts_by, send_keeps, takings, version_in}
 use Rattle.nim_edit.proofs.Puts.{FirstRead}
@@ -245,9 +236,11 @@ late_of_two P template before base args task at_home at_owner = either (owner.0 
   either false apart =
       subst (AreOf P) (sym (late_is template before base args task false apart))
       (both _ _ (placed_of P before base args home (map (forward_send task owner) (filter (λ (r : FirstRead). not r.there) firsts)) at_home)
-      (both _ _ (placed_of P before base args owner (map (forward_receive task) firsts) at_owner)
-      (at_owner, both _ _ (placed_of P before base args owner (return_sends task home 0 spec.writes) at_owner)
-      (placed_of P before base args home (return_receives task 0 spec.writes) at_home))))
+      (both _ _ (placed_of P before base args owner (map (forward_receive task) firsts) at_owner) (
+        at_owner,
+        both _ _ (placed_of P before base args owner (return_sends task home 0 spec.writes) at_owner)
+            (placed_of P before base args home (return_receives task 0 spec.writes) at_home),
+      )))
 
 -- what is true of all commands that were built, and of those of a task's later phases, is true of all commands in order
 pub each_in_order : (P : Worker × Command → Type 0) (template : WorkerTemplate) (before : Object → ℕ) (base : ℕ) (args : List ℤ)

@@ -1,5 +1,5 @@
 -- What a task that runs elsewhere sends and receives: what it reads goes to its owner, and what it writes comes back.
-use Rattle.std.proofs.Common.{◌≡◌, ℕ, ◌+◌, ◌<◌, ◌≤◌, Bool, true, false, List, [], ◌∷◌, ◌++◌, map, refl, ap, ap₂, sym, subst, ◌∙◌, arith}
+use Rattle.std.proofs.Common.{◌≡◌, ℕ, ◌+◌, ◌<◌, Bool, true, false, List, [], ◌∷◌, ◌++◌, map, refl, ap, ap₂, sym, subst, ◌∙◌, arith}
 use Rattle.std.proofs.Common.{Some}
 use Rattle.std.specs.Prelude.{◌==◌, ◌&&◌, ◌||◌, not, if◌then◌else◌, ℤ}
 use Rattle.std.specs.List.{AllByRecursion, filter}
@@ -10,10 +10,9 @@ use Rattle.nim_base.specs.declared.number.Slot.{Slot}
 use Rattle.nim_base.specs.declared.number.Worker.{Worker}
 use Rattle.nim_command.specs.declared.command.Command.{Command}
 use Rattle.nim_command.specs.declared.edit.Spec.{Spec}
-use Rattle.nim_command.specs.declared.entry.Entry.{Entry}
 use Rattle.nim_command.specs.declared.entry.EntryKind.{EntryKind}
 use Rattle.nim_command.specs.Edits.{entry_of, forward_receive, forward_send, return_receives, return_sends, run_over, written_slots}
-use Rattle.nim_command.specs.Expansion.{param_with, version_at}
+use Rattle.nim_command.specs.Expansion.{version_at}
 use Rattle.nim_command.specs.Holds.{Content, content_at, left_by, version_after}
 use Rattle.nim_command.specs.Numbers.{counted_from, entry_number, main_slot, offset_after, scratch_slot, task_of}
 use Rattle.nim_command.specs.Slots.{is_among, object_of}
@@ -163,8 +162,11 @@ sent_back : (before : Object → ℕ) (base : ℕ) (args : List ℤ) (task : ℕ
 sent_back before base args task home owner version held index [] few is low there = refl
 sent_back before base args task home owner version held index (o ∷ objects) few is low there =
     ap₂ (λ (p : Object) (v : ℕ). (home, entry_number task 6 index, p, v)
-    ∷ parcels (held_with (placed_command before base args (owner, entry_of (entry_number task 5 index) (EntryKind.Send (scratch_slot o) home
-    (entry_number task 6 index)))) held)
+    ∷ parcels (held_with (placed_command before base args (
+      owner,
+      entry_of (entry_number task 5 index) (EntryKind.Send (scratch_slot o) home
+          (entry_number task 6 index)),
+    )) held)
     (map (placed_command before base args) (at_worker owner (return_sends task home (index + 1) objects))))
     (scratch_of o low.0 ∙ sym (main_of o low.0))
     (ap version_in there.0 ∙ is ∙ sym (same_version base (before (object_of (main_slot o))) task few))

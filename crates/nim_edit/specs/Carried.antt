@@ -1,5 +1,5 @@
 -- The orders of an instance that carry the edits that weren't sent yet, and what they keep true of all orders so far.
-use Rattle.std.specs.Prelude.{◌≡◌, ℕ, ◌+◌, ◌^◌, ◌<◌, ◌==◌, Bool, true, ℤ, List, [], ◌∷◌, ◌++◌, length, map, slice_index_or}
+use Rattle.std.specs.Prelude.{◌≡◌, ℕ, ◌+◌, ◌^◌, ◌<◌, ◌==◌, Bool, true, ℤ, List, [], ◌∷◌, length, map, slice_index_or}
 use Rattle.std.specs.List.{filter, flat_map, fold}
 use Rattle.nim_base.specs.declared.number.Object.{Object}
 use Rattle.nim_base.specs.declared.number.Worker.{Worker}
@@ -10,14 +10,13 @@ use Rattle.nim_command.specs.declared.template.WorkerTemplate.{WorkerTemplate}
 use Rattle.nim_message.specs.declared.order.ToWorker.{ToWorker}
 use Rattle.nim_message.specs.declared.order.ToWorker.TheVariants.{Instantiate}
 use Rattle.nim_message.specs.Orders.{session_of}
-use Rattle.nim_job.specs.declared.job.Job.{Job}
-use Rattle.nim_place.specs.Extends.{LongerIsCovered, LongerIsLegal, LongerIsPaired, is_live, longer}
+use Rattle.nim_place.specs.Extends.{is_live, longer}
 use Rattle.nim_place.specs.Sound.{version_named}
-use Rattle.nim_place.specs.TaskOrders.{AreSoFar, IsAt}
-use Rattle.nim_place.specs.Versions.{Versions, after_effect, latest_of}
+use Rattle.nim_place.specs.TaskOrders.{AreSoFar}
+use Rattle.nim_place.specs.Versions.{Versions, latest_of}
 use Rattle.nim_template.specs.Again.{IsBefore, are_current}
-use Rattle.nim_template.specs.Given.{AreInstalled, AreTasksAt, is_key_in}
-use Rattle.nim_template.specs.Instance.{half_of, instance_of}
+use Rattle.nim_template.specs.Given.{IsInstantiated}
+use Rattle.nim_template.specs.Instance.{half_of}
 use Rattle.nim_edit.specs.Moves.{with_edit}
 
 -- ---- the orders
@@ -34,13 +33,16 @@ carrying epoch instance block base args before edits half =
 -- none where there are neither edits nor entries
 abbrev pub carried_with : ℕ → ℕ → ℕ → ℕ → List ℤ → (Object → ℕ) → List Edit → List Entry → List ToWorker
 carried_with epoch instance block base args before [] [] = []
-carried_with epoch instance block base args before [] (entry ∷ entries) = carrying epoch instance block base args before [] (entry ∷ entries)
-carried_with epoch instance block base args before (edit ∷ edits) half = carrying epoch instance block base args before (edit ∷ edits) half
+carried_with epoch instance block base args before [] (entry ∷ entries) =
+    carrying epoch instance block base args before [] (entry ∷ entries)
+carried_with epoch instance block base args before (edit ∷ edits) half =
+    carrying epoch instance block base args before (edit ∷ edits) half
 
 -- an instance of a template, whose orders carry its unsent edits
 abbrev pub carried_of : ℕ → ℕ → WorkerTemplate → ℕ → List ℤ → Versions → ℕ → List ToWorker
 carried_of epoch instance template base args versions =
-    λ number. carried_with epoch instance template.block base args (latest_of versions) (edits_for template.unsent number) (half_of template number)
+    λ number. carried_with epoch instance template.block base args (latest_of versions)
+    (edits_for template.unsent number) (half_of template number)
 
 -- ---- what workers have
 
@@ -54,28 +56,8 @@ pub record AreAsSent (live : List Bool) (template : WorkerTemplate) (sent : List
 
 -- ---- an instance
 
--- These orders ask for an instance behind orders so far, and extend them.
-pub record IsInstantiatedBy (live : List Bool) (objects : ℕ) (template : WorkerTemplate) (epoch instance base : ℕ)
-    (args : List ℤ) (more : ℕ → List ToWorker) (lists : ℕ → List ToWorker) (given : List (Worker × Command))
-    (versions : Versions) : Type 0 where
-  -- all orders ask for its commands too, and the map behind its effect stands for them
-  pub so_far : AreSoFar live epoch (longer lists more) (given ++ instance_of template base args versions)
-      (after_effect base versions template.effect)
-  -- no version of this map is past the position behind the block's tasks
-  pub before : IsBefore (length live) objects (base + length template.forms) (after_effect base versions template.effect)
-  -- its halves are installed then
-  pub installed : AreInstalled live template (longer lists more)
-  pub covered : LongerIsCovered lists more
-  -- each new key is one of this instance, and of no patch
-  pub paired : LongerIsPaired (is_key_in epoch instance) live lists more
-  -- where the map is at the base of a job, and the job's tasks from there on are the block's, legal lists stay legal,
-  -- and the map behind the effect is behind these tasks
-  pub legal : (job : Job) → IsAt job base versions → AreTasksAt job base args template → LongerIsLegal job live lists more
-  pub next : (job : Job) → IsAt job base versions → AreTasksAt job base args template
-      → IsAt job (base + length template.forms) (after_effect base versions template.effect)
-
--- An instance may be asked for with edits: workers have the halves as they were last sent, and the preconditions hold in
--- the map that stands for the orders so far.
+-- An instance may be asked for with edits: workers have the halves as they were last sent, and the preconditions hold
+-- in the map that stands for the orders so far.
 pub record MayCarry (live : List Bool) (objects : ℕ) (template : WorkerTemplate) (sent : List (List Entry))
     (epoch base : ℕ) (lists : ℕ → List ToWorker) (given : List (Worker × Command)) (versions : Versions) : Type 0 where
   pub so_far : AreSoFar live epoch lists given versions
@@ -87,7 +69,7 @@ pub record MayCarry (live : List Bool) (objects : ℕ) (template : WorkerTemplat
 -- Behind it no edit is left to be sent.
 pub record IsCarried (live : List Bool) (objects : ℕ) (template : WorkerTemplate) (epoch instance base : ℕ)
     (args : List ℤ) (lists : ℕ → List ToWorker) (given : List (Worker × Command)) (versions : Versions) : Type 0 where
-  pub extended : IsInstantiatedBy live objects template epoch instance base args
+  pub extended : IsInstantiated live objects template epoch instance base args
       (carried_of epoch instance template base args versions) lists given versions
   pub as_sent : AreAsSent live (record template { unsent = [] }) template.halves
       (longer lists (carried_of epoch instance template base args versions))

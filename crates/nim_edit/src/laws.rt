@@ -16,7 +16,8 @@ use nim_command::WorkerTemplate;
 use nim_place::Placement;
 use nim_template::ControllerTemplate;
 
-/// What `build_halves` of `nim_template` gives is in form, so that its tasks may move, and was built. Each owner is live.
+/// What `build_halves` of `nim_template` gives is in form, so that its tasks may move, and was built, with owners that
+/// are live.
 pub fn built_is_in_form(
     template: &WorkerTemplate,
     recorded: &ControllerTemplate,

@@ -97,25 +97,25 @@ pub record AreTasksAt (job : Job) (base : ℕ) (args : List ℤ) (template : Wor
 abbrev pub is_key_in : ℕ → ℕ → Key → Bool
 is_key_in epoch instance key = (key.epoch == epoch) && (key.instance == instance) && not (is_patch_number key.entry)
 
--- An instance was asked for behind orders so far.
+-- An instance was asked for behind orders so far, by these orders.
 pub record IsInstantiated (live : List Bool) (objects : ℕ) (template : WorkerTemplate) (epoch instance base : ℕ)
-    (args : List ℤ) (lists : ℕ → List ToWorker) (given : List (Worker × Command)) (versions : Versions) : Type 0 where
+    (args : List ℤ) (more lists : ℕ → List ToWorker) (given : List (Worker × Command)) (versions : Versions)
+    : Type 0 where
   -- all orders ask for its commands too, and the map behind its effect stands for them
-  pub so_far : AreSoFar live epoch (longer lists (instances_of epoch instance template base args versions))
-      (given ++ instance_of template base args versions) (after_effect base versions template.effect)
+  pub so_far : AreSoFar live epoch (longer lists more) (given ++ instance_of template base args versions)
+      (after_effect base versions template.effect)
   -- no version of this map is past the position behind the block's tasks
   pub before : IsBefore (length live) objects (base + length template.forms)
       (after_effect base versions template.effect)
   -- its halves are installed still
-  pub installed : AreInstalled live template (longer lists (instances_of epoch instance template base args versions))
-  pub covered : LongerIsCovered lists (instances_of epoch instance template base args versions)
+  pub installed : AreInstalled live template (longer lists more)
+  pub covered : LongerIsCovered lists more
   -- each new key is one of this instance, and of no patch
-  pub paired :
-      LongerIsPaired (is_key_in epoch instance) live lists (instances_of epoch instance template base args versions)
+  pub paired : LongerIsPaired (is_key_in epoch instance) live lists more
   -- where the map is at the base of a job, and the job's tasks from there on are the block's, legal lists stay legal,
   -- and the map behind the effect is behind these tasks
   pub legal : (job : Job) → IsAt job base versions → AreTasksAt job base args template
-      → LongerIsLegal job live lists (instances_of epoch instance template base args versions)
+      → LongerIsLegal job live lists more
   pub next : (job : Job) → IsAt job base versions → AreTasksAt job base args template
       → IsAt job (base + length template.forms) (after_effect base versions template.effect)
 
@@ -125,4 +125,5 @@ InstancesExtend live objects template =
     (epoch instance base : ℕ) (args : List ℤ) (lists : ℕ → List ToWorker) (given : List (Worker × Command))
     (versions : Versions)
     → MayInstantiate live objects template epoch base lists given versions
-    → IsInstantiated live objects template epoch instance base args lists given versions
+    → IsInstantiated live objects template epoch instance base args
+    (instances_of epoch instance template base args versions) lists given versions

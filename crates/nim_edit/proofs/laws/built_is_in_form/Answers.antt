@@ -1,11 +1,10 @@
 use Rattle.std.proofs.Common.{ap, refl, subst, sym, ◌∙◌}
 use Rattle.std.specs.List.{list_all}
-use Rattle.nim_base.specs.declared.number.Worker.{Worker}
 use Rattle.nim_command.specs.declared.template.WorkerTemplate.{WorkerTemplate}
 use Rattle.nim_place.specs.Extends.{is_live}
 use Rattle.nim_edit.specs.Form.{IsInForm, WasBuilt}
 use Rattle.nim_edit.proofs.Built.{built_form}
-use Rattle.nim_edit.proofs.MovedExtend.{homes_live}
+use Rattle.nim_edit.proofs.OwnCommands.{homes_live}
 use Rattle.nim_edit.proofs.laws.built_is_in_form.Goals as goal
 
 pub returns-clause-form : goal.returns-clause-form

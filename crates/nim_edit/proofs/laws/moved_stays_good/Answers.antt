@@ -1,7 +1,7 @@
 use Rattle.nim_edit.proofs.Installs.{form_installs}
 use Rattle.nim_edit.proofs.Leaves.{was_again, was_effect, was_left}
 use Rattle.nim_edit.proofs.LegalThen.{was_legal}
-use Rattle.nim_edit.proofs.MovedExtend.{was_carried, was_instances}
+use Rattle.nim_edit.proofs.MovedOrders.{was_carried, was_instances}
 use Rattle.nim_edit.proofs.MovedSound.{was_sound}
 use Rattle.nim_edit.proofs.laws.moved_stays_good.Goals as goal
 
