@@ -46,10 +46,11 @@ use Rattle.nim_template.proofs.Fits.{few_reads, read_below}
 use Rattle.nim_template.proofs.Given.{tasks_from}
 use Rattle.nim_template.proofs.Halves.{for_plain}
 use Rattle.nim_template.proofs.InTurn.{AreTasksFrom}
+use Rattle.nim_template.proofs.IsSound.{shorts}
 use Rattle.nim_template.proofs.Left.{IsDoneBy, closing_of, done_by}
 use Rattle.nim_template.proofs.Numbers.{closings_few, filter_few, slots_long}
 use Rattle.nim_template.proofs.Plain.{received_plain, sent_plain}
-use Rattle.nim_template.proofs.Ranked.{AreShort, closings_ascend, ranked_ascend, ranked_for, ranked_from, ranked_task}
+use Rattle.nim_template.proofs.Ranked.{closings_ascend, ranked_ascend, ranked_for, ranked_from, ranked_task}
 use Rattle.nim_template.proofs.RankedEnds.{all_ends, ends_received, ends_sent}
 use Rattle.nim_template.proofs.Sames.{AreSame}
 use Rattle.nim_template.proofs.Walks.{IsWalked, IsWalkedTo, walk_kept}
@@ -79,11 +80,6 @@ needs_good version slots workers objects offsets (need ∷ needs) rows columns a
       held.0,
       needs_good version slots workers objects offsets needs rows columns are.3 held.1,
     )
-
-shorts : (objects : ℕ) (forms : List TaskForm) → list_all (is_fit objects) forms ≡ true → AreShort forms
-shorts objects [] fit = tt
-shorts objects (form ∷ forms) fit =
-    let each = both_true (is_fit objects form) (list_all (is_fit objects) forms) fit in (few_reads objects form each.0, shorts objects forms each.1)
 
 -- ---- copies
 
@@ -246,6 +242,52 @@ needs_low : (offsets : Versions) (objects : ℕ) (needs : List (Worker × Object
 needs_low offsets objects [] columns are = tt
 needs_low offsets objects (need ∷ needs) columns are = (omega (arith, columns, are.1), needs_low offsets objects needs columns are.3)
 
+-- ---- the order of ranks
+
+-- what was built, single scheduling's commands of each task and then the closing copies, ascends by rank
+pub record AreOrdered (place : Placement) (objects : ℕ) (live : List Bool) (forms : List TaskForm) (base : ℕ) (args : List ℤ) (versions : Versions)
+    : Type 0 where
+  pub few : length (closings (end_of place objects live forms).offsets (needs_of (end_of place objects live forms).needed
+      (all_slots (length live) objects))) ≤ 8192
+  pub last : RanksAscend (2 * (65536 + 0)) (2 * (65536 + 0 + length (closings (end_of place objects live forms).offsets
+      (needs_of (end_of place objects live forms).needed (all_slots (length live) objects))))) (map (command_at base args) (closing_of place objects live forms))
+  pub order : RanksAscend (128 * 0) (2 * (65536 + 0 + length (closings (end_of place objects live forms).offsets
+      (needs_of (end_of place objects live forms).needed (all_slots (length live) objects)))))
+      (ranked_from place live base args 0 versions forms ++ map (command_at base args) (closing_of place objects live forms))
+
+pub ordered_is : (place : Placement) (objects : ℕ) (live : List Bool) (forms : List TaskForm) (base : ℕ) (args : List ℤ) (versions : Versions)
+    → length live ≤ 16 → objects ≤ 512 → length forms ≤ 1024 → list_all (is_fit objects) forms ≡ true
+    → AreOrdered place objects live forms base args versions
+ordered_is place objects live forms base args versions workers_few objects_few many fit = record {
+  few = few;
+  last = last;
+  order =
+      ascends_then (128 * 0) (128 * (0 + length forms)) (2 * (65536 + 0 + length copies)) (ranked_from place live base args 0 versions forms)
+      (map (command_at base args) (closing_of place objects live forms))
+      (ranked_ascend place live base args 0 versions forms (omega (arith, many)) (shorts objects forms fit))
+      (ascends_lower (128 * (0 + length forms)) (2 * (65536 + 0)) (2 * (65536 + 0 + length copies))
+      (map (command_at base args) (closing_of place objects live forms)) (omega (arith, many)) last);
+} where
+  walk : Walk
+  walk = end_of place objects live forms
+
+  needs : List (Worker × Object)
+  needs = needs_of walk.needed (all_slots (length live) objects)
+
+  copies : Closings
+  copies = closings walk.offsets needs
+
+  few : length copies ≤ 8192
+  few =
+      let long : length (all_slots (length live) objects) ≡ length live * objects = slots_long objects 0 (length live) in
+      let most : length live * objects ≤ length live * 512 = mul-le-mul_left (length live) objects_few in
+      let filtered = filter_few (λ (slot : Worker × Object). is_current walk.needed slot.1 slot.0) (all_slots (length live) objects) in
+      let fewer : length copies ≤ length needs = closings_few walk.offsets needs in
+      omega (arith, long, most, filtered, fewer, workers_few)
+
+  last : RanksAscend (2 * (65536 + 0)) (2 * (65536 + 0 + length copies)) (map (command_at base args) (closing_of place objects live forms))
+  last = closings_ascend base args 0 copies (omega (arith, few))
+
 -- ---- all commands
 
 -- what is known of the commands by rank
@@ -270,7 +312,7 @@ listed_is place objects live template first others forms_are some workers_few ob
       (ascends_plain 0 262144 all
       (subst (RanksAscend 0 262144) (append-nil all)
       (ascends_then 0 (2 * (65536 + 0 + length copies)) 262144 all []
-      (ascends_lower 0 (128 * 0) (2 * (65536 + 0 + length copies)) all (omega arith) order) (omega (arith, copies_few, needs_few))))));
+      (ascends_lower 0 (128 * 0) (2 * (65536 + 0 + length copies)) all (omega arith) ranks.order) (omega (arith, ranks.few))))));
   copied =
       plain_copied (length forms) listed
       (subst (AreCopied (length forms)) (sym ordered)
@@ -355,22 +397,8 @@ listed_is place objects live template first others forms_are some workers_few ob
   all : List (Worker × Command)
   all = ranked ++ last
 
-  needs_few : length needs ≤ 8192
-  needs_few =
-      let long : length (all_slots workers objects) ≡ workers * objects = slots_long objects 0 workers in
-      let most : workers * objects ≤ workers * 512 = mul-le-mul_left workers objects_few in
-      let filtered = filter_few (λ (slot : Worker × Object). is_current walk.needed slot.1 slot.0) (all_slots workers objects) in
-      omega (arith, long, most, filtered, workers_few)
-
-  copies_few : length copies ≤ length needs
-  copies_few = closings_few walk.offsets needs
-
-  order : RanksAscend (128 * 0) (2 * (65536 + 0 + length copies)) all
-  order =
-      ascends_then (128 * 0) (128 * (0 + length forms)) (2 * (65536 + 0 + length copies)) ranked last
-      (ranked_ascend place live base args 0 entry forms (omega (arith, few)) (shorts objects forms fit))
-      (ascends_lower (128 * (0 + length forms)) (2 * (65536 + 0)) (2 * (65536 + 0 + length copies)) last (omega (arith, few))
-      (closings_ascend base args 0 copies (omega (arith, copies_few, needs_few))))
+  ranks : AreOrdered place objects live forms base args entry
+  ranks = ordered_is place objects live forms base args entry workers_few objects_few few fit
 
   commands : List (Worker × Command)
   commands = commands_from version base args 0 made.halves
@@ -387,4 +415,4 @@ listed_is place objects live template first others forms_are some workers_few ob
       ∙ sym (for_append worker ranked last))
 
   ordered : map plain listed ≡ map plain all
-  ordered = in_order base (128 * 0) (2 * (65536 + 0 + length copies)) commands all order same
+  ordered = in_order base (128 * 0) (2 * (65536 + 0 + length copies)) commands all ranks.order same

@@ -6,7 +6,6 @@ use Rattle.std.specs.List.{AllByRecursion, filter, flat_map, list_all, list_any,
 use Rattle.std.specs.Option.{option_map}
 use Rattle.std.proofs.lemmas.Bool.{and_from, eq-eqb, eqb-true, false_from_ne_true, false≢true, leb-true}
 use Rattle.std.proofs.lemmas.List.FromFn.{length-map-range_with_len}
-use Rattle.std.proofs.Math.Nat.{mul-le-mul_left}
 use Rattle.nim_base.specs.declared.number.Object.{Object}
 use Rattle.nim_base.specs.declared.number.Worker.{Worker}
 use Rattle.nim_base.specs.declared.task.TaskForm.{TaskForm}
@@ -32,7 +31,7 @@ use Rattle.nim_place.specs.Extends.{is_live, live_workers, longer}
 use Rattle.nim_place.specs.Sound.{commands_from}
 use Rattle.nim_place.specs.Stands.{Stands, commands_for}
 use Rattle.nim_place.specs.TaskOrders.{AreSoFar, IsAt}
-use Rattle.nim_place.specs.Versions.{Versions, after_commands, after_effect, is_current, latest_of}
+use Rattle.nim_place.specs.Versions.{Versions, after_commands, after_effect, latest_of}
 use Rattle.nim_place.proofs.Held.{for_append}
 use Rattle.nim_place.proofs.Keys.{new_received, new_sent}
 use Rattle.nim_place.proofs.Legal.{main_of}
@@ -49,18 +48,16 @@ use Rattle.nim_template.specs.Tasks.{scheduled_from, without_before}
 use Rattle.nim_template.specs.Walk.{empty_walk}
 use Rattle.nim_template.proofs.Again.{home_within, start_walked}
 use Rattle.nim_template.proofs.Bare.{group_of, new_received_same, new_sent_same, stands_same}
-use Rattle.nim_template.proofs.ByRank.{RanksAscend, ascends_lower, ascends_then}
+use Rattle.nim_template.proofs.ByRank.{RanksAscend}
 use Rattle.nim_template.proofs.Chosen.{command_at}
 use Rattle.nim_template.proofs.Effects.{some_kept}
 use Rattle.nim_template.proofs.Entries.{own_commands}
 use Rattle.nim_template.proofs.Given.{built_installs, built_instances, map_none}
 use Rattle.nim_template.proofs.Halves.{needed_current, start_alike}
-use Rattle.nim_template.proofs.IsSound.{shorts}
 use Rattle.nim_template.proofs.Left.{IsDoneBy, closing_of, done_by, entries_of}
-use Rattle.nim_template.proofs.Numbers.{closings_few, filter_few, slots_long}
 use Rattle.nim_template.proofs.OneWorker.{IsInFor}
 use Rattle.nim_template.proofs.Planes.{Has}
-use Rattle.nim_template.proofs.Ranked.{closings_ascend, ranked_ascend, ranked_for, ranked_from}
+use Rattle.nim_template.proofs.Ranked.{ranked_for, ranked_from}
 use Rattle.nim_template.proofs.Sames.{AllBelow, AreSame, same_left}
 use Rattle.nim_template.proofs.Sizes.{like_commands}
 use Rattle.nim_edit.specs.Form.{IsInForm, WasBuilt}
@@ -69,7 +66,7 @@ use Rattle.nim_edit.proofs.Forms.{halves_long}
 use Rattle.nim_edit.proofs.InOrder.{AreOfHalf, commands_halves, commands_in_order, commands_onward, in_order_same, task_commands}
 use Rattle.nim_edit.proofs.Leaves.{was_left}
 use Rattle.nim_edit.proofs.LegalThen.{was_legal}
-use Rattle.nim_edit.proofs.Listed.{Closings, Walk}
+use Rattle.nim_edit.proofs.Listed.{AreOrdered, Closings, Walk, ordered_is}
 use Rattle.nim_edit.proofs.Migrations.{all_at}
 use Rattle.nim_edit.proofs.MovedInstances.{AreAside, IsAside, closings_aside, closings_balanced, each_filter, each_in_order, late_aside, late_of_two, ranked_aside}
 use Rattle.nim_edit.proofs.MovedInstances.{stands_all}
@@ -168,24 +165,8 @@ was_extended place objects live recorded template was some workers_few objects_f
       moved : List (Worker × Command)
       moved = commands_in_order template named base args all 0 n
 
-      needs_few : length needs ≤ 8192
-      needs_few =
-          let long : length (all_slots workers objects) ≡ workers * objects = slots_long objects 0 workers in
-          let most : workers * objects ≤ workers * 512 = mul-le-mul_left workers objects_few in
-          let filtered = filter_few (λ (slot : Worker × Object). is_current walk.needed slot.1 slot.0) (all_slots workers objects) in
-          omega (arith, long, most, filtered, workers_few)
-
-      copies_few : length copies ≤ length needs
-      copies_few = closings_few walk.offsets needs
-
-      lasts : RanksAscend (2 * (65536 + 0)) (2 * (65536 + 0 + length copies)) last
-      lasts = closings_ascend base args 0 copies (omega (arith, copies_few, needs_few))
-
-      order : RanksAscend (128 * 0) (2 * (65536 + 0 + length copies)) all
-      order =
-          ascends_then (128 * 0) (128 * (0 + n)) (2 * (65536 + 0 + length copies)) ranked last
-          (ranked_ascend place live base args 0 versions forms (omega (arith, few)) (shorts objects forms fit))
-          (ascends_lower (128 * (0 + n)) (2 * (65536 + 0)) (2 * (65536 + 0 + length copies)) last (omega (arith, few)) lasts)
+      ordered : AreOrdered place objects live forms base args versions
+      ordered = ordered_is place objects live forms base args versions workers_few objects_few few fit
 
       -- the commands that were built
       all_same : (worker : Worker) → map without_before (commands_for worker (real ++ last)) ≡ map without_before (commands_for worker all)
@@ -209,7 +190,7 @@ was_extended place objects live recorded template was some workers_few objects_f
       ascends : RanksAscend 0 (2 * (65536 + 0 + length copies)) moved
       ascends =
           subst (λ (k : ℕ). RanksAscend 0 (2 * (65536 + 0 + length copies)) (commands_in_order template named base args all 0 k)) many
-          (in_order_ascends template form named base args all (128 * 0) (2 * (65536 + 0 + length copies)) (omega arith) order)
+          (in_order_ascends template form named base args all (128 * 0) (2 * (65536 + 0 + length copies)) (omega arith) ordered.order)
 
       -- what single scheduling says of what was built
       out : IsGivenOut live made epoch lists given
@@ -316,7 +297,7 @@ was_extended place objects live recorded template was some workers_few objects_f
             some = some;
             small = objects_few;
             room = may.room;
-            lasts = ids_onward (2 * (65536 + 0)) (2 * (65536 + 0 + length copies)) 65536 last lasts (omega arith);
+            lasts = ids_onward (2 * (65536 + 0)) (2 * (65536 + 0 + length copies)) 65536 last ordered.last (omega arith);
           }) fit (omega (arith, few)) (record {
             long = refl;
             front = [];
@@ -359,7 +340,7 @@ was_extended place objects live recorded template was some workers_few objects_f
           (ap not (false_from_ne_true (is_patch_number p.1) (λ patch. (let past = leb-true 131072 p.1 patch in omega (arith, past, below)))))
 
       below_patches : AllByRecursion (λ (p : Parcel). p.1 < 131072) (takings moved)
-      below_patches = takings_below 0 (2 * (65536 + 0 + length copies)) 131072 moved ascends (omega (arith, copies_few, needs_few))
+      below_patches = takings_below 0 (2 * (65536 + 0 + length copies)) 131072 moved ascends (omega (arith, ordered.few))
 
       new_sends : (worker to : Worker) → AllByRecursion (λ (key : Key). is_key_in epoch instance key ≡ true) (keys_to group to (parcels_from worker start moved))
       new_sends worker to =
