@@ -258,7 +258,8 @@ late_ascends template form before base args task within = either (owner.0 == hom
       (at (128 * task + 16 * 6) (128 * task + 16 * 6 + 16) (128 * task + 96) (128 * (task + 1)) got (omega arith) (omega arith)
       (phase home 6 (return_receives task 0 spec.writes) (omega arith) (return_receives_of task 0 spec.writes writes)))))))
 
-tasks_ascend : (template : WorkerTemplate) → IsInForm template → (before : Object → ℕ) (base : ℕ) (args : List ℤ) (listed : List (Worker × Command)) (low high : ℕ)
+tasks_ascend : (template : WorkerTemplate) → IsInForm template → (before : Object → ℕ) (base : ℕ) (args : List ℤ) (listed : List (Worker × Command))
+    (low high : ℕ)
     → RanksAscend low high listed → (from n : ℕ) → from + n ≤ length template.forms
     → RanksAscend (128 * from) (128 * (from + n)) (flat_map (task_commands template before base args listed) (range_with_len from n))
 tasks_ascend template form before base args listed low high are from zero few = omega arith

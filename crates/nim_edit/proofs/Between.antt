@@ -162,4 +162,5 @@ middle_after {S} step I stays low high first second these those are also order e
                 ap (λ (b : Bool). if b then None else (if nat_lt number low then None else kind_at first number)) is
                 ∙ sym (ap (λ (b : Bool). if b then None else (if nat_lt number low then None else kind_at second number)) is)
             chosen number false is =
-                ap (λ (o : Option EntryKind). if nat_lt number high then None else (if nat_lt number low then None else o)) (late number (ltb-false number high is))
+                ap (λ (o : Option EntryKind). if nat_lt number high then None else (if nat_lt number low then None else o))
+                (late number (ltb-false number high is))

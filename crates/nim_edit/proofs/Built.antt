@@ -94,7 +94,8 @@ no_edits f from (suc n) none = ap₂ (λ (xs ys : List Edit). xs ++ ys) (none fr
 pub at_home : (template : WorkerTemplate) → template.built ≡ halves_for template template.homes
 at_home template =
     same_list [] template.built (halves_for template template.homes) (sym long)
-    (λ i less. sym (get_or-map-range_with_len (λ (n : ℕ). half_of template template.homes (record { 0 = n })) 0 (length template.built) i i [] less (omega arith)
+    (λ i less. sym (get_or-map-range_with_len (λ (n : ℕ). half_of template template.homes (record { 0 = n })) 0 (length template.built) i i [] less
+    (omega arith)
     ∙ ap (λ (es : List Edit). edited_by es (slice_index_or template.built i [])) (none (record { 0 = i })))) where
       long : length (halves_for template template.homes) ≡ length template.built
       long = length-map-range_with_len (λ (n : ℕ). half_of template template.homes (record { 0 = n })) 0 (length template.built)
@@ -102,7 +103,8 @@ at_home template =
       none : (worker : Worker) → flat_map (edits_at template template.homes worker) (range_with_len 0 (length template.forms)) ≡ []
       none worker =
           no_edits (edits_at template template.homes worker) 0 (length template.forms)
-          (λ task. with_home template worker task (worker_at template.homes task) (eq-eqb (worker_at template.homes task).0 (worker_at template.homes task).0 refl))
+          (λ task. with_home template worker task (worker_at template.homes task)
+          (eq-eqb (worker_at template.homes task).0 (worker_at template.homes task).0 refl))
 
 -- ---- the runs
 

@@ -142,29 +142,35 @@ without_at q (entry ∷ entries) number =
     ] where
       first : entry.id ≡ number → (b : Bool) → q entry.id ≡ b
           → kind_at (filter (λ (e : Entry). not (q e.id)) entries) number ≡ (if q number then None else kind_at entries number)
-          → kind_at (if not (q entry.id) then entry ∷ filter (λ (e : Entry). not (q e.id)) entries else filter (λ (e : Entry). not (q e.id)) entries) number ≡ (if q number then None else kind_at (entry ∷ entries) number)
+          → kind_at (if not (q entry.id) then entry ∷ filter (λ (e : Entry). not (q e.id)) entries else filter (λ (e : Entry). not (q e.id)) entries) number
+          ≡ (if q number then None else kind_at (entry ∷ entries) number)
       first here true is rest =
           let there : q number ≡ true = sym (ap q here) ∙ is in
-          ap (λ (b : Bool). kind_at (if not b then entry ∷ filter (λ (e : Entry). not (q e.id)) entries else filter (λ (e : Entry). not (q e.id)) entries) number) is
+          ap (λ (b : Bool). kind_at (if not b then entry ∷ filter (λ (e : Entry). not (q e.id)) entries else filter (λ (e : Entry). not (q e.id)) entries)
+          number) is
           ∙ rest
           ∙ ap (λ (b : Bool). if b then None else kind_at entries number) there
           ∙ sym (ap (λ (b : Bool). if b then None else kind_at (entry ∷ entries) number) there)
       first here false is rest =
           let there : q number ≡ false = sym (ap q here) ∙ is in
-          ap (λ (b : Bool). kind_at (if not b then entry ∷ filter (λ (e : Entry). not (q e.id)) entries else filter (λ (e : Entry). not (q e.id)) entries) number) is
+          ap (λ (b : Bool). kind_at (if not b then entry ∷ filter (λ (e : Entry). not (q e.id)) entries else filter (λ (e : Entry). not (q e.id)) entries)
+          number) is
           ∙ at_first entry (filter (λ (e : Entry). not (q e.id)) entries) number here
           ∙ sym (at_first entry entries number here)
           ∙ sym (ap (λ (b : Bool). if b then None else kind_at (entry ∷ entries) number) there)
 
       later : (entry.id ≡ number → ⊥) → (b : Bool) → q entry.id ≡ b
           → kind_at (filter (λ (e : Entry). not (q e.id)) entries) number ≡ (if q number then None else kind_at entries number)
-          → kind_at (if not (q entry.id) then entry ∷ filter (λ (e : Entry). not (q e.id)) entries else filter (λ (e : Entry). not (q e.id)) entries) number ≡ (if q number then None else kind_at (entry ∷ entries) number)
+          → kind_at (if not (q entry.id) then entry ∷ filter (λ (e : Entry). not (q e.id)) entries else filter (λ (e : Entry). not (q e.id)) entries) number
+          ≡ (if q number then None else kind_at (entry ∷ entries) number)
       later apart true is rest =
-          ap (λ (b : Bool). kind_at (if not b then entry ∷ filter (λ (e : Entry). not (q e.id)) entries else filter (λ (e : Entry). not (q e.id)) entries) number) is
+          ap (λ (b : Bool). kind_at (if not b then entry ∷ filter (λ (e : Entry). not (q e.id)) entries else filter (λ (e : Entry). not (q e.id)) entries)
+          number) is
           ∙ rest
           ∙ ap (λ (o : Option EntryKind). if q number then None else o) (sym (at_rest entry entries number apart))
       later apart false is rest =
-          ap (λ (b : Bool). kind_at (if not b then entry ∷ filter (λ (e : Entry). not (q e.id)) entries else filter (λ (e : Entry). not (q e.id)) entries) number) is
+          ap (λ (b : Bool). kind_at (if not b then entry ∷ filter (λ (e : Entry). not (q e.id)) entries else filter (λ (e : Entry). not (q e.id)) entries)
+          number) is
           ∙ at_rest entry (filter (λ (e : Entry). not (q e.id)) entries) number apart
           ∙ rest
           ∙ ap (λ (o : Option EntryKind). if q number then None else o) (sym (at_rest entry entries number apart))

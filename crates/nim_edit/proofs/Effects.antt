@@ -60,7 +60,8 @@ copied_left : (slot : Slot) (before : Option ℕ) (task : ℕ) (reads : List Fir
     → after_entries (offset_left slot) before (map (forward_receive task) reads) ≡ before
 copied_left slot before task [] main = refl
 copied_left slot before task (read ∷ reads) main =
-    ap (λ (b : Option ℕ). after_entries (offset_left slot) b (map (forward_receive task) reads)) (either read.there) ∙ copied_left slot before task reads main where
+    ap (λ (b : Option ℕ). after_entries (offset_left slot) b (map (forward_receive task) reads)) (either read.there)
+    ∙ copied_left slot before task reads main where
       number : ℕ
       number = entry_number task 3 read.index
 
@@ -94,7 +95,8 @@ here_left slot before task from mask spec main =
     let sends : List Entry = return_sends task from 0 spec.writes in
     sym (after_append (offset_left slot) before (map (forward_receive task) reads) (run ∷ sends)
     ∙ ap (λ (b : Option ℕ). after_entries (offset_left slot) b (run ∷ sends)) (copied_left slot before task reads main)
-    ∙ ap (λ (w : Bool). after_entries (offset_left slot) (if w then Some (offset_after (task_of run.id)) else before) sends) (scratch_written slot spec.writes main)
+    ∙ ap (λ (w : Bool). after_entries (offset_left slot) (if w then Some (offset_after (task_of run.id)) else before) sends)
+    (scratch_written slot spec.writes main)
     ∙ returned_left slot before task from 0 spec.writes)
 
 -- a main slot
@@ -145,7 +147,8 @@ same_effect before after objects few form also same =
     (λ w o above below inside. ap (item_of (record { 0 = w }, record { 0 = o }))
     (ends_alike before form (record { 0 = w }) (record { 0 = o }) (omega (arith, below)) (omega (arith, inside, few))
     ∙ ap (λ (halves : List (List Entry)). last_written (slice_index_or halves w []) (main_slot (record { 0 = o }))) (sym same)
-    ∙ sym (ends_alike after also (record { 0 = w }) (record { 0 = o }) (subst (λ (halves : List (List Entry)). w < length halves) (sym same) (omega (arith, below)))
+    ∙ sym (ends_alike after also (record { 0 = w }) (record { 0 = o })
+    (subst (λ (halves : List (List Entry)). w < length halves) (sym same) (omega (arith, below)))
     (omega (arith, inside, few)))))
 
 -- the effect as the halves were built is the effect behind a move

@@ -156,12 +156,13 @@ IsKnown job before base version owner slots f =
     × (f.there ≡ true → slots owner (main_slot f.object) ≡ version_content version f.object)
 
 -- what first reads leave at the owner
-pub record HaveCome (job : Job) (version : Object → ℕ) (owner : Worker) (plane : Plane) (commands : List (Worker × Command)) (fs : List FirstRead) : Type 0 where
-  pub found : AreFound job plane commands
-  pub main : (worker : Worker) (slot : Slot) → slot.0 < 512 → (walked plane commands).slots worker slot ≡ plane.slots worker slot
-  pub filled : AllByRecursion (λ (f : FirstRead). IsFilled version owner (walked plane commands).slots f.object) fs
-  pub keeps : (object : Object) → object.0 < 512 → IsFilled version owner plane.slots object → IsFilled version owner (walked plane commands).slots object
-  pub frames : (walked plane commands).frames ≡ plane.frames
+pub record HaveCome (job : Job) (version : Object → ℕ) (owner : Worker) (plane : Plane) (commands : List (Worker × Command)) (fs : List FirstRead) : Type 0
+  where
+    pub found : AreFound job plane commands
+    pub main : (worker : Worker) (slot : Slot) → slot.0 < 512 → (walked plane commands).slots worker slot ≡ plane.slots worker slot
+    pub filled : AllByRecursion (λ (f : FirstRead). IsFilled version owner (walked plane commands).slots f.object) fs
+    pub keeps : (object : Object) → object.0 < 512 → IsFilled version owner plane.slots object → IsFilled version owner (walked plane commands).slots object
+    pub frames : (walked plane commands).frames ≡ plane.frames
 
 pub come : (job : Job) (before : Object → ℕ) (base : ℕ) (args : List ℤ) (version : Object → ℕ) (task : ℕ) (owner : Worker) (slots : Worker → Slot → Content)
     (low : ℕ) (past : List Frame) (plane : Plane) (fs : List FirstRead) → task < 1024
@@ -173,95 +174,96 @@ come job before base args version task owner slots low past plane [] few mains f
     record { found = tt; main = λ worker slot main. refl; filled = tt; keeps = λ object small is. is; frames = refl }
 come job before base args version task owner slots low past plane (f ∷ fs) few mains frames old at known =
     shown f.there
-    (λ least gone now same all below are. come job before base args version task owner slots least gone now fs few same all below are known.1) frames known.0.3 where
-      rest : List (Worker × Command)
-      rest = map (placed_command before base args) (at_worker owner (map (forward_receive task) fs))
+    (λ least gone now same all below are. come job before base args version task owner slots least gone now fs few same all below are known.1) frames known.0.3
+  where
+    rest : List (Worker × Command)
+    rest = map (placed_command before base args) (at_worker owner (map (forward_receive task) fs))
 
-      id : ℕ
-      id = entry_number task 3 f.index
+    id : ℕ
+    id = entry_number task 3 f.index
 
-      id_is : id ≡ 64 * task + 24 + f.index
-      id_is = omega (arith, few, at.1)
+    id_is : id ≡ 64 * task + 24 + f.index
+    id_is = omega (arith, few, at.1)
 
-      frame : Frame
-      frame = record { to = owner; entry = id; content = version_content version f.object }
+    frame : Frame
+    frame = record { to = owner; entry = id; content = version_content version f.object }
 
-      command : Bool → Worker × Command
-      command b =
-          placed_command before base args
-          (owner, entry_of id (if b then EntryKind.Copy (main_slot f.object) (scratch_slot f.object) else EntryKind.Receive (scratch_slot f.object) f.offset))
+    command : Bool → Worker × Command
+    command b =
+        placed_command before base args
+        (owner, entry_of id (if b then EntryKind.Copy (main_slot f.object) (scratch_slot f.object) else EntryKind.Receive (scratch_slot f.object) f.offset))
 
-      next : Content → Plane
-      next content = with_slots owner (put_at (scratch_slot f.object) content (plane.slots owner)) plane
+    next : Content → Plane
+    next content = with_slots owner (put_at (scratch_slot f.object) content (plane.slots owner)) plane
 
-      lower : (less more : ℕ) (rs : List FirstRead) → less ≤ more → Indexed more rs → Indexed less rs
-      lower less more [] below are = omega (arith, below, are)
-      lower less more (r ∷ rs) below are = (omega (arith, below, are.0), are.1, are.2)
+    lower : (less more : ℕ) (rs : List FirstRead) → less ≤ more → Indexed more rs → Indexed less rs
+    lower less more [] below are = omega (arith, below, are)
+    lower less more (r ∷ rs) below are = (omega (arith, below, are.0), are.1, are.2)
 
-      joined : (content : Content) → content ≡ version_content version f.object
-          → HaveCome job version owner (next content) rest fs → (c : Worker × Command) → step_of c.0 c.1.id c.1.kind plane ≡ next content
-          → AreFound job plane (c ∷ []) → HaveCome job version owner plane (c ∷ rest) (f ∷ fs)
-      joined content is later c step first =
-          let put : IsPutAside version owner plane.slots (next content).slots f.object = put_aside version owner plane f.object content known.0.0 is in
-          record {
-            found = (first.0, subst (λ (p : Plane). AreFound job p rest) (sym step) later.found);
-            main = λ worker slot main.
-                ap (λ (p : Plane). (walked p rest).slots worker slot) step ∙ later.main worker slot main ∙ put.main worker slot main;
-            filled = subst (λ (p : Plane). AllByRecursion (λ (g : FirstRead). IsFilled version owner (walked p rest).slots g.object) (f ∷ fs)) (sym step) (
-              later.keeps f.object known.0.0 put.filled,
-              later.filled,
-            );
-            keeps = λ object small was.
-                subst (λ (p : Plane). IsFilled version owner (walked p rest).slots object) (sym step)
-                (later.keeps object small (put.keeps object small was));
-            frames = ap (λ (p : Plane). (walked p rest).frames) step ∙ later.frames;
-          }
+    joined : (content : Content) → content ≡ version_content version f.object
+        → HaveCome job version owner (next content) rest fs → (c : Worker × Command) → step_of c.0 c.1.id c.1.kind plane ≡ next content
+        → AreFound job plane (c ∷ []) → HaveCome job version owner plane (c ∷ rest) (f ∷ fs)
+    joined content is later c step first =
+        let put : IsPutAside version owner plane.slots (next content).slots f.object = put_aside version owner plane f.object content known.0.0 is in
+        record {
+          found = (first.0, subst (λ (p : Plane). AreFound job p rest) (sym step) later.found);
+          main = λ worker slot main.
+              ap (λ (p : Plane). (walked p rest).slots worker slot) step ∙ later.main worker slot main ∙ put.main worker slot main;
+          filled = subst (λ (p : Plane). AllByRecursion (λ (g : FirstRead). IsFilled version owner (walked p rest).slots g.object) (f ∷ fs)) (sym step) (
+            later.keeps f.object known.0.0 put.filled,
+            later.filled,
+          );
+          keeps = λ object small was.
+              subst (λ (p : Plane). IsFilled version owner (walked p rest).slots object) (sym step)
+              (later.keeps object small (put.keeps object small was));
+          frames = ap (λ (p : Plane). (walked p rest).frames) step ∙ later.frames;
+        }
 
-      mains_next : (content : Content) → content ≡ version_content version f.object
-          → (worker : Worker) (slot : Slot) → slot.0 < 512 → (next content).slots worker slot ≡ slots worker slot
-      mains_next content is worker slot main =
-          (put_aside version owner plane f.object content known.0.0 is).main worker slot main ∙ mains worker slot main
+    mains_next : (content : Content) → content ≡ version_content version f.object
+        → (worker : Worker) (slot : Slot) → slot.0 < 512 → (next content).slots worker slot ≡ slots worker slot
+    mains_next content is worker slot main =
+        (put_aside version owner plane f.object content known.0.0 is).main worker slot main ∙ mains worker slot main
 
-      IsLater : Type 0
-      IsLater =
-          (least : ℕ) (gone : List Frame) (now : Plane)
-          → ((worker : Worker) (slot : Slot) → slot.0 < 512 → now.slots worker slot ≡ slots worker slot)
-          → now.frames ≡ gone ++ sent_frames version task owner fs → Below (64 * task + 24 + least) gone → Indexed least fs
-          → HaveCome job version owner now rest fs
+    IsLater : Type 0
+    IsLater =
+        (least : ℕ) (gone : List Frame) (now : Plane)
+        → ((worker : Worker) (slot : Slot) → slot.0 < 512 → now.slots worker slot ≡ slots worker slot)
+        → now.frames ≡ gone ++ sent_frames version task owner fs → Below (64 * task + 24 + least) gone → Indexed least fs
+        → HaveCome job version owner now rest fs
 
-      shown : (b : Bool) → IsLater
-          → plane.frames ≡ past ++ (if b then sent_frames version task owner fs else frame ∷ sent_frames version task owner fs)
-          → (b ≡ true → slots owner (main_slot f.object) ≡ version_content version f.object)
-          → HaveCome job version owner plane (command b ∷ rest) (f ∷ fs)
-      shown true goes_on all there =
-          let content : Content = plane.slots owner (main_slot f.object) in
-          let is : content ≡ version_content version f.object = mains owner (main_slot f.object) known.0.0 ∙ there refl in
-          joined content is
-          (goes_on low past (next content) (mains_next content is) all old (lower low (f.index + 1) fs (omega (arith, at.0)) at.2))
-          (command true) refl (none_is (f.object, version f.object) content is, tt)
-      shown false goes_on all there =
-          let content : Content = sent_to plane.frames owner id in
-          let is : content ≡ version_content version f.object =
-          ap (λ (frames : List Frame). sent_to frames owner id) all
-          ∙ skip_all past (frame ∷ sent_frames version task owner fs) owner id
-          (below_more (64 * task + 24 + low) id past (omega (arith, id_is, at.0)) old)
-          ∙ first_sent frame (sent_frames version task owner fs) in
-          let of : object_of (scratch_slot f.object) ≡ f.object = scratch_of f.object known.0.0 in
-          let received : version_at base (before (object_of (scratch_slot f.object))) f.offset ≡ version f.object =
-          ap (λ (o : Object). version_at base (before o) f.offset) of ∙ known.0.1 in
-          joined content is
-          (goes_on (f.index + 1) (past ++ frame ∷ []) (next content) (mains_next content is)
-          (all ∙ sym (append_assoc past (frame ∷ []) (sent_frames version task owner fs)))
-          (below_append (64 * task + 24 + (f.index + 1)) past (frame ∷ [])
-          (below_more (64 * task + 24 + low) (64 * task + 24 + (f.index + 1)) past (omega (arith, at.0)) old) (omega (arith, id_is), tt))
-          at.2)
-          (command false) refl (
-            (
-              ap₂ (λ (o : Object) (v : ℕ). is_version job o v) of received ∙ known.0.2,
-              is ∙ ap₂ (λ (o : Object) (v : ℕ). Some (o, v)) (sym of) (sym received),
-            ),
-            tt,
-          )
+    shown : (b : Bool) → IsLater
+        → plane.frames ≡ past ++ (if b then sent_frames version task owner fs else frame ∷ sent_frames version task owner fs)
+        → (b ≡ true → slots owner (main_slot f.object) ≡ version_content version f.object)
+        → HaveCome job version owner plane (command b ∷ rest) (f ∷ fs)
+    shown true goes_on all there =
+        let content : Content = plane.slots owner (main_slot f.object) in
+        let is : content ≡ version_content version f.object = mains owner (main_slot f.object) known.0.0 ∙ there refl in
+        joined content is
+        (goes_on low past (next content) (mains_next content is) all old (lower low (f.index + 1) fs (omega (arith, at.0)) at.2))
+        (command true) refl (none_is (f.object, version f.object) content is, tt)
+    shown false goes_on all there =
+        let content : Content = sent_to plane.frames owner id in
+        let is : content ≡ version_content version f.object =
+        ap (λ (frames : List Frame). sent_to frames owner id) all
+        ∙ skip_all past (frame ∷ sent_frames version task owner fs) owner id
+        (below_more (64 * task + 24 + low) id past (omega (arith, id_is, at.0)) old)
+        ∙ first_sent frame (sent_frames version task owner fs) in
+        let of : object_of (scratch_slot f.object) ≡ f.object = scratch_of f.object known.0.0 in
+        let received : version_at base (before (object_of (scratch_slot f.object))) f.offset ≡ version f.object =
+        ap (λ (o : Object). version_at base (before o) f.offset) of ∙ known.0.1 in
+        joined content is
+        (goes_on (f.index + 1) (past ++ frame ∷ []) (next content) (mains_next content is)
+        (all ∙ sym (append_assoc past (frame ∷ []) (sent_frames version task owner fs)))
+        (below_append (64 * task + 24 + (f.index + 1)) past (frame ∷ [])
+        (below_more (64 * task + 24 + low) (64 * task + 24 + (f.index + 1)) past (omega (arith, at.0)) old) (omega (arith, id_is), tt))
+        at.2)
+        (command false) refl (
+          (
+            ap₂ (λ (o : Object) (v : ℕ). is_version job o v) of received ∙ known.0.2,
+            is ∙ ap₂ (λ (o : Object) (v : ℕ). Some (o, v)) (sym of) (sym received),
+          ),
+          tt,
+        )
 
 -- ---- what is sent back
 
@@ -360,7 +362,8 @@ come_back job before base args task home index past plane (object ∷ objects) v
 
       chosen : (worker : Worker) (slot : Slot) (b : Bool) → (worker.0 == home.0) ≡ b
           → (if b then (if is_among (written_slots false objects) slot then content_at slot version else next.slots home slot) else next.slots worker slot)
-          ≡ (if b then (if (main_slot object).0 == slot.0 || is_among (written_slots false objects) slot then content_at slot version else plane.slots home slot)
+          ≡ (if b then (if (main_slot object).0 == slot.0 || is_among (written_slots false objects) slot then content_at slot version
+          else plane.slots home slot)
           else plane.slots worker slot)
       chosen worker slot true here =
           ap (λ (c : Content). if is_among (written_slots false objects) slot then content_at slot version else c)

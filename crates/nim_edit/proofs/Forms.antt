@@ -60,7 +60,8 @@ module _ (template : WorkerTemplate) (task : ℕ) (to : Worker) (move : IsMove t
 
   -- back to the home
   back_at : (to.0 == (worker_at template.homes task).0) ≡ true → (i : ℕ) → i < length template.built
-      → get_or (fold with_edit template.halves (edits_home task (worker_at template.homes task) (worker_at template.owners task) (spec_of template.forms task))) i []
+      → get_or (fold with_edit template.halves (edits_home task (worker_at template.homes task) (worker_at template.owners task) (spec_of template.forms task)))
+      i []
       ≡ half_of template (slice_set template.owners task to) (record { 0 = i })
   back_at to_home i below = either (i == owner.0) (i == home.0) refl refl where
     home : Worker

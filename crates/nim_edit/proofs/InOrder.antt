@@ -125,7 +125,8 @@ half_append before base args worker cs ds es fs first second =
     ∙ ap₂ (λ (xs ys : List Command). xs ++ ys) first second
     ∙ sym (map-append (bare_command before base args) es fs)
 
-bare_again : (before : Object → ℕ) (base : ℕ) (args : List ℤ) (es : List Entry) → map (bare_command before base args) (map bare es) ≡ map (bare_command before base args) es
+bare_again : (before : Object → ℕ) (base : ℕ) (args : List ℤ) (es : List Entry)
+    → map (bare_command before base args) (map bare es) ≡ map (bare_command before base args) es
 bare_again before base args [] = refl
 bare_again before base args (e ∷ es) = ap (λ (cs : List Command). bare_command before base args e ∷ cs) (bare_again before base args es)
 
@@ -166,7 +167,8 @@ half_late template before base args worker task =
     (half_placed before base args worker (late_entries template (worker_at template.owners task) task))
 
 -- of a task
-half_task : (template : WorkerTemplate) (before : Object → ℕ) (base : ℕ) (args : List ℤ) (worker : Worker) (listed : List (Worker × Command)) (built : List Entry)
+half_task : (template : WorkerTemplate) (before : Object → ℕ) (base : ℕ) (args : List ℤ) (worker : Worker) (listed : List (Worker × Command))
+    (built : List Entry)
     → AreOfHalf before base args worker listed built → (task : ℕ)
     → AreOfHalf before base args worker (task_commands template before base args listed task) (segment_of template built worker task)
 half_task template before base args worker listed built are task =
@@ -177,7 +179,8 @@ half_task template before base args worker listed built are task =
     (half_bare before base args worker (late_commands template before base args task) (late_half template owner task worker)
     (half_late template before base args worker task))
 
-half_tasks : (template : WorkerTemplate) (before : Object → ℕ) (base : ℕ) (args : List ℤ) (worker : Worker) (listed : List (Worker × Command)) (built : List Entry)
+half_tasks : (template : WorkerTemplate) (before : Object → ℕ) (base : ℕ) (args : List ℤ) (worker : Worker) (listed : List (Worker × Command))
+    (built : List Entry)
     → AreOfHalf before base args worker listed built → (from n : ℕ)
     → AreOfHalf before base args worker (flat_map (task_commands template before base args listed) (range_with_len from n))
     (flat_map (segment_of template built worker) (range_with_len from n))
@@ -217,7 +220,8 @@ one_half before base args worker number half b is =
     (commands_named before base args [] half)
     ∙ ap (map without_before) (commands_of_one worker number (map (command_named before base args) half) b is)
     ∙ either b where
-      either : (b : Bool) → map without_before (if b then map (command_named before base args) half else []) ≡ map (bare_command before base args) (if b then half else [])
+      either : (b : Bool) → map without_before (if b then map (command_named before base args) half else [])
+          ≡ map (bare_command before base args) (if b then half else [])
       either true = named_bare before base args half
       either false = refl
 
@@ -235,7 +239,8 @@ half_from before base args worker number zero [] at = refl
 half_from before base args worker number (suc i) [] at = refl
 half_from before base args worker number zero (half ∷ halves) at =
     subst (AreOfHalf before base args worker (commands_from before base args number (half ∷ halves))) (append-nil half)
-    (half_append before base args worker (commands_at before base args (record { 0 = number }) half) (commands_from before base args (number + 1) halves) half []
+    (half_append before base args worker (commands_at before base args (record { 0 = number }) half) (commands_from before base args (number + 1) halves) half
+    []
     (one_half before base args worker number half true (eq-eqb number worker.0 (omega (arith, at))))
     (none_of before base args worker (number + 1) halves (omega (arith, at))))
 half_from before base args worker number (suc i) (half ∷ halves) at =

@@ -62,7 +62,8 @@ pub commands_named : (before : Object → ℕ) (base : ℕ) (args : List ℤ) (p
     ≡ map (command_named before base args) half
 commands_named before base args past [] = refl
 commands_named before base args past (entry ∷ half) =
-    by_kind entry.id entry.kind entry.before (commands_named before base args past half) (λ version. commands_named before base args (past ++ version ∷ []) half) where
+    by_kind entry.id entry.kind entry.before (commands_named before base args past half)
+    (λ version. commands_named before base args (past ++ version ∷ []) half) where
       rest : List ℕ
       rest = flat_map (λ (e : Entry). version_named before e.kind) half
 
@@ -199,7 +200,8 @@ received_leave : (before : Object → ℕ) (base : ℕ) (args : List ℤ) (worke
 received_leave before base args worker task index [] versions few = refl
 received_leave before base args worker task index (object ∷ objects) versions few =
     let version : ℕ = version_after (counted_from base (task_of (entry_number task 4 0))) in
-    ap (λ (v : ℕ). after_entries (map_after before base args worker) (with_version worker v versions (main_slot object)) (return_receives task (index + 1) objects))
+    ap (λ (v : ℕ). after_entries (map_after before base args worker) (with_version worker v versions (main_slot object))
+    (return_receives task (index + 1) objects))
     (same_version base (before (object_of (main_slot object))) task few)
     ∙ received_leave before base args worker task (index + 1) objects (with_version worker version versions (main_slot object)) few
 
@@ -266,7 +268,8 @@ pub form_leaves : (template : WorkerTemplate) → IsInForm template → (before 
     → after_commands versions (commands_from before base args 0 template.halves) ≡ after_commands versions (commands_from before base args 0 template.built)
 form_leaves template form before base args versions room =
     same_from before base args 0 template.halves template.built versions (halves_long template form) room
-    (λ i less v passes. half_after (map_after before base args (record { 0 = 0 + i })) HasRoom (leaves_alike before base args (record { 0 = 0 + i })) template form
+    (λ i less v passes. half_after (map_after before base args (record { 0 = 0 + i })) HasRoom (leaves_alike before base args (record { 0 = 0 + i })) template
+    form
     (record { 0 = i }) (subst (λ (n : ℕ). i < n) (halves_long template form) less) v passes)
 
 -- ---- a template that was built
@@ -285,7 +288,8 @@ pub was_again : (place : Placement) (objects : ℕ) (live : List Bool) (recorded
     → WasBuilt place objects live recorded template → list_any (λ (flag : Bool). flag) live ≡ true → length recorded.forms ≤ 1024
     → HoldAgain (length live) objects template
 was_again place objects live recorded template was some few base versions before now =
-    ap₂ (λ (effect : List (Worker × Slot × ℕ)) (needs : List (Worker × Object)). are_current (after_effect base versions effect) needs) was.effect was.preconditions
+    ap₂ (λ (effect : List (Worker × Slot × ℕ)) (needs : List (Worker × Object)). are_current (after_effect base versions effect) needs) was.effect
+    was.preconditions
     ∙ built_again place objects live recorded some few base versions before (sym (ap (are_current versions) was.preconditions) ∙ now)
 
 -- and its effect is that of its halves

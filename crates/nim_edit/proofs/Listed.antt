@@ -46,7 +46,7 @@ use Rattle.nim_template.proofs.Fits.{few_reads, read_below}
 use Rattle.nim_template.proofs.Given.{tasks_from}
 use Rattle.nim_template.proofs.Halves.{for_plain}
 use Rattle.nim_template.proofs.InTurn.{AreTasksFrom}
-use Rattle.nim_template.proofs.IsSound.{shorts}
+use Rattle.nim_template.proofs.InOrder.{shorts}
 use Rattle.nim_template.proofs.Left.{IsDoneBy, closing_of, done_by}
 use Rattle.nim_template.proofs.Numbers.{closings_few, filter_few, slots_long}
 use Rattle.nim_template.proofs.Plain.{received_plain, sent_plain}
@@ -250,7 +250,8 @@ pub record AreOrdered (place : Placement) (objects : ℕ) (live : List Bool) (fo
   pub few : length (closings (end_of place objects live forms).offsets (needs_of (end_of place objects live forms).needed
       (all_slots (length live) objects))) ≤ 8192
   pub last : RanksAscend (2 * (65536 + 0)) (2 * (65536 + 0 + length (closings (end_of place objects live forms).offsets
-      (needs_of (end_of place objects live forms).needed (all_slots (length live) objects))))) (map (command_at base args) (closing_of place objects live forms))
+      (needs_of (end_of place objects live forms).needed (all_slots (length live) objects)))))
+      (map (command_at base args) (closing_of place objects live forms))
   pub order : RanksAscend (128 * 0) (2 * (65536 + 0 + length (closings (end_of place objects live forms).offsets
       (needs_of (end_of place objects live forms).needed (all_slots (length live) objects)))))
       (ranked_from place live base args 0 versions forms ++ map (command_at base args) (closing_of place objects live forms))

@@ -112,7 +112,8 @@ pub record IsMove (template : WorkerTemplate) (task : ℕ) (to : Worker) : Type 
 goes_on : (template : WorkerTemplate) (task : ℕ) (to : Worker) → IsMove template task to → (worker : Worker) (edits : List Edit)
     → worker.0 < length template.built → AllOf task edits
     → ((number : ℕ) (under : Option EntryKind) → task_of number ≡ task → kind_at (slice_index_or template.built worker.0 []) number ≡ under
-    → act edits number (act (edits_with template worker task (worker_at template.owners task)) number under) ≡ act (edits_with template worker task to) number under)
+    → act edits number (act (edits_with template worker task (worker_at template.owners task)) number under)
+    ≡ act (edits_with template worker task to) number under)
     → edited_by edits (half_of template template.owners worker) ≡ half_of template (slice_set template.owners task to) worker
 goes_on template task to move worker edits below own here =
     one_more (edits_at template template.owners worker) (edits_at template after worker) (length template.forms) task half edits move.within ascends ruled
@@ -203,8 +204,14 @@ module _ (template : WorkerTemplate) (task : ℕ) (to : Worker) (move : IsMove t
       → edited (Away task to (mask_for template task to) (spec_of template.forms task)) (half_of template template.owners worker)
       ≡ half_of template (slice_set template.owners task to) worker
   away_half worker below is_home no_home =
-      goes_on template task to move worker (away to ∷ []) below
-      (record { puts = away_own task to (mask_for template task to) (spec_of template.forms task) few short; of = λ number. number_of task number (2 ∷ 4 ∷ 6 ∷ []) }, tt)
+      goes_on template task to move worker (away to ∷ []) below (
+        record {
+          puts = away_own task to (mask_for template task to) (spec_of template.forms task) few short;
+          of =
+              λ number. number_of task number (2 ∷ 4 ∷ 6 ∷ []);
+        },
+        tt,
+      )
       (λ number under is there. before number under ((worker_at template.owners task).0 == (worker_at template.homes task).0) refl
       ∙ ap (λ (es : List Edit). act es number under) (sym (with_away template worker task to no_home is_home))) where
         few : task < 1024

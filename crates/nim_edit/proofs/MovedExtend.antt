@@ -179,7 +179,8 @@ was_extended place objects live recorded template was some workers_few objects_f
       of_built : (worker : Worker) → AreOfHalf named base args worker all (slice_index_or template.built worker.0 [])
       of_built worker =
           sym (is.same named worker ∙ all_same worker)
-          ∙ subst (λ (halves : List (List Entry)). AreOfHalf named base args worker (commands_from named base args 0 made.halves) (slice_index_or halves worker.0 []))
+          ∙ subst (λ (halves : List (List Entry)). AreOfHalf named base args worker (commands_from named base args 0 made.halves)
+          (slice_index_or halves worker.0 []))
           (sym was.built) (commands_halves named base args worker made.halves)
 
       same : AreSame own moved
@@ -199,7 +200,8 @@ was_extended place objects live recorded template was some workers_few objects_f
       first : IsInstantiated live objects made epoch instance base args (instances_of epoch instance made base args versions)
           (longer lists (installs_of epoch made)) given versions
       first =
-          built_instances place objects live recorded some workers_few objects_few few fit epoch instance base args (longer lists (installs_of epoch made)) given
+          built_instances place objects live recorded some workers_few objects_few few fit epoch instance base args (longer lists (installs_of epoch made))
+          given
           versions (record {
             so_far = record { stands = may.so_far.stands; ask = out.asked };
             before = may.before;
@@ -266,7 +268,8 @@ was_extended place objects live recorded template was some workers_few objects_f
       left_is =
           was_left place objects live recorded template was some objects_few few fit base args versions may.before may.room may.current
           ∙ same_left versions own moved (record { slots = may.before.slots; all = may.before.all })
-          (subst (λ (k : ℕ). AllBelow k own) (sym may.before.rows) (from_below named base args workers 0 template.halves (omega (arith, halves_long template form, wide))))
+          (subst (λ (k : ℕ). AllBelow k own) (sym may.before.rows) (from_below named base args workers 0 template.halves
+          (omega (arith, halves_long template form, wide))))
           (subst (λ (k : ℕ). AllBelow k moved) (sym may.before.rows) (live_below live moved moved_live)) same where
             wide : length template.built ≡ workers
             wide =
@@ -342,14 +345,16 @@ was_extended place objects live recorded template was some workers_few objects_f
       below_patches : AllByRecursion (λ (p : Parcel). p.1 < 131072) (takings moved)
       below_patches = takings_below 0 (2 * (65536 + 0 + length copies)) 131072 moved ascends (omega (arith, ordered.few))
 
-      new_sends : (worker to : Worker) → AllByRecursion (λ (key : Key). is_key_in epoch instance key ≡ true) (keys_to group to (parcels_from worker start moved))
+      new_sends : (worker to : Worker) → AllByRecursion (λ (key : Key). is_key_in epoch instance key ≡ true)
+          (keys_to group to (parcels_from worker start moved))
       new_sends worker to =
           each_to (λ (key : Key). is_key_in epoch instance key ≡ true) group to (parcels_from worker start moved)
           (each_weaker (λ (p : Parcel). p.1 < 131072) (λ (p : Parcel). (p.0.0 == to.0) ≡ true → is_key_in epoch instance (key_at group p) ≡ true)
           (λ p below mine. new_key p below) (parcels_from worker start moved)
           (each_from (λ (p : Parcel). p.1 < 131072) worker start moved (subst (AllByRecursion (λ (p : Parcel). p.1 < 131072)) (sym balanced) below_patches)))
 
-      once_taken : (to : Worker) → AllByRecursion (λ (p : Parcel). (p.0.0 == to.0) ≡ true → count_by (is_key (key_at group p)) (keys_to group to (takings moved)) ≡ 1)
+      once_taken : (to : Worker) → AllByRecursion (λ (p : Parcel). (p.0.0 == to.0) ≡ true
+          → count_by (is_key (key_at group p)) (keys_to group to (takings moved)) ≡ 1)
           (takings moved)
       once_taken to = taken_once group to 0 (2 * (65536 + 0 + length copies)) moved ascends
 
@@ -361,10 +366,12 @@ was_extended place objects live recorded template was some workers_few objects_f
           (sym balanced) (once_taken to)))
 
       posted : (p : Key → Bool) (to : Worker)
-          → count_by p (flat_map (λ (w : Worker). keys_to group to (parcels_from w start moved)) (live_workers live)) ≡ count_by p (keys_to group to (takings moved))
+          → count_by p (flat_map (λ (w : Worker). keys_to group to (parcels_from w start moved)) (live_workers live))
+          ≡ count_by p (keys_to group to (takings moved))
       posted p to =
           all_posted p group to (live_workers live) start moved
-          (each_weaker (λ (c : Worker × Command). is_live live c.0 ≡ true) (λ (c : Worker × Command). count_by (λ (w : Worker). c.0.0 == w.0) (live_workers live) ≡ 1)
+          (each_weaker (λ (c : Worker × Command). is_live live c.0 ≡ true)
+          (λ (c : Worker × Command). count_by (λ (w : Worker). c.0.0 == w.0) (live_workers live) ≡ 1)
           (λ c lives. live_once live c.0 lives) moved moved_live)
           ∙ ap (λ (ps : List Parcel). count_by p (keys_to group to ps)) balanced
 
@@ -423,7 +430,8 @@ was_extended place objects live recorded template was some workers_few objects_f
               sent_once = λ to there.
                   each_flat (λ (key : Key). count_by (is_key key) (keys_to group to (takings moved)) ≡ 1)
                   (λ (w : Worker). keys_to group to (parcels_from w start moved)) (live_workers live)
-                  (every (λ (w : Worker). Once (keys_to group to (parcels_from w start moved)) (keys_to group to (takings moved))) (once_sent to) (live_workers live));
+                  (every (λ (w : Worker). Once (keys_to group to (parcels_from w start moved)) (keys_to group to (takings moved))) (once_sent to)
+                  (live_workers live));
               received_once = λ to there.
                   each_weaker (λ (key : Key). count_by (is_key key) (keys_to group to (takings moved)) ≡ 1)
                   (λ (key : Key). count_by (is_key key) (flat_map (λ (w : Worker). keys_to group to (parcels_from w start moved)) (live_workers live)) ≡ 1)
@@ -432,7 +440,8 @@ was_extended place objects live recorded template was some workers_few objects_f
             });
         legal = λ job at tasks worker there before.
             asked.lawful job worker there
-            (subst (λ (past : List Command). AreLegal job past (own_commands named base args (half_of template worker.0))) (sym (may.so_far.ask.asked worker there))
+            (subst (λ (past : List Command). AreLegal job past (own_commands named base args (half_of template worker.0)))
+            (sym (may.so_far.ask.asked worker there))
             (subst (AreLegal job (commands_for worker given)) (own_is worker)
             (was_legal place objects live recorded template was some workers_few objects_few few fit job base args given versions may.so_far.stands may.before
             may.current at tasks worker))) before;

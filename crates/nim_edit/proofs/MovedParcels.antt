@@ -170,7 +170,13 @@ sent_back before base args task home owner version held index (o ∷ objects) fe
     (map (placed_command before base args) (at_worker owner (return_sends task home (index + 1) objects))))
     (scratch_of o low.0 ∙ sym (main_of o low.0))
     (ap version_in there.0 ∙ is ∙ sym (same_version base (before (object_of (main_slot o))) task few))
-    ∙ ap (λ (ps : List Parcel). (home, entry_number task 6 index, object_of (main_slot o), version_at base (before (object_of (main_slot o))) (offset_after task)) ∷ ps)
+    ∙ ap (λ (ps : List Parcel). (
+      home,
+      entry_number task 6 index,
+      object_of (main_slot o),
+      version_at base (before (object_of (main_slot o)))
+          (offset_after task),
+    ) ∷ ps)
     (ap (λ (h : Held). parcels h (map (placed_command before base args) (at_worker owner (return_sends task home (index + 1) objects))))
     (send_keeps owner (entry_number task 5 index) (scratch_slot o) home (entry_number task 6 index) [] held)
     ∙ sent_back before base args task home owner version held (index + 1) objects few is low.1 there.1)
@@ -215,15 +221,16 @@ got_puts before base args task home version index (o ∷ objects) held few is wo
     ∙ ap (λ (c : Content). if is_among (written_slots false objects) slot && (home.0 == worker.0) then content_at slot version else c)
     (puts_by home command.1 held version (main_slot o ∷ [])
     (λ old other. taken_is (main_slot o) other version (content_at (main_slot o) taken) (old other) (ap (content_at (main_slot o)) taken_same)) worker slot low)
-    ∙ puts_more ((main_slot o).0 == slot.0) (is_among (written_slots false objects) slot) (home.0 == worker.0) (content_at slot version) (held worker slot) where
-      command : Worker × Command
-      command = placed_command before base args (home, entry_of (entry_number task 6 index) (EntryKind.Receive (main_slot o) (offset_after task)))
+    ∙ puts_more ((main_slot o).0 == slot.0) (is_among (written_slots false objects) slot) (home.0 == worker.0) (content_at slot version) (held worker slot)
+  where
+    command : Worker × Command
+    command = placed_command before base args (home, entry_of (entry_number task 6 index) (EntryKind.Receive (main_slot o) (offset_after task)))
 
-      taken : ℕ
-      taken = version_at base (before (object_of (main_slot o))) (offset_after task)
+    taken : ℕ
+    taken = version_at base (before (object_of (main_slot o))) (offset_after task)
 
-      taken_same : taken ≡ version
-      taken_same = same_version base (before (object_of (main_slot o))) task few ∙ sym is
+    taken_same : taken ≡ version
+    taken_same = same_version base (before (object_of (main_slot o))) task few ∙ sym is
 
 -- ---- all of it
 

@@ -233,7 +233,8 @@ ranked_some place objects live recorded template given others forms_are was some
     whole = may.whole;
     tasks = tasks;
     room = room;
-    held = recursion_from_All (λ (one : Worker × Object). slots one.0 (main_slot one.1) ≡ Some (one.1, read_version job base one.1)) template.preconditions may.held;
+    held = recursion_from_All (λ (one : Worker × Object). slots one.0 (main_slot one.1) ≡ Some (one.1, read_version job base one.1)) template.preconditions
+        may.held;
     copied = copied;
     same = of_built;
   }

@@ -72,29 +72,30 @@ run_last template worker task form within slot =
     after_append (offset_left slot) None (under low built) (home_run template task worker)
     ∙ sym (ap (after_entries (offset_left slot) None) (under_more low high 0 built ascends (omega arith))
     ∙ after_append (offset_left slot) None (under low built) (under high (onward low built))
-    ∙ between_after (offset_left slot) (after_entries (offset_left slot) None (under low built)) low high built (home_run template task worker) ascends has) where
-      low : ℕ
-      low = 64 * task + 16
+    ∙ between_after (offset_left slot) (after_entries (offset_left slot) None (under low built)) low high built (home_run template task worker) ascends has)
+  where
+    low : ℕ
+    low = 64 * task + 16
 
-      high : ℕ
-      high = 64 * task + 64
+    high : ℕ
+    high = 64 * task + 64
 
-      built : List Entry
-      built = slice_index_or template.built worker.0 []
+    built : List Entry
+    built = slice_index_or template.built worker.0 []
 
-      ascends : Ascend 0 built
-      ascends = built_ascend template worker form
+    ascends : Ascend 0 built
+    ascends = built_ascend template worker form
 
-      has : HasBetween low high built (home_run template task worker)
-      has = either (cases_lt worker.0 (length template.built)) where
-        either : (worker.0 < length template.built) ⊎ (length template.built ≤ worker.0) → HasBetween low high built (home_run template task worker)
-        either (inl below) =
-            built_between template form worker task built below within (λ number at. refl) (worker.0 == (worker_at template.homes task).0) refl
-        either (inr past) =
-            subst (λ (half : List Entry). HasBetween low high half (home_run template task worker)) (sym (get_or_past template.built worker.0 [] past))
-            (subst (HasBetween low high []) (sym (ap (λ (b : Bool). if b then run_over false task (spec_of template.forms task) ∷ [] else [])
-            (ne_eqb worker.0 (worker_at template.homes task).0 (λ same. absurd (omega (arith, same, past, home_below template task form within))))))
-            (record { ascend = tt; inside = λ number above less. refl; before = λ number less. refl; behind = λ number more. refl }))
+    has : HasBetween low high built (home_run template task worker)
+    has = either (cases_lt worker.0 (length template.built)) where
+      either : (worker.0 < length template.built) ⊎ (length template.built ≤ worker.0) → HasBetween low high built (home_run template task worker)
+      either (inl below) =
+          built_between template form worker task built below within (λ number at. refl) (worker.0 == (worker_at template.homes task).0) refl
+      either (inr past) =
+          subst (λ (half : List Entry). HasBetween low high half (home_run template task worker)) (sym (get_or_past template.built worker.0 [] past))
+          (subst (HasBetween low high []) (sym (ap (λ (b : Bool). if b then run_over false task (spec_of template.forms task) ∷ [] else [])
+          (ne_eqb worker.0 (worker_at template.homes task).0 (λ same. absurd (omega (arith, same, past, home_below template task form within))))))
+          (record { ascend = tt; inside = λ number above less. refl; before = λ number less. refl; behind = λ number more. refl }))
 
 home_tasks : (template : WorkerTemplate) (task : ℕ) (worker : Worker) → task < 1024 → AreOfTasks (home_run template task worker)
 home_tasks template task worker few = either (worker.0 == (worker_at template.homes task).0) where
@@ -171,7 +172,8 @@ one_task template job base args slots listed task p q is within at found =
           (λ (worker : Worker). under (64 * task + 16) (built worker)) second
           (λ worker slot. ap (after_entries (offset_left slot) None)
           (sym (under_more (64 * task) (64 * task + 16) 0 (built worker) (built_ascend template worker is.form) (omega arith))))
-          (still_so job before base args slots (λ (worker : Worker). under (64 * task) (built worker)) (λ (worker : Worker). early_of task (built worker)) p early
+          (still_so job before base args slots (λ (worker : Worker). under (64 * task) (built worker)) (λ (worker : Worker). early_of task (built worker)) p
+          early
           (copies_plain early firsts.copies) found_early (λ worker. half_early before base args worker listed (built worker) (is.same worker) task)
           (λ worker. under_tasks (64 * task + 16) (onward (64 * task) (built worker)) (omega (arith, few))) at.so)
 

@@ -70,7 +70,8 @@ pub from_below : (before : Object → ℕ) (base : ℕ) (args : List ℤ) (worke
 from_below before base args workers number [] few = tt
 from_below before base args workers number (half ∷ halves) few =
     both_below workers (commands_at before base args (record { 0 = number }) half) (commands_from before base args (number + 1) halves)
-    (at_below workers number (own_commands before base args half) (omega (arith, few))) (from_below before base args workers (number + 1) halves (omega (arith, few)))
+    (at_below workers number (own_commands before base args half) (omega (arith, few)))
+    (from_below before base args workers (number + 1) halves (omega (arith, few)))
 
 pub live_below : (live : List Bool) (cs : List (Worker × Command)) → AllByRecursion (λ (c : Worker × Command). is_live live c.0 ≡ true) cs
     → AllBelow (length live) cs

@@ -75,7 +75,8 @@ for_first worker c cs b is = ap (λ (d : Bool). map (λ (x : Worker × Command).
   mine : List (Worker × Command)
   mine = filter (λ (d : Worker × Command). d.0.0 == worker.0) cs
 
-  either : (d : Bool) → map (λ (x : Worker × Command). x.1) (if d then c ∷ mine else mine) ≡ (if d then c.1 ∷ commands_for worker cs else commands_for worker cs)
+  either : (d : Bool) → map (λ (x : Worker × Command). x.1) (if d then c ∷ mine else mine)
+      ≡ (if d then c.1 ∷ commands_for worker cs else commands_for worker cs)
   either true = refl
   either false = refl
 
@@ -88,7 +89,8 @@ sent_for group to worker held past (c ∷ cs) is =
       rest = parcels_from worker (held_with c held) cs
 
       either : (b : Bool) → (c.0.0 == worker.0) ≡ b
-          → ((more : List Command) → held_with c held worker ≡ holds more (length more) → new_sent to group more (commands_for worker cs) ≡ keys_to group to rest)
+          → ((more : List Command) → held_with c held worker ≡ holds more (length more)
+          → new_sent to group more (commands_for worker cs) ≡ keys_to group to rest)
           → new_sent to group past (commands_for worker (c ∷ cs)) ≡ keys_to group to ((if c.0.0 == worker.0 then parcel held c.0 c.1.kind else []) ++ rest)
       either true here goes =
           ap (new_sent to group past) (for_first worker c cs true here)

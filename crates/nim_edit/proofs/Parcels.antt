@@ -132,7 +132,8 @@ has_puts held now versions owner version puts has whole below few is worker obje
     let slot : Slot = main_slot object in
     picked (is_among puts slot && (owner.0 == worker.0)) version found object (held_at versions worker slot) (held worker slot) (now worker slot)
     (is worker slot (omega (arith, deep, few))
-    ∙ ap (λ (o : Object). if is_among puts slot && (owner.0 == worker.0) then Some (o, version) else held worker slot) (main_of object (omega (arith, deep, few))))
+    ∙ ap (λ (o : Object). if is_among puts slot && (owner.0 == worker.0) then Some (o, version) else held worker slot)
+    (main_of object (omega (arith, deep, few))))
     (sym there ∙ put.held worker slot (kept_for versions worker slot low deep)) (has worker object found low deep)
 
 and_true : (a : Bool) → (a && true) ≡ a

@@ -281,7 +281,9 @@ runs_elsewhere job before base args task home owner spec firsts work p q away sa
       ≡ (step_of home id kind p).slots worker slot
   ends worker slot main true here =
       ap (λ (c : Content). if is_among (written_slots false spec.writes) slot then content_at slot written else c) (between home slot main)
-      ∙ sym (at_slots home worker (λ (s : Slot). if is_among (written_slots false spec.writes) s then content_at s written else p.slots home s) p slot true here)
+      ∙ sym (at_slots home worker (λ (s : Slot). if is_among (written_slots false spec.writes) s then content_at s written else p.slots home s) p slot true
+      here)
   ends worker slot main false here =
       between worker slot main
-      ∙ sym (at_slots home worker (λ (s : Slot). if is_among (written_slots false spec.writes) s then content_at s written else p.slots home s) p slot false here)
+      ∙ sym (at_slots home worker (λ (s : Slot). if is_among (written_slots false spec.writes) s then content_at s written else p.slots home s) p slot false
+      here)

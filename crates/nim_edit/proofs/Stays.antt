@@ -211,7 +211,8 @@ pub half_after : {S : Type 0} (step : S → ℕ → EntryKind → S) (I : S → 
 half_after step I alike template form worker below state holds =
     ap (after_entries step state)
     (ap (λ (hs : List (List Entry)). slice_index_or hs worker.0 []) form.halves
-    ∙ get_or-map-range_with_len (λ (n : ℕ). half_of template template.owners (record { 0 = n })) 0 (length template.built) worker.0 worker.0 [] below (omega arith))
+    ∙ get_or-map-range_with_len (λ (n : ℕ). half_of template template.owners (record { 0 = n })) 0 (length template.built) worker.0 worker.0 [] below
+    (omega arith))
     ∙ tasks_after step I alike template form template.owners worker 0 (length template.forms) (slice_index_or template.built worker.0 []) below (omega arith)
     (ascend_from 0 (slice_index_or template.built worker.0 []) (all_at (does_ascend 0) template.built worker.0 [] form.ascend below))
     (λ task above number at. refl) state holds

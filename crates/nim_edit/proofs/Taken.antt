@@ -189,7 +189,8 @@ pub offset_more : (before number : ℕ) (object : Object) (past : List TaskForm)
 offset_more before number object [] form = ap (λ (n : ℕ). if is_one_of form.writes object then n + 1 else before) (omega arith)
 offset_more before number object (x ∷ past) form =
     offset_more (if is_one_of x.writes object then number + 1 else before) (number + 1) object past form
-    ∙ ap (λ (n : ℕ). if is_one_of form.writes object then n else offset_behind (if is_one_of x.writes object then number + 1 else before) (number + 1) object past)
+    ∙ ap (λ (n : ℕ). if is_one_of form.writes object then n else offset_behind (if is_one_of x.writes object then number + 1 else before) (number + 1) object
+    past)
     (omega arith)
 
 pub reads_all : (P : Object → ℕ → Type 0) (past : List TaskForm) (objects : List Object)

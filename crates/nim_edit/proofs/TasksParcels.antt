@@ -35,7 +35,7 @@ use Rattle.nim_template.specs.Tasks.{scheduled_from, task_with}
 use Rattle.nim_template.specs.Walk.{home_of}
 use Rattle.nim_template.proofs.Fits.{few_reads}
 use Rattle.nim_template.proofs.Planes.{Has}
-use Rattle.nim_template.proofs.IsSound.{shorts}
+use Rattle.nim_template.proofs.InOrder.{shorts}
 use Rattle.nim_template.proofs.Ranked.{ranked_ascend, ranked_from, ranked_task}
 use Rattle.nim_template.proofs.Sizes.{AreLike, like_commands}
 use Rattle.nim_template.proofs.StaysBefore.{maps_stay_before}

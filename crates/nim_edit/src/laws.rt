@@ -40,7 +40,8 @@ pub fn built_is_in_form(
 /// halves, the commands of an instance leave what the effect says, behind it the preconditions hold again, the template
 /// is sound (each task of an instance reads what it reads in program order, wherever it runs), the commands of an
 /// instance are legal behind those so far, and the orders that install its halves extend all orders so far. Where each
-/// owner is live, so do the orders of an instance: those of workers that have the halves as they are now, and those that
+/// owner is live, so do the orders of an instance: those of workers that have the halves as they are now, and those
+/// that
 /// carry the unsent edits to workers that still have the halves as they were last sent.
 pub fn moved_stays_good(
     template: &WorkerTemplate,

@@ -22,7 +22,8 @@ found key copies kept = option_map_or (number_if_equal copies) (lookup (same_key
 
 -- finding is a use, if there is such a patch
 abbrev pub after_find : Key → List PatchCopy → List Use → List Use
-after_find key copies kept = option_map_or (λ (number : ℕ). after_use (use_of key number copies) kept) (found key copies kept) kept
+after_find key copies kept =
+    option_map_or (λ (number : ℕ). after_use (use_of key number copies) kept) (found key copies kept) kept
 
 -- how many kept patches have a number
 abbrev pub times : ℕ → List Use → ℕ
@@ -45,7 +46,8 @@ oldest_number kept = option_map_or (λ (u : Use). u.1.number) (last_entry kept) 
 -- The number for a key: the one that it has, else the least that is free, else that of the patch that was used longest
 -- ago, which is dropped.
 abbrev pub number_for : Key → List Use → ℕ
-number_for key kept = option_map_or (λ (k : Kept). k.number) (lookup (same_key key) kept) (unwrap_or (least_free kept) (oldest_number kept))
+number_for key kept = option_map_or (λ (k : Kept). k.number) (lookup (same_key key) kept)
+    (unwrap_or (least_free kept) (oldest_number kept))
 
 -- each number below the number of kept patches is that of just one of them, and no patch has another
 abbrev pub AreNumbered : List Use → Type 0

@@ -25,7 +25,8 @@ is_target copies worker slot = list_any (λ (c : PatchCopy). (c.object.0 == slot
 -- Behind the copies each precondition holds, of the map's workers and of an object that some worker held; all other
 -- slots hold what they held, and each latest version is what it was.
 pub record Mends (versions : Versions) (preconditions : List (Worker × Object)) (copies : List PatchCopy) : Type 0 where
-  pub holds : (precondition : Worker × Object) → Contains preconditions precondition → precondition.0.0 < versions.workers
+  pub holds : (precondition : Worker × Object) → Contains preconditions precondition
+      → precondition.0.0 < versions.workers
       → is_some (holder versions precondition.1) ≡ true → fails (after_copies versions copies) precondition ≡ false
   pub others : (worker : Worker) (slot : Slot) → is_target copies worker slot ≡ false
       → held_at (after_copies versions copies) worker slot ≡ held_at versions worker slot

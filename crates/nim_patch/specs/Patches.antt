@@ -26,7 +26,8 @@ copy_from precondition from = record { from = from; to = precondition.0; object 
 
 -- the copy for a precondition that fails, from the lowest worker whose main slot holds the latest version
 abbrev pub copy_of : Versions → Worker × Object → Option PatchCopy
-copy_of versions precondition = if fails versions precondition then option_map (copy_from precondition) (holder versions precondition.1) else None
+copy_of versions precondition =
+    if fails versions precondition then option_map (copy_from precondition) (holder versions precondition.1) else None
 
 -- a copy, if there is one, before others
 abbrev pub copy_first : Option PatchCopy → List PatchCopy → List PatchCopy
@@ -40,7 +41,8 @@ copies_of versions (precondition ∷ rest) = copy_first (copy_of versions precon
 
 -- a copy has its receiver take in the latest version of its object
 abbrev pub after_copy : Versions → PatchCopy → Versions
-after_copy versions copy = after_kind copy.to versions (Kind.Receive (main_slot copy.object) (latest_of versions copy.object))
+after_copy versions copy =
+    after_kind copy.to versions (Kind.Receive (main_slot copy.object) (latest_of versions copy.object))
 
 -- what copies leave, one after another
 abbrev pub after_copies : Versions → List PatchCopy → Versions

@@ -52,11 +52,13 @@ keys_in uses = length (lasts uses)
 -- A use is a hit where the last one with its key has equal copies, and fewer than 64 other keys were used since.
 abbrev pub is_hit : Key → List PatchCopy → List Use → Bool
 is_hit key copies uses =
-    option_map_or (λ (k : Kept). same_copies k.patch.copies copies) (lookup (same_key key) uses) false && nat_lt (keys_in (since key uses)) 64
+    option_map_or (λ (k : Kept). same_copies k.patch.copies copies) (lookup (same_key key) uses) false
+    && nat_lt (keys_in (since key uses)) 64
 
 -- the number of the last use with this key, where the next one is a hit
 abbrev pub hit : Key → List PatchCopy → List Use → Option ℕ
-hit key copies uses = if is_hit key copies uses then option_map (λ (k : Kept). k.number) (lookup (same_key key) uses) else None
+hit key copies uses =
+    if is_hit key copies uses then option_map (λ (k : Kept). k.number) (lookup (same_key key) uses) else None
 
 -- A cache stands for the uses so far where it has the last use of each key, for the 64 keys that were used last.
 abbrev pub StandsFor : List Use → List Use → Type 0

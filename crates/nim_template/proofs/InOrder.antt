@@ -32,7 +32,7 @@ use Rattle.nim_template.proofs.Plain.{runs_plain}
 use Rattle.nim_template.proofs.Ranked.{AreShort, closing_runs, closings_ascend, ranked_ascend, ranked_for, ranked_from, ranked_runs, runs_of}
 use Rattle.nim_template.proofs.Sames.{AreSame}
 
-shorts : (objects : ℕ) (forms : List TaskForm) → list_all (is_fit objects) forms ≡ true → AreShort forms
+pub shorts : (objects : ℕ) (forms : List TaskForm) → list_all (is_fit objects) forms ≡ true → AreShort forms
 shorts objects [] fit = tt
 shorts objects (form ∷ forms) fit =
     let each = both_true (is_fit objects form) (list_all (is_fit objects) forms) fit in (few_reads objects form each.0, shorts objects forms each.1)

@@ -14,7 +14,8 @@ pub record IsBefore (workers objects base : ℕ) (versions : Versions) : Type 0 
   pub slots : length versions.held ≡ versions.objects * versions.workers
   pub all : length versions.latest ≡ versions.objects
   pub latest : (object : Object) → object.0 < objects → latest_of versions object ≤ base
-  pub held : (worker : Worker) (object : Object) (version : ℕ) → held_at versions worker (main_slot object) ≡ Some version → version ≤ base
+  pub held : (worker : Worker) (object : Object) (version : ℕ)
+      → held_at versions worker (main_slot object) ≡ Some version → version ≤ base
   pub room : base < 2 ^ 64
 
 -- whether each of these main slots has the latest version of its object
@@ -24,5 +25,6 @@ are_current versions needs = list_all (λ (need : Worker × Object). is_current 
 -- where the preconditions hold before an instance, they hold behind its effect
 abbrev pub HoldAgain : ℕ → ℕ → WorkerTemplate → Type 0
 HoldAgain workers objects template =
-    (base : ℕ) (versions : Versions) → IsBefore workers objects base versions → are_current versions template.preconditions ≡ true
+    (base : ℕ) (versions : Versions) → IsBefore workers objects base versions
+    → are_current versions template.preconditions ≡ true
     → are_current (after_effect base versions template.effect) template.preconditions ≡ true

@@ -18,11 +18,13 @@ use Rattle.nim_template.specs.Walk.{home_of, offset_for, empty_walk, walked}
 
 -- the main slots of a worker, each as worker and object
 abbrev pub slots_of : Worker → ℕ → List (Worker × Object)
-slots_of worker objects = map (λ (number : ℕ). let object : Object = record { 0 = number } in (worker, object)) (range_with_len 0 objects)
+slots_of worker objects =
+    map (λ (number : ℕ). let object : Object = record { 0 = number } in (worker, object)) (range_with_len 0 objects)
 
 -- the main slots of all workers, worker by worker
 abbrev pub all_slots : ℕ → ℕ → List (Worker × Object)
-all_slots workers objects = flat_map (λ (number : ℕ). slots_of (record { 0 = number }) objects) (range_with_len 0 workers)
+all_slots workers objects =
+    flat_map (λ (number : ℕ). slots_of (record { 0 = number }) objects) (range_with_len 0 workers)
 
 -- those that have to have the version at entry
 abbrev pub needs_of : Versions → List (Worker × Object) → List (Worker × Object)
@@ -43,7 +45,8 @@ effect_of offsets slots = flat_map (effect_here offsets) slots
 
 -- the entries of one worker, in order
 abbrev pub entries_for : Worker → List (Worker × Entry) → List Entry
-entries_for worker entries = map (λ (e : Worker × Entry). e.1) (filter (λ (e : Worker × Entry). e.0.0 == worker.0) entries)
+entries_for worker entries =
+    map (λ (e : Worker × Entry). e.1) (filter (λ (e : Worker × Entry). e.0.0 == worker.0) entries)
 
 -- its half, each before set that of the rule
 abbrev pub half_for : Worker → List (Worker × Entry) → List Entry
@@ -61,7 +64,8 @@ end_of place objects live forms = walked place live 0 (empty_walk (length live) 
 abbrev pub template_of : ControllerTemplate → ℕ → List (Worker × Object) → Walk → List Worker → WorkerTemplate
 template_of template workers slots walk homes =
     let needs : List (Worker × Object) = needs_of walk.needed slots in
-    let halves : List (List Entry) = all_halves workers (walk.entries ++ closing_entries 0 (closings walk.offsets needs)) in
+    let halves : List (List Entry) =
+    all_halves workers (walk.entries ++ closing_entries 0 (closings walk.offsets needs)) in
     record {
       block = template.block;
       forms = template.forms;

@@ -51,7 +51,8 @@ closing_number copy = min (65536 + copy) (2 ^ 32 - 1)
 
 -- the entry that sends a closing copy, by the copy's number
 abbrev pub closing_send : ℕ → Closing → Worker × Entry
-closing_send copy c = (c.from, entry_of (closing_number copy) (EntryKind.Send (main_slot c.object) c.to (closing_number copy)))
+closing_send copy c =
+    (c.from, entry_of (closing_number copy) (EntryKind.Send (main_slot c.object) c.to (closing_number copy)))
 
 -- the entry that receives it
 abbrev pub closing_receive : ℕ → Closing → Worker × Entry

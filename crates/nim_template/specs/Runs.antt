@@ -12,7 +12,8 @@ use Rattle.nim_template.specs.Again.{IsBefore, are_current}
 use Rattle.nim_template.specs.Given.{AreTasksAt}
 use Rattle.nim_template.specs.Instance.{instance_of}
 
--- The commands of an instance run the positions of its block's tasks, each once; and where these are a job's tasks, each
+-- The commands of an instance run the positions of its block's tasks, each once; and where these are a job's tasks,
+-- each
 -- at its home.
 pub record IsRun (place : Placement) (live : List Bool) (objects : ℕ) (template : WorkerTemplate) (base : ℕ)
     (args : List ℤ) (versions : Versions) : Type 0 where

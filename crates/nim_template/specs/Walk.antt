@@ -28,7 +28,8 @@ home_of place objects live form = owner_of place (task_for form) objects live
 
 -- nothing is written yet, and nothing needed
 abbrev pub empty_walk : ℕ → ℕ → Walk
-empty_walk workers objects = record { offsets = no_versions workers objects; needed = no_versions workers objects; entries = [] }
+empty_walk workers objects =
+    record { offsets = no_versions workers objects; needed = no_versions workers objects; entries = [] }
 
 -- a worker's main slot of an object has this offset
 abbrev pub with_offset : Worker → Object → ℕ → Versions → Versions
@@ -39,7 +40,12 @@ with_offset worker object offset versions = with_version worker offset versions 
 abbrev pub with_need : Worker → Walk → Object → Walk
 with_need worker walk object =
     if latest_of walk.offsets object == 0
-    then record { offsets = with_offset worker object 0 walk.offsets; needed = with_offset worker object 0 walk.needed; entries = walk.entries }
+    then record {
+      offsets = with_offset worker object 0 walk.offsets;
+      needed =
+          with_offset worker object 0 walk.needed;
+      entries = walk.entries;
+    }
     else walk
 
 -- an offset as an entry has it
@@ -78,4 +84,5 @@ walked_past place live number walk form =
 -- the tasks of a block from one of this number on
 abbrev pub walked : Placement → List Bool → ℕ → Walk → List TaskForm → Walk
 walked place live number walk [] = walk
-walked place live number walk (form ∷ forms) = walked place live (number + 1) (walked_past place live number walk form) forms
+walked place live number walk (form ∷ forms) =
+    walked place live (number + 1) (walked_past place live number walk form) forms

@@ -14,13 +14,15 @@ use Rattle.nim_template.specs.Built.{all_slots}
 -- the offset of what a main slot has after an entry of this number: a Copy goes to a scratch slot
 abbrev pub offset_left : Slot → Option ℕ → ℕ → EntryKind → Option ℕ
 offset_left slot before number (EntryKind.Receive to offset) = if to.0 == slot.0 then Some offset else before
-offset_left slot before number (EntryKind.Run func params reads writes) = if is_among writes slot then Some (offset_after (task_of number)) else before
+offset_left slot before number (EntryKind.Run func params reads writes) =
+    if is_among writes slot then Some (offset_after (task_of number)) else before
 offset_left slot before number (EntryKind.Copy from to) = before
 offset_left slot before number (EntryKind.Send from peer entry) = before
 
 -- the offset of a slot's last content, if one of these entries writes it
 abbrev pub last_written : List Entry → Slot → Option ℕ
-last_written entries slot = fold (λ (before : Option ℕ) (entry : Entry). offset_left slot before entry.id entry.kind) None entries
+last_written entries slot =
+    fold (λ (before : Option ℕ) (entry : Entry). offset_left slot before entry.id entry.kind) None entries
 
 -- an item of an effect
 abbrev pub item_of : Worker × Object → Option ℕ → List (Worker × Slot × ℕ)

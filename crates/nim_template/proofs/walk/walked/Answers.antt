@@ -7,7 +7,8 @@ use Rattle.nim_template.proofs.walk.walked.Goals as goal
 pub take_form-requires-clause-writes : goal.take_form-requires-clause-writes
 take_form-requires-clause-writes c =
     first_within c.args.objects c.loop-number.walk.offsets.objects c.index-forms-number.result.writes c.loop-number.invariant.objects
-    (first_of c.args.objects c.args.forms.now c.loop-number.number c.index-forms-number.result c.requires.all_fit c.loop-number-test.true c.index-forms-number.is)
+    (first_of c.args.objects c.args.forms.now c.loop-number.number c.index-forms-number.result c.requires.all_fit c.loop-number-test.true
+    c.index-forms-number.is)
 
 pub loop-number-preserved : goal.loop-number-preserved
 loop-number-preserved c =
