@@ -25,12 +25,12 @@ RunsAtHome job place live worker (Run position func params reads writes) =
 RunsAtHome job place live worker kind = Unit {0}
 
 -- how many commands run the task at a position
-abbrev pub runs_at : ℕ → List (Worker × Command) → ℕ
-runs_at position commands =
+abbrev pub times_run : ℕ → List (Worker × Command) → ℕ
+times_run position commands =
     count_by (λ (one : Worker × Command). list_any (λ (p : ℕ). p == position) (position_run one.1.kind)) commands
 
 -- Of so many positions from one on each is run once, and no other is run.
 abbrev pub AreRunOnce : ℕ → ℕ → List (Worker × Command) → Type 0
 AreRunOnce first count commands =
-    (position : ℕ) → runs_at position commands
+    (position : ℕ) → times_run position commands
     ≡ (if nat_le first position && nat_lt position (first + count) then 1 else 0)

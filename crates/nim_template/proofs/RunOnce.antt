@@ -23,7 +23,7 @@ use Rattle.nim_job.specs.Serial.{tasks_of}
 use Rattle.nim_place.specs.declared.placement.Placement.{Placement}
 use Rattle.nim_place.specs.Schedule.{owner_of}
 use Rattle.nim_place.specs.Sound.{by_rank, owned_from, put_by_rank, run_by}
-use Rattle.nim_place.specs.TaskRuns.{RunsAtHome, position_run, runs_at}
+use Rattle.nim_place.specs.TaskRuns.{RunsAtHome, position_run, times_run}
 use Rattle.nim_place.specs.Versions.{latest_of}
 use Rattle.nim_template.specs.declared.template.ControllerTemplate.{ControllerTemplate}
 use Rattle.nim_template.specs.Built.{built}
@@ -66,7 +66,7 @@ one_alone : (b : Bool) (n : ℕ) → cond (b || false) 1 0 + n ≡ cond b 1 0 + 
 one_alone true n = refl
 one_alone false n = refl
 
-runs_counted : (position : ℕ) (cs : List (Worker × Command)) → runs_at position cs ≡ count_by (is_at position) (runs_of cs)
+runs_counted : (position : ℕ) (cs : List (Worker × Command)) → times_run position cs ≡ count_by (is_at position) (runs_of cs)
 runs_counted position [] = refl
 runs_counted position (c ∷ cs) =
     sum_by-cons weight c cs ∙ ap (λ (n : ℕ). weight c + n) (runs_counted position cs) ∙ one c.0 c.1.kind (runs_of cs) where
