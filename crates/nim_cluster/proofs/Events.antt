@@ -22,6 +22,9 @@ use Rattle.nim_lockstep.specs.Events.{HasTurned, IsPassed, IsStep, batch_finishe
 use Rattle.nim_lockstep.specs.Nodes.{finished, runs_by}
 use Rattle.nim_cluster.specs.declared.cluster.Cluster.{Cluster}
 use Rattle.nim_cluster.specs.declared.node.Node.{Node as kept_node}
+use Rattle.nim_cluster.specs.declared.running.Moving.{Moving}
+use Rattle.nim_cluster.specs.declared.running.Moving.TheVariants as moving
+use Rattle.nim_cluster.specs.Runs.{event_of}
 use Rattle.nim_cluster.specs.Stands.{AreNodes, IsNode, Stands}
 use Rattle.nim_cluster.specs.Steps.{IsFinished, may_take, number_in}
 use Rattle.nim_cluster.proofs.Jobs.{reported_job, turned_job}
@@ -44,36 +47,42 @@ come_as s (Finish worker) = refl
 come_as s (Lose worker) = never (is_live s.control.live (worker_of worker)) (slice_get s.nodes worker)
 come_as s (Propose block task to) = never (is_live s.control.live (worker_of to)) (slice_get s.nodes to)
 
+-- the worker of an event of a kind
+pub number_of : (kind : Moving) (worker : ℕ) → number_in (event_of kind worker) ≡ worker
+number_of moving.Report worker = refl
+number_of moving.Finish worker = refl
+number_of moving.Order worker = refl
+number_of moving.Begin worker = refl
+
 live_of : (s : ClusterState) (may : Node → Bool) (number : ℕ) (o : Option Node) → slice_get s.nodes number ≡ o
     → of_live s may number ≡ (is_live s.control.live (worker_of number) && option_map_or may o false)
 live_of s may number o there = ap (λ (p : Option Node). is_live s.control.live (worker_of number) && option_map_or may p false) there
 
-pub enabled_there : (cluster : Cluster) (s : ClusterState) (event : Event) (kept : kept_node) (live may : Bool) → Stands cluster s
-    → slice_get cluster.nodes.items (number_in event) ≡ Some kept → is_some cluster.control.outcome ≡ false
-    → live ≡ is_live cluster.control.live kept.core.worker
-    → ((number : ℕ) (node : Node) → IsNode number kept node → may ≡ may_take event node) → (live && may) ≡ is_enabled s event
-enabled_there cluster s event kept live may stands at going is_so does =
-    let here = node_at (number_in event) cluster.nodes.items s.nodes kept stands.nodes at in
-    ap₂ (λ (a b : Bool). a && b)
-    (is_so ∙ ap₂ (λ (c : Controller) (w : Worker). is_live c.live w) stands.control here.2.worker)
-    (does (number_in event) here.0 here.2)
-    ∙ sym (live_of s (may_take event) (number_in event) (Some here.0) here.1)
-    ∙ sym (come_as s event)
-    ∙ ap (λ (b : Bool). not b && may_come s event) (sym going ∙ ap (λ (c : Controller). is_some c.outcome) stands.control)
+-- what is tested last comes first
+turned_round : (may goes live : Bool) → (may && (goes && live)) ≡ (goes && (live && may))
+turned_round true true true = refl
+turned_round true true false = refl
+turned_round true false live = refl
+turned_round false true true = refl
+turned_round false true false = refl
+turned_round false false live = refl
 
--- its worker isn't live
-pub enabled_dead : (cluster : Cluster) (s : ClusterState) (event : Event) (kept : kept_node) → Stands cluster s
-    → slice_get cluster.nodes.items (number_in event) ≡ Some kept → false ≡ is_live cluster.control.live kept.core.worker → false ≡ is_enabled s event
-enabled_dead cluster s event kept stands at dead =
+-- whether the job goes on and a worker is live
+abbrev pub going_on : Cluster → Worker → Bool
+going_on cluster worker = not (is_some cluster.control.outcome) && is_live cluster.control.live worker
+
+pub enabled_there : (cluster : Cluster) (s : ClusterState) (event : Event) (kept : kept_node) (may : Bool) → Stands cluster s
+    → slice_get cluster.nodes.items (number_in event) ≡ Some kept
+    → ((number : ℕ) (node : Node) → IsNode number kept node → may ≡ may_take event node)
+    → (may && going_on cluster kept.core.worker) ≡ is_enabled s event
+enabled_there cluster s event kept may stands at does =
     let here = node_at (number_in event) cluster.nodes.items s.nodes kept stands.nodes at in
-    let none : may_come s event ≡ false =
-    come_as s event
-    ∙ ap (λ (b : Bool). b && option_map_or (may_take event) (slice_get s.nodes (number_in event)) false)
-    (sym (dead ∙ ap₂ (λ (c : Controller) (w : Worker). is_live c.live w) stands.control here.2.worker)) in
-    sym (ap (λ (b : Bool). not (has_ended s) && b) none ∙ and_no (not (has_ended s))) where
-      and_no : (b : Bool) → (b && false) ≡ false
-      and_no true = refl
-      and_no false = refl
+    let takes : Bool = may_take event here.0 in
+    ap (λ (b : Bool). b && going_on cluster kept.core.worker) (does (number_in event) here.0 here.2)
+    ∙ turned_round takes (not (is_some cluster.control.outcome)) (is_live cluster.control.live kept.core.worker)
+    ∙ ap₂ (λ (c : Controller) (w : Worker). not (is_some c.outcome) && (is_live c.live w && takes)) stands.control here.2.worker
+    ∙ ap (λ (b : Bool). not (has_ended s) && b)
+    (sym (live_of s (may_take event) (number_in event) (Some here.0) here.1) ∙ sym (come_as s event))
 
 pub enabled_nowhere : (cluster : Cluster) (s : ClusterState) (event : Event) → Stands cluster s
     → length cluster.nodes.items ≤ number_in event → false ≡ is_enabled s event

@@ -1,5 +1,6 @@
 pub mod Answered
 pub mod Events
+pub mod Idle
 pub mod Jobs
 pub mod Links
 pub mod Nodes

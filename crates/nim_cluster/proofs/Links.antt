@@ -3,7 +3,7 @@ use Rattle.std.proofs.Common.{◌≡◌, ℕ, zero, suc, Bool, true, false, List
 use Rattle.std.specs.Prelude.{◌&&◌, if◌then◌else◌, nat_le, not, slice_get, slice_set}
 use Rattle.std.specs.declared.collections.VecDeque.{VecDeque}
 use Rattle.std.specs.Option.{is_some, option_map, option_map_or}
-use Rattle.std.proofs.lemmas.Bool.{and_parts}
+use Rattle.std.proofs.lemmas.Bool.{and_parts, both_ways}
 use Rattle.std.proofs.lemmas.List.{length-map, map-append, map-set}
 use Rattle.nim_base.specs.declared.number.Worker.{Worker}
 use Rattle.nim_command.specs.declared.command.Kind.{Kind}
@@ -34,6 +34,7 @@ pub record IsSame (old new : kept_node) : Type 0 where
   pub orders : new.orders.items ≡ old.orders.items
   pub reports : new.reports.items ≡ old.reports.items
   pub frames : frames_in new.frames.items ≡ frames_in old.frames.items
+  pub waits : new.frames_wait ≡ old.frames_wait
 
 pub same_node : (number : ℕ) (old new : kept_node) (node : Node) → IsNode number old node → IsSame old new → IsNode number new node
 same_node number old new node is same = record {
@@ -45,6 +46,7 @@ same_node number old new node is same = record {
   orders = same.orders ∙ is.orders;
   reports = same.reports ∙ is.reports;
   frames = same.frames ∙ is.frames;
+  idle = λ no. is.idle (sym same.waits ∙ no);
 }
 
 -- a report waits no longer
@@ -52,7 +54,7 @@ pub reported_node : (number : ℕ) (old new : kept_node) (node : Node) → IsNod
     → IsNode number new (record node { reports = new.reports.items })
 reported_node number old new node is rest =
     subst (λ (kept : kept_node). IsNode number kept (record node { reports = new.reports.items })) (sym rest)
-    (record { core = is.core; worker = is.worker; batch = is.batch; orders = is.orders; reports = refl; frames = is.frames })
+    (record { core = is.core; worker = is.worker; batch = is.batch; orders = is.orders; reports = refl; frames = is.frames; idle = is.idle })
 
 -- no order waits
 pub unordered_node : (number : ℕ) (old new : kept_node) (node : Node) → IsNode number old node → old.orders.items ≡ [] → IsSame old new
@@ -86,8 +88,8 @@ pub record TakesOrder (old : kept_node) (happened : List Happening) (order : ToW
 
 pub ordered_node : (number : ℕ) (old new : kept_node) (node : Node) (order : ToWorker) → IsNode number old node
     → old.orders.items ≡ order ∷ new.orders.items → TakesOrder old node.happened order new.core → new.batch ≡ old.batch
-    → new.reports ≡ old.reports → new.frames ≡ old.frames → IsNode number new (order_taken node.orders node)
-ordered_node number old new node order is next takes batch reports frames =
+    → new.reports ≡ old.reports → new.frames ≡ old.frames → new.frames_wait ≡ old.frames_wait → IsNode number new (order_taken node.orders node)
+ordered_node number old new node order is next takes batch reports frames waits =
     subst (λ (orders : List ToWorker). IsNode number new (order_taken orders node)) (sym next ∙ is.orders)
     (record {
       core = subst (λ (out : Option Batch). worker.Stands new.core out (node.happened ++ Ordered order ∷ [])) (sym batch) takes.stands;
@@ -97,6 +99,7 @@ ordered_node number old new node order is next takes batch reports frames =
       orders = refl;
       reports = ap (λ (q : VecDeque FromWorker Global). q.items) reports ∙ is.reports;
       frames = ap (λ (q : Vec (VecDeque Data Global) Global). frames_in q.items) frames ∙ is.frames;
+      idle = λ no. is.idle (sym waits ∙ no);
     })
 
 -- ---- a frame of data
@@ -121,8 +124,12 @@ pub record TakesFrame (old : kept_node) (happened : List Happening) (frame : Dat
 pub framed_node : (number from : ℕ) (old new : kept_node) (node : Node) (frame : Data) (queue rest : VecDeque Data Global) → IsNode number old node
     → slice_get old.frames.items from ≡ Some queue → queue.items ≡ frame ∷ rest.items
     → new.frames.items ≡ slice_set old.frames.items from rest → TakesFrame old node.happened frame new.core → new.batch ≡ old.batch
-    → new.orders ≡ old.orders → new.reports ≡ old.reports → IsNode number new (frame_taken from (frames_from from node) node)
-framed_node number from old new node frame queue rest is at next frames takes batch orders reports =
+    → new.orders ≡ old.orders → new.reports ≡ old.reports
+    → (new.frames_wait ≡ false → (other : ℕ) → get_or (frames_in new.frames.items) other [] ≡ [])
+    → IsNode number new (frame_taken from (frames_from from node) node)
+framed_node number from old new node frame queue rest is at next frames takes batch orders reports empty =
+    let same = ap frames_in frames ∙ map-set (λ (q : VecDeque Data Global). q.items) old.frames.items from rest
+    ∙ ap (λ (all : List (List Data)). slice_set all from rest.items) is.frames in
     subst (λ (waiting : List Data). IsNode number new (frame_taken from waiting node)) (sym next ∙ sym (frames_are number from old node queue is at))
     (record {
       core = subst (λ (out : Option Batch). worker.Stands new.core out (node.happened ++ Framed frame ∷ [])) (sym batch) takes.stands;
@@ -131,8 +138,8 @@ framed_node number from old new node frame queue rest is at next frames takes ba
           (subst (λ (stale : Bool). MayBeBatch (worker_of number) stale old.batch node.batch) (sym takes.stale) is.batch);
       orders = ap (λ (q : VecDeque ToWorker Global). q.items) orders ∙ is.orders;
       reports = ap (λ (q : VecDeque FromWorker Global). q.items) reports ∙ is.reports;
-      frames = ap frames_in frames ∙ map-set (λ (q : VecDeque Data Global). q.items) old.frames.items from rest
-          ∙ ap (λ (all : List (List Data)). slice_set all from rest.items) is.frames;
+      frames = same;
+      idle = λ no other. ap (λ (all : List (List Data)). get_or all other []) (sym same) ∙ empty no other;
     })
 
 -- no frame waits there
@@ -154,8 +161,8 @@ same_frames (q ∷ qs) (suc from) queue other at is = ap (λ (rest : List (List 
 pub sent_node : (number from : ℕ) (old new : kept_node) (node : Node) (frame : Data) (queue more : VecDeque Data Global) → IsNode number old node
     → slice_get old.frames.items from ≡ Some queue → more.items ≡ queue.items ++ frame ∷ []
     → new.frames.items ≡ slice_set old.frames.items from more → new.core ≡ old.core → new.batch ≡ old.batch
-    → new.orders ≡ old.orders → new.reports ≡ old.reports → IsNode number new (frame_sent from frame node)
-sent_node number from old new node frame queue more is at put frames core batch orders reports = record {
+    → new.orders ≡ old.orders → new.reports ≡ old.reports → new.frames_wait ≡ true → IsNode number new (frame_sent from frame node)
+sent_node number from old new node frame queue more is at put frames core batch orders reports waits = record {
   core = subst (λ (kept : WorkerCore). worker.Stands kept new.batch node.happened) (sym core)
       (subst (λ (out : Option Batch). worker.Stands old.core out node.happened) (sym batch) is.core);
   worker = ap (λ (kept : WorkerCore). kept.worker) core ∙ is.worker;
@@ -166,6 +173,7 @@ sent_node number from old new node frame queue more is at put frames core batch 
   frames = ap frames_in frames ∙ map-set (λ (q : VecDeque Data Global). q.items) old.frames.items from more
       ∙ ap₂ (λ (all : List (List Data)) (waiting : List Data). slice_set all from waiting) is.frames
       (put ∙ ap (λ (waiting : List Data). waiting ++ frame ∷ []) (sym (frames_are number from old node queue is at)));
+  idle = λ no. absurd (both_ways new.frames_wait no waits);
 }
 
 set_past : {X : Type 0} (xs : List X) (i : ℕ) (x : X) → length xs ≤ i → slice_set xs i x ≡ xs
@@ -176,16 +184,18 @@ set_past (y ∷ ys) (suc i) x above = ap (λ (rest : List _). y ∷ rest) (set_p
 -- a frame from a worker that isn't there is dropped
 pub unsent_node : (number from : ℕ) (old : kept_node) (node : Node) (frame : Data) → IsNode number old node → length old.frames.items ≤ from
     → IsNode number old (frame_sent from frame node)
-unsent_node number from old node frame is above = record {
-  core = is.core;
-  worker = is.worker;
-  batch = is.batch;
-  orders = is.orders;
-  reports = is.reports;
-  frames =
-      let many : length node.frames ≤ from = subst (λ (n : ℕ). n ≤ from) (sym (length-map old.frames.items (λ (q : VecDeque Data Global). q.items)) ∙ ap length is.frames) above in
-      is.frames ∙ sym (set_past node.frames from (frames_from from node ++ frame ∷ []) many);
-}
+unsent_node number from old node frame is above =
+    let many : length node.frames ≤ from = subst (λ (n : ℕ). n ≤ from) (sym (length-map old.frames.items (λ (q : VecDeque Data Global). q.items)) ∙ ap length is.frames) above in
+    let same = set_past node.frames from (frames_from from node ++ frame ∷ []) many in
+    record {
+      core = is.core;
+      worker = is.worker;
+      batch = is.batch;
+      orders = is.orders;
+      reports = is.reports;
+      frames = is.frames ∙ sym same;
+      idle = λ no other. ap (λ (all : List (List Data)). get_or all other []) same ∙ is.idle no other;
+    }
 
 -- ---- a batch that is begun
 
@@ -232,8 +242,8 @@ begin_none most node may =
 
 pub begun_node : (number most : ℕ) (old new : kept_node) (batch : Batch) (node : Node) → IsNode number old node → old.batch ≡ None
     → BeginsBatch old.core node.happened most new.core batch → new.batch ≡ Some batch → new.orders ≡ old.orders
-    → new.reports ≡ old.reports → new.frames ≡ old.frames → IsNode number new (begun (worker_of number) most node)
-begun_node number most old new batch node is none begins out orders reports frames =
+    → new.reports ≡ old.reports → new.frames ≡ old.frames → new.frames_wait ≡ old.frames_wait → IsNode number new (begun (worker_of number) most node)
+begun_node number most old new batch node is none begins out orders reports frames waits =
     let state : WorkerState = state_of node.happened in
     let at_rest = subst (λ (o : Option Batch). worker.Stands old.core o node.happened) none is.core in
     let epoch : batch.epoch ≡ state.session.epoch = begins.epoch ∙ is.core.at.has.session.epoch in
@@ -250,4 +260,5 @@ begun_node number most old new batch node is none begins out orders reports fram
       orders = ap (λ (q : VecDeque ToWorker Global). q.items) orders ∙ is.orders;
       reports = ap (λ (q : VecDeque FromWorker Global). q.items) reports ∙ is.reports;
       frames = ap (λ (q : Vec (VecDeque Data Global) Global). frames_in q.items) frames ∙ is.frames;
+      idle = λ no. is.idle (sym waits ∙ no);
     }

@@ -11,6 +11,7 @@ use Rattle.nim_worker.specs.Stands as worker
 use Rattle.nim_worker.specs.Stands.{tickets_of}
 use Rattle.nim_lockstep.specs.declared.ran.Ran.{Ran}
 use Rattle.nim_lockstep.specs.Cluster.{Batched, ClusterState, Node}
+use Rattle.nim_lockstep.specs.Nodes.{frames_from}
 use Rattle.nim_lockstep.specs.InStep.{IsInStep, IsReached}
 use Rattle.nim_cluster.specs.declared.cluster.Cluster.{Cluster}
 use Rattle.nim_cluster.specs.declared.node.Node.{Node as kept_node}
@@ -39,6 +40,10 @@ MayBeBatch number dropped _ _ = ⊥
 abbrev pub frames_in : List (VecDeque Data Global) → List (List Data)
 frames_in queues = map (λ (queue : VecDeque Data Global). queue.items) queues
 
+-- no frame of data waits at a worker
+abbrev pub IsIdle : Node → Type 0
+IsIdle node = (from : ℕ) → frames_from from node ≡ []
+
 -- A worker of this number has come to this, and this waits on its links.
 pub record IsNode (number : ℕ) (kept : kept_node) (node : Node) : Type 0 where
   pub core : worker.Stands kept.core kept.batch node.happened
@@ -47,6 +52,8 @@ pub record IsNode (number : ℕ) (kept : kept_node) (node : Node) : Type 0 where
   pub orders : kept.orders.items ≡ node.orders
   pub reports : kept.reports.items ≡ node.reports
   pub frames : frames_in kept.frames.items ≡ node.frames
+  -- where it notes that no frame waits, none does
+  pub idle : kept.frames_wait ≡ false → IsIdle node
 
 -- the same of workers from a number on
 abbrev pub AreNodes : ℕ → List kept_node → List Node → Type 0

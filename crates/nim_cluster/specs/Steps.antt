@@ -1,5 +1,5 @@
 -- What an event does to the worker that it names.
-use Rattle.std.specs.Prelude.{◌≡◌, ℕ, Bool, false, List, [], ◌∷◌, ◌++◌, Option, None, Some}
+use Rattle.std.specs.Prelude.{◌≡◌, ◌<◌, ℕ, Bool, false, List, [], ◌∷◌, ◌++◌, Option, None, Some, slice_get}
 use Rattle.nim_schedule.specs.declared.event.Event.{Event}
 use Rattle.nim_schedule.specs.declared.event.Event.TheVariants.{Order, Report, Data, Begin, Finish, Lose, Propose}
 use Rattle.nim_history.specs.declared.out.Out.{Out}
@@ -9,7 +9,7 @@ use Rattle.nim_lockstep.specs.Events.{IsPassed}
 use Rattle.nim_lockstep.specs.Nodes.{finished, may_begin, may_finish, may_frame, may_order, may_report, outs_by, runs_by}
 use Rattle.nim_cluster.specs.declared.cluster.Cluster.{Cluster}
 use Rattle.nim_cluster.specs.declared.node.Node.{Node as kept_node}
-use Rattle.nim_cluster.specs.Stands.{IsNode, Stands}
+use Rattle.nim_cluster.specs.Stands.{IsIdle, IsNode, Stands}
 
 -- the worker that takes, begins or finishes something by an event
 abbrev pub number_in : Event → ℕ
@@ -30,6 +30,10 @@ may_take (Begin worker most) node = may_begin most node
 may_take (Finish worker) node = may_finish node
 may_take (Lose worker) node = false
 may_take (Propose block task to) node = false
+
+-- none waits at the first so many workers
+abbrev pub AreIdle : ℕ → List Node → Type 0
+AreIdle count nodes = (to : ℕ) (node : Node) → to < count → slice_get nodes to ≡ Some node → IsIdle node
 
 -- the first of these was taken, if there is one
 abbrev pub Took : {X : Type 0} → List X → Option X → List X → Type 0

@@ -1,5 +1,7 @@
-ghost use Rattle.std.specs.Prelude.{◌≡◌, ◌≤◌, ℕ, true, List, replicate, IfOk, IsTrue};
+ghost use Rattle.std.specs.Prelude.{◌≡◌, ◌≤◌, ◌&&◌, ℕ, true, not, List, replicate, IfOk, IsTrue};
+ghost use Rattle.std.specs.Option.{is_some};
 ghost use Rattle.nim_job.specs.Whole.{is_whole};
+ghost use Rattle.nim_place.specs.Extends.{is_live};
 ghost use Rattle.nim_lockstep.specs.Cluster.{ClusterState, new_node};
 ghost use Rattle.nim_lockstep.specs.Events.{IsNew};
 ghost use Rattle.nim_lockstep.specs.Events as events;
@@ -59,11 +61,8 @@ impl Cluster {
     pub fn is_enabled(&self, event: &Event) -> bool
         ensures { (s : ClusterState) → Stands self.now s → result ≡ events.is_enabled s event.now }
     {
-        if self.control.outcome().is_some() {
-            return false;
-        }
         match self.nodes.get(number_in(event) as usize) {
-            Some(node) => self.control.is_live(node.core.worker()) && node.may_take(event),
+            Some(node) => node.may_take(event) && self.goes_on(node.core.worker()),
             None => false,
         }
     }
@@ -101,6 +100,13 @@ impl Cluster {
         ensures { (s : ClusterState) → Stands self.now s → result ≡ s.setup }
     {
         self.setup
+    }
+
+    // Whether the job hasn't ended and a worker is live. Mostly nothing waits, so this is asked last.
+    pub(crate) fn goes_on(&self, worker: Worker) -> bool
+        ensures { result ≡ (not (is_some self.now.control.outcome) && is_live self.now.control.live worker) }
+    {
+        self.control.outcome().is_none() && self.control.is_live(worker)
     }
 }
 

@@ -1,10 +1,10 @@
-ghost use Rattle.std.specs.Prelude.{◌≡◌, ◌++◌, ◌∷◌, ℕ, true, [], map, IfOk, OnOk};
+ghost use Rattle.std.specs.Prelude.{◌≡◌, ◌++◌, ◌∷◌, ℕ, true, false, [], get_or, map, IfOk, OnOk};
 ghost use Rattle.nim_lockstep.specs.Cluster.{Batched, Node as node_state, new_node};
 ghost use Rattle.nim_lockstep.specs.Nodes.{begun, frame_sent, frame_taken, frames_from, order_taken};
 ghost use Rattle.nim_lockstep.specs.Nodes as nodes;
 ghost use Rattle.nim_place.specs.Extends.{worker_of};
 ghost use Rattle.nim_worker.specs.Runs.{read_by};
-ghost use Rattle.nim_cluster.specs.Stands.{IsNode, frames_in, ran_at, runs_in};
+ghost use Rattle.nim_cluster.specs.Stands.{IsIdle, IsNode, frames_in, ran_at, runs_in};
 ghost use Rattle.nim_cluster.specs.Steps.{IsFinished, Took};
 ghost use Rattle.nim_cluster.specs.Steps as spec;
 
@@ -31,6 +31,8 @@ pub(crate) struct Node {
     pub(crate) orders: VecDeque<ToWorker>,
     pub(crate) reports: VecDeque<FromWorker>,
     pub(crate) frames: Vec<VecDeque<Data>>,
+    /// Whether any of these frames may wait: while it is false, none does.
+    pub(crate) frames_wait: bool,
 }
 
 impl Node {
@@ -45,6 +47,7 @@ impl Node {
             orders: VecDeque::new(alloc),
             reports: VecDeque::new(alloc),
             frames: no_frames(alloc, workers)?,
+            frames_wait: false,
         })
     }
 
@@ -63,7 +66,14 @@ impl Node {
         }
     }
 
-    fn has_frame(&self, from: usize) -> bool
+    /// Whether a frame of data may wait; where it says no, none does.
+    pub(crate) fn has_frames(&self) -> bool
+        ensures { (number : ℕ) (node : node_state) → IsNode number self.now node → result ≡ false → IsIdle node }
+    {
+        self.frames_wait
+    }
+
+    pub(crate) fn has_frame(&self, from: usize) -> bool
         ensures { (number : ℕ) (node : node_state) → IsNode number self.now node
             → result ≡ nodes.has_any (frames_from from node) }
     {
@@ -73,7 +83,7 @@ impl Node {
         }
     }
 
-    fn may_begin(&self, most: u32) -> bool
+    pub(crate) fn may_begin(&self, most: u32) -> bool
         ensures { (number : ℕ) (node : node_state) → IsNode number self.now node → result ≡ nodes.may_begin most node }
     {
         1 <= most && most <= MOST_COMMANDS && self.batch.is_none() && self.core.is_ready()
@@ -99,7 +109,10 @@ impl Node {
             return Ok(());
         }
         match self.frames[from].pop_front() {
-            Some(frame) => self.core.on_data(frame),
+            Some(frame) => {
+                self.frames_wait = any_frames(self.frames.as_slice());
+                self.core.on_data(frame)
+            }
             None => Ok(()),
         }
     }
@@ -160,6 +173,7 @@ impl Node {
         if from >= self.frames.len() {
             return Ok(());
         }
+        self.frames_wait = true;
         Ok(self.frames[from].push_back(frame)?)
     }
 }
@@ -173,6 +187,18 @@ fn no_frames(alloc: Global, workers: u16) -> Result<Vec<VecDeque<Data>>, NoMemor
         frames.push(VecDeque::new(alloc))?;
     }
     Ok(frames)
+}
+
+// Where it says no, these queues are empty.
+fn any_frames(queues: &[VecDeque<Data>]) -> bool
+    ensures { result ≡ false → (from : ℕ) → get_or (frames_in queues.now) from [] ≡ [] }
+{
+    for queue in queues {
+        if !queue.is_empty() {
+            return true;
+        }
+    }
+    false
 }
 
 // The runs of a batch come behind the trace.

@@ -1,14 +1,17 @@
-ghost use Rattle.std.specs.Prelude.{◌≡◌, ◌≤◌, ◌+◌, ℕ, true, length, map, Some, IfOk, IsTrue, OnOk};
+ghost use Rattle.std.specs.Prelude.{◌≡◌, ◌≤◌, ◌+◌, ℕ, true, false, length, map, Some, IfOk, IsTrue, OnOk};
 ghost use Rattle.std.specs.List.{find, flat_map, range_with_len};
 ghost use Rattle.nim_job.specs.Whole.{is_whole};
-ghost use Rattle.nim_lockstep.specs.Cluster.{ClusterState, has_ended};
+ghost use Rattle.nim_schedule.specs.declared.event.Event.TheVariants as event_is;
+ghost use Rattle.nim_lockstep.specs.Cluster.{ClusterState, Node as node_state, has_ended};
 ghost use Rattle.nim_lockstep.specs.Events.{is_enabled};
 ghost use Rattle.nim_lockstep.specs.InStep.{IsReached};
 ghost use Rattle.nim_lockstep.specs.Schedules.{AreLines, IsAuto, IsLine, IsOne, IsRunBy, frames_of, next_of};
 ghost use Rattle.nim_cluster.specs.Runs.{IsAdvance, IsRest, ended_as, event_of};
-ghost use Rattle.nim_cluster.specs.Stands.{IsSound, Stands};
+ghost use Rattle.nim_cluster.specs.Stands.{IsNode, IsSound, Stands};
+ghost use Rattle.nim_cluster.specs.Steps.{AreIdle, may_take};
 
 use crate::Cluster;
+use crate::node::Node;
 use nim_base::NoMemory;
 use nim_course::{Outcome, Setup};
 use nim_job::Job;
@@ -90,16 +93,37 @@ impl Cluster {
             → result ≡ find (is_enabled s) (map (event_of kind) (range_with_len 0 s.setup.workers)) }
     {
         for worker in 0..u32::from(self.setup.workers) {
-            let event = kind.event(worker);
-            if self.is_enabled(&event) {
-                return Some(event);
+            if self.may_move(kind, worker) {
+                return Some(kind.event(worker));
             }
         }
         None
     }
 
-    // The first frame of data that may be taken.
+    // The first frame of data that may be taken. Mostly none waits, and then no pair of workers is asked.
     fn first_frame(&self) -> Option<Event>
+        ensures { (s : ClusterState) → Stands self.now s
+            → result ≡ find (is_enabled s) (flat_map (frames_of s.setup.workers) (range_with_len 0 s.setup.workers)) }
+    {
+        if !self.has_frames() {
+            return None;
+        }
+        self.first_waiting_frame()
+    }
+
+    // Where it says no, no frame of data waits.
+    fn has_frames(&self) -> bool
+        ensures { (s : ClusterState) → Stands self.now s → result ≡ false → AreIdle (length s.nodes) s.nodes }
+    {
+        for node in self.nodes.as_slice() {
+            if node.has_frames() {
+                return true;
+            }
+        }
+        false
+    }
+
+    fn first_waiting_frame(&self) -> Option<Event>
         ensures { (s : ClusterState) → Stands self.now s
             → result ≡ find (is_enabled s) (flat_map (frames_of s.setup.workers) (range_with_len 0 s.setup.workers)) }
     {
@@ -116,12 +140,31 @@ impl Cluster {
             → result ≡ find (is_enabled s) (frames_of s.setup.workers from) }
     {
         for to in 0..u32::from(self.setup.workers) {
-            let event = Event::Data { from, to };
-            if self.is_enabled(&event) {
-                return Some(event);
+            if self.may_pass(from, to) {
+                return Some(Event::Data { from, to });
             }
         }
         None
+    }
+
+    // Whether such an event is enabled. A walk asks this of each worker, so no event is made for it.
+    fn may_move(&self, kind: Moving, worker: u32) -> bool
+        ensures { (s : ClusterState) → Stands self.now s → result ≡ is_enabled s (event_of kind worker) }
+    {
+        match self.nodes.get(worker as usize) {
+            Some(node) => kind.is_open(node) && self.goes_on(node.core.worker()),
+            None => false,
+        }
+    }
+
+    // The same of a frame of data.
+    fn may_pass(&self, from: u32, to: u32) -> bool
+        ensures { (s : ClusterState) → Stands self.now s → result ≡ is_enabled s (event_is.Data from to) }
+    {
+        match self.nodes.get(to as usize) {
+            Some(node) => node.has_frame(from as usize) && self.goes_on(node.core.worker()),
+            None => false,
+        }
     }
 
     // Is given the events of a schedule.
@@ -212,6 +255,19 @@ impl Cluster {
 }
 
 impl Moving {
+    // Whether something of its kind waits at a worker.
+    fn is_open(self, node: &Node) -> bool
+        ensures { (number : ℕ) (state : node_state) → IsNode number node.now state
+            → (worker : ℕ) → result ≡ may_take (event_of self worker) state }
+    {
+        match self {
+            Moving::Report => !node.reports.is_empty(),
+            Moving::Finish => node.batch.is_some(),
+            Moving::Order => !node.orders.is_empty(),
+            Moving::Begin => node.may_begin(1),
+        }
+    }
+
     fn event(self, worker: u32) -> Event
         ensures { result ≡ event_of self worker }
     {

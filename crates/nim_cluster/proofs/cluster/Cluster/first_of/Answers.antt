@@ -5,13 +5,13 @@ use Rattle.nim_cluster.specs.Runs.{event_of}
 use Rattle.nim_cluster.proofs.Schedules.{first_here, first_later}
 use Rattle.nim_cluster.proofs.cluster.Cluster.first_of.Goals as goal
 
-pub returns-then-is_enabled : goal.returns-then-is_enabled
-returns-then-is_enabled c = λ s stands.
+pub returns-then-may_move : goal.returns-then-may_move
+returns-then-may_move c = λ s stands.
     let k = c.loop-worker.worker in
     let same = ap (λ (setup : Setup). setup.workers) stands.setup in
     let below : k < s.setup.workers = omega (arith, c.loop-worker-test.true, c.from-worker-end.ensures, same) in
-    let does = ap (is_enabled s) (sym c.event-event.ensures) ∙ sym (c.is_enabled.ensures s stands) ∙ c.if-is_enabled.true in
-    ap Some c.event-event.ensures
+    let does = sym (c.may_move.ensures s stands) ∙ c.if-may_move.true in
+    ap Some c.event.ensures
     ∙ sym (c.loop-worker.invariant s stands ∙ first_here (is_enabled s) (event_of c.args.kind) k s.setup.workers below does)
 
 pub loop-worker-preserved : goal.loop-worker-preserved
@@ -19,5 +19,5 @@ loop-worker-preserved c = λ s stands.
     let k = c.loop-worker.worker in
     let same = ap (λ (setup : Setup). setup.workers) stands.setup in
     let below : k < s.setup.workers = omega (arith, c.loop-worker-test.true, c.from-worker-end.ensures, same) in
-    let not = ap (is_enabled s) (sym c.event-event.ensures) ∙ sym (c.is_enabled.ensures s stands) ∙ c.if-is_enabled.false in
+    let not = sym (c.may_move.ensures s stands) ∙ c.if-may_move.false in
     c.loop-worker.invariant s stands ∙ first_later (is_enabled s) (event_of c.args.kind) k s.setup.workers below not

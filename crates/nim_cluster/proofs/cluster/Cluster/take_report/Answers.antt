@@ -41,6 +41,7 @@ returns-in_default-clause-stands c = λ s stands.
       orders = ap (λ (n : Node). n.orders.items) rest;
       reports = c.in_default.ensures.took.1 ∙ sym c.in_default.ensures.took.0;
       frames = ap (λ (n : Node). frames_in n.frames.items) rest;
+      waits = ap (λ (n : Node). n.frames_wait) rest;
     }))
 
 pub returns-then-index-len-clause-stands : goal.returns-then-index-len-clause-stands

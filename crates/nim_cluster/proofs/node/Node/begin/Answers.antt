@@ -19,4 +19,4 @@ returns-then-not-busy c = λ number node is may.
       stale = c.begin.ensures.stale;
       worker = c.begin.ensures.worker;
     })
-    refl refl refl refl
+    refl refl refl refl refl

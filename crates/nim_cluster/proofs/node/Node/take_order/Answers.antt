@@ -15,11 +15,11 @@ returns-in-Some c = λ number node is.
       stale = c.on_message.ensures.stale ∙ ap (λ (b : Bool). if b && is_reset c.in-Some.order then old.core.busy else old.core.stale) ok;
       worker = c.on_message.ensures.worker;
     })
-    refl refl refl)
+    refl refl refl refl)
 
 pub returns-in-None : goal.returns-in-None
 returns-in-None c = λ number node is.
     let old = c.args.self.now in
     unordered_node number old (record old { orders = c.pop_front.new.self }) node is
     (empty_of old.orders.items (sym old.orders.ok.0 ∙ c.in-None.ensures.cases.0))
-    (record { core = refl; batch = refl; orders = sym c.in-None.ensures.items; reports = refl; frames = refl })
+    (record { core = refl; batch = refl; orders = sym c.in-None.ensures.items; reports = refl; frames = refl; waits = refl })

@@ -4,7 +4,7 @@ use Rattle.nim_lockstep.specs.Cluster.{ClusterState}
 use Rattle.nim_lockstep.specs.Events.{is_enabled}
 use Rattle.nim_lockstep.specs.Schedules.{frames_of}
 use Rattle.nim_cluster.specs.Stands.{Stands}
-use Rattle.nim_cluster.proofs.cluster.Cluster.first_frame.Given as goal
+use Rattle.nim_cluster.proofs.cluster.Cluster.first_waiting_frame.Given as goal
 
 -- it is none from the workers so far
 abbrev pub invariant-loop-from : goal.invariant-loop-from
