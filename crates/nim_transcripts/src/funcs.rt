@@ -1,53 +1,9 @@
-use crate::fault::LineFault;
-use crate::shown::push_value;
-use crate::values::value;
-use crate::words::{halves, number, numbers, parts, shapes};
+use crate::shapes::shapes;
+use crate::values::{push_value, value};
 use nim_base::{Func, Shape, Value};
 use nim_funcs::apply;
+use nim_lines::{LineFault, func, halves, number, numbers, parts, push_answer};
 use std::alloc::Global;
-
-/// The function of a name.
-pub fn func(name: &str) -> Result<Func, LineFault> {
-    Ok(match name {
-        "set" => Func::Set,
-        "copy" => Func::Copy,
-        "addc" => Func::Addc,
-        "mulc" => Func::Mulc,
-        "add" => Func::Add,
-        "sub" => Func::Sub,
-        "max" => Func::Max,
-        "sum" => Func::Sum,
-        "total" => Func::Total,
-        "count" => Func::Count,
-        "stencil" => Func::Stencil,
-        "keep" => Func::Keep,
-        "group" => Func::Group,
-        "merge" => Func::Merge,
-        "split" => Func::Split,
-        _ => return Err(LineFault::Form("there is no function of this name")),
-    })
-}
-
-/// The name of a function.
-pub fn func_name(func: Func) -> &'static str {
-    match func {
-        Func::Set => "set",
-        Func::Copy => "copy",
-        Func::Addc => "addc",
-        Func::Mulc => "mulc",
-        Func::Add => "add",
-        Func::Sub => "sub",
-        Func::Max => "max",
-        Func::Sum => "sum",
-        Func::Total => "total",
-        Func::Count => "count",
-        Func::Stencil => "stencil",
-        Func::Keep => "keep",
-        Func::Group => "group",
-        Func::Merge => "merge",
-        Func::Split => "split",
-    }
-}
 
 /// `counts FUNC`: its parameters, fewest and most reads, and results.
 pub fn counts_line(alloc: Global, text: &str, out: &mut String) -> Result<(), LineFault> {
@@ -66,7 +22,11 @@ pub fn counts_line(alloc: Global, text: &str, out: &mut String) -> Result<(), Li
 }
 
 /// `has_counts FUNC PARAMETERS READS RESULTS`.
-pub fn has_counts(alloc: Global, text: &str) -> Result<bool, LineFault> {
+pub fn has_counts_line(alloc: Global, text: &str, out: &mut String) -> Result<(), LineFault> {
+    push_answer(out, has_counts(alloc, text)?)
+}
+
+fn has_counts(alloc: Global, text: &str) -> Result<bool, LineFault> {
     let (name, counts) = halves(text.trim(), " ")?;
     let counts = numbers::<usize>(alloc, counts)?;
     let [params, reads, writes] = counts.as_slice() else {

@@ -1,9 +1,8 @@
-use crate::entries::{copies, edit, entries};
-use crate::fault::LineFault;
-use crate::shown::{push_command, push_entry};
-use crate::words::{halves, number, numbers, parts};
+use crate::edits::edit;
+use crate::entries::{copies, entries};
 use nim_base::{Copied, Seq};
-use nim_command::{Half, patch_commands};
+use nim_command::{Edit, Entry, Half, patch_commands};
+use nim_lines::{LineFault, halves, number, numbers, parts, push_command, push_entry};
 use std::alloc::Global;
 
 /// `half ENTRY; ENTRY ..`: the half with these entries.
@@ -18,8 +17,18 @@ pub fn edit_line(
     text: &str,
     out: &mut String,
 ) -> Result<(), LineFault> {
-    half.apply_edit(&edit(alloc, text)?.copy()?)?;
-    for entry in half.entries() {
+    let change = edit_copied(alloc, text)?;
+    half.apply_edit(&change)?;
+    push_entries(alloc, out, half.entries())
+}
+
+fn edit_copied(alloc: Global, text: &str) -> Result<Edit, LineFault> {
+    let change = edit(alloc, text)?;
+    Ok(change.copy()?)
+}
+
+fn push_entries(alloc: Global, out: &mut String, entries: &[Entry]) -> Result<(), LineFault> {
+    for entry in entries {
         push_entry(alloc, out, entry)?;
     }
     Ok(())

@@ -3,17 +3,21 @@
 #![tactic(auto)]
 
 mod commands;
+mod draws;
+mod edits;
 mod entries;
-mod fault;
 mod funcs;
+mod given;
 mod halves;
 mod orders;
+mod planning;
 mod plans;
 mod session;
-mod shown;
+mod shapes;
 mod texts;
 mod values;
-mod words;
+mod ways;
+mod working;
 
 use nim_txtar::all_pass;
 use session::Transcripts;

@@ -1,9 +1,8 @@
 use crate::commands::command;
-use crate::fault::LineFault;
-use crate::shown::push_contents;
-use crate::words::{halves, number};
-use nim_base::Slot;
+use crate::shapes::push_contents;
+use nim_base::{Position, Slot};
 use nim_command::{Command, Rank};
+use nim_lines::{LineFault, halves, number};
 use nim_plan::{holds, rank};
 use std::alloc::Global;
 
@@ -38,7 +37,22 @@ pub fn rank_line(
     out: &mut String,
 ) -> Result<Rank, LineFault> {
     let (position, told) = halves(text.trim(), " ")?;
-    let found = rank(number::<u64>(position)?, &command(alloc, told)?);
+    let found = rank_of(alloc, number::<u64>(position)?, told)?;
+    push_rank(alloc, out, found)?;
+    out.push_str(if last < Some(found) {
+        ", above the last\n"
+    } else {
+        ", not above the last\n"
+    })?;
+    Ok(found)
+}
+
+fn rank_of(alloc: Global, position: Position, text: &str) -> Result<Rank, LineFault> {
+    let asked = command(alloc, text)?;
+    Ok(rank(position, &asked))
+}
+
+fn push_rank(alloc: Global, out: &mut String, found: Rank) -> Result<(), LineFault> {
     let (position, stage, number) = (found.position, found.stage, found.number);
     out.push_str(format!(in alloc; "position {position} stage {stage} number {number}")?.as_str())?;
     out.push_str(if found.later {
@@ -46,10 +60,5 @@ pub fn rank_line(
     } else {
         ", before its equals"
     })?;
-    out.push_str(if last < Some(found) {
-        ", above the last\n"
-    } else {
-        ", not above the last\n"
-    })?;
-    Ok(found)
+    Ok(())
 }

@@ -1,5 +1,5 @@
-use crate::fault::LineFault;
 use nim_lex::{Token, TokenKind, tokens};
+use nim_lines::LineFault;
 use nim_txtar::push_escaped;
 use std::alloc::Global;
 

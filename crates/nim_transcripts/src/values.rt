@@ -1,7 +1,6 @@
-use crate::fault::LineFault;
-use crate::shown::{push_number, push_value};
-use crate::words::{halves, number, numbers, parts, shape, words};
+use crate::shapes::shape;
 use nim_base::{Copied, Value, fit, value_text};
+use nim_lines::{LineFault, halves, number, numbers, parts, push_number, words};
 use std::alloc::Global;
 
 /// A value: its rows with commas between them, or `empty W` for one of W columns and no rows.
@@ -32,6 +31,33 @@ fn push(value: &mut Value, row: &[i64]) -> Result<(), LineFault> {
         return Err(LineFault::Form("rows are of one width"));
     }
     value.push_row(row)?;
+    Ok(())
+}
+
+/// Adds a line with a value, as transcripts write it.
+pub fn push_value(alloc: Global, out: &mut String, value: &Value) -> Result<(), LineFault> {
+    if value.rows() == 0 {
+        let width = value.width();
+        out.push_str(format!(in alloc; "empty {width}")?.as_str())?;
+    }
+    for row in 0..value.rows() {
+        if row > 0 {
+            out.push_str(", ")?;
+        }
+        push_row(alloc, out, value, row)?;
+    }
+    out.push_str("\n")?;
+    Ok(())
+}
+
+fn push_row(alloc: Global, out: &mut String, value: &Value, row: u32) -> Result<(), LineFault> {
+    for column in 0..value.width() {
+        if column > 0 {
+            out.push_str(" ")?;
+        }
+        let cell = value.cell(row, column);
+        out.push_str(format!(in alloc; "{cell}")?.as_str())?;
+    }
     Ok(())
 }
 
