@@ -7,6 +7,7 @@ use Rattle.std.proofs.lemmas.Bool.{and_from, and_parts, both_ways, cases_eq, cas
 use Rattle.std.proofs.lemmas.List.Folds.{list_any-append}
 use Rattle.nim_base.specs.declared.number.Worker.{Worker}
 use Rattle.nim_base.specs.declared.task.Task.{Task}
+use Rattle.nim_message.specs.declared.order.ToWorker.{ToWorker}
 use Rattle.nim_message.specs.declared.report.FromWorker.{FromWorker}
 use Rattle.nim_message.specs.declared.report.FromWorker.TheVariants.{Value, Ran, NoMemory}
 use Rattle.nim_job.specs.declared.ask.Ask.{Ask}
@@ -172,22 +173,22 @@ ran_accounted c from at trace ran accounted = λ position below.
           ]
     ]
 
-reported_accounted : (c : Controller) (from : Worker) (report : FromWorker) (trace : List ran_type) → IsTold trace report → AreAccounted c trace
-    → AreAccounted (reported c from report) trace
-reported_accounted c from (Value epoch ticket object version value) trace is accounted = either (epoch == c.epoch) where
+reported_accounted : (c : Controller) (from : Worker) (report : FromWorker) (sent : List ToWorker) (trace : List ran_type)
+    → IsTold sent trace report → AreAccounted c trace → AreAccounted (reported c from report) trace
+reported_accounted c from (Value epoch ticket object version value) sent trace is accounted = either (epoch == c.epoch) where
   either : (b : Bool) → AreAccounted (if b then record c { fetched = told c ticket object version value } else c) trace
   either true = accounted
   either false = accounted
-reported_accounted c from (Ran epoch position reads) trace is accounted = either (epoch == c.epoch) where
+reported_accounted c from (Ran epoch position reads) sent trace is accounted = either (epoch == c.epoch) where
   either : (b : Bool) → AreAccounted (if b then record c { flight = flight_after from position c.flight } else c) trace
   either true = ran_accounted c from position trace is accounted
   either false = accounted
-reported_accounted c from NoMemory trace is accounted = accounted
-reported_accounted c from report trace is accounted = accounted
+reported_accounted c from NoMemory sent trace is accounted = accounted
+reported_accounted c from report sent trace is accounted = accounted
 
-pub report_accounted : (c : Controller) (from : Worker) (report : FromWorker) (trace : List ran_type) → IsTold trace report → AreAccounted c trace
-    → AreAccounted (after_report c from report) trace
-report_accounted c from report trace is accounted = either (is_live c.live from) where
+pub report_accounted : (c : Controller) (from : Worker) (report : FromWorker) (sent : List ToWorker) (trace : List ran_type)
+    → IsTold sent trace report → AreAccounted c trace → AreAccounted (after_report c from report) trace
+report_accounted c from report sent trace is accounted = either (is_live c.live from) where
   either : (b : Bool) → AreAccounted (if b then reported (record c { due = true }) from report else record c { due = true }) trace
-  either true = reported_accounted (record c { due = true }) from report trace is accounted
+  either true = reported_accounted (record c { due = true }) from report sent trace is accounted
   either false = accounted

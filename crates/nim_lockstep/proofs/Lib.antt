@@ -15,9 +15,11 @@ mod NodesLists
 mod NodesOnce
 mod NodesOrder
 mod NodesOuts
+mod NodesRan
 mod NodesReport
 mod NodesSent
 mod NodesStart
+mod NodesThrough
 mod Once
 mod OnePlace
 mod Settled

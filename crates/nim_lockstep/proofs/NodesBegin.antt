@@ -132,6 +132,7 @@ begun_way job workers number trace sent most node whole least any first is =
       handed = is.handed;
       senders = is.senders;
       waiting = record { reports = is.waiting.reports; frames = is.waiting.frames };
+      ran = is.ran;
       told = is.told;
       batch = record {
         fresh = refl;

@@ -22,7 +22,8 @@ use Rattle.nim_lockstep.specs.Nodes.{frame_taken, frames_from}
 use Rattle.nim_lockstep.proofs.NodesAt.{IsPast}
 use Rattle.nim_lockstep.proofs.NodesLists.{All_at}
 use Rattle.nim_lockstep.proofs.NodesOnce.{position_in}
-use Rattle.nim_lockstep.proofs.UnderWay.{IsBatchRight, IsNodeUnderWay}
+use Rattle.nim_lockstep.proofs.NodesRan.{framed_traced}
+use Rattle.nim_lockstep.proofs.UnderWay.{AreTraced, IsBatchRight, IsNodeUnderWay}
 
 frame_orders : (happened : List Happening) (frame : Data) → orders_in (happened ++ Framed frame ∷ []) ≡ orders_in happened
 frame_orders happened frame = flat_map-append order_in happened (Framed frame ∷ []) ∙ append-nil (orders_in happened)
@@ -56,6 +57,7 @@ taken_way job workers number trace sent from (frame ∷ rest) node good is = rec
     reports = is.waiting.reports;
     frames = All-set (All (IsGoodFrame job)) node.frames from rest (All-tail (IsGoodFrame job) frame rest good) is.waiting.frames;
   };
+  ran = subst (AreTraced trace) (sym (frame_state node.happened frame)) (framed_traced trace (state_of node.happened) frame is.ran);
   told = is.told;
   batch = subst (λ (state : WorkerState). IfSome node.batch (IsBatchRight job number state)) (sym (frame_state node.happened frame))
       (batch_framed job number (state_of node.happened) frame node.batch is.batch);

@@ -44,7 +44,7 @@ length_outs from (out ∷ outs) nodes = length_outs from outs (out_at from nodes
 
 -- a worker with one more report, or one more frame
 reported_way : (job : Job) (workers number : ℕ) (trace : List ran_type) (orders : List ToWorker) (report : FromWorker) (node : Node) → IsGood job report
-    → IsTold trace report → IsNodeUnderWay job workers number trace orders node
+    → IsTold orders trace report → IsNodeUnderWay job workers number trace orders node
     → IsNodeUnderWay job workers number trace orders (record node { reports = node.reports ++ report ∷ [] })
 reported_way job workers number trace orders report node good told is = record {
   link = is.link;
@@ -55,7 +55,8 @@ reported_way job workers number trace orders report node good told is = record {
     reports = All-push (IsGood job) node.reports report is.waiting.reports good;
     frames = is.waiting.frames;
   };
-  told = All-push (IsTold trace) node.reports report is.told told;
+  ran = is.ran;
+  told = All-push (IsTold orders trace) node.reports report is.told told;
   batch = is.batch;
 }
 
@@ -72,12 +73,13 @@ framed_way job workers number trace orders from frame node good is = record {
     frames = All-set (All (IsGoodFrame job)) node.frames from (frames_from from node ++ frame ∷ [])
         (All-push (IsGoodFrame job) (frames_from from node) frame (frames_good job from node is.waiting.frames) good) is.waiting.frames;
   };
+  ran = is.ran;
   told = is.told;
   batch = is.batch;
 }
 
 each_out : (job : Job) (workers : ℕ) (trace : List ran_type) (put : List Directed) (from : ℕ) (nodes : List Node) (out : Out) → IsGoodOut job out
-    → IsToldOut trace out → Each (Way job workers trace put) nodes → Each (Way job workers trace put) (out_at from nodes out)
+    → IsToldOut (orders_to from put) trace out → Each (Way job workers trace put) nodes → Each (Way job workers trace put) (out_at from nodes out)
 each_out job workers trace put from nodes (Out.Report report) good told each =
     let way : ℕ → Node → Type 0 = Way job workers trace put in
     each_changed way way (λ (node : Node). record node { reports = node.reports ++ report ∷ [] }) from nodes each
@@ -88,12 +90,13 @@ each_out job workers trace put from nodes (Out.Data peer frame) good told each =
     (λ node there is. framed_way job workers peer.0 trace (orders_to peer.0 put) from frame node good is) (λ number node is. is)
 
 pub each_outs : (job : Job) (workers : ℕ) (trace : List ran_type) (put : List Directed) (from : ℕ) (outs : List Out) (nodes : List Node)
-    → All (IsGoodOut job) outs → All (IsToldOut trace) outs → Each (Way job workers trace put) nodes
+    → All (IsGoodOut job) outs → All (IsToldOut (orders_to from put) trace) outs → Each (Way job workers trace put) nodes
     → Each (Way job workers trace put) (fold (out_at from) nodes outs)
 each_outs job workers trace put from [] nodes good told each = each
 each_outs job workers trace put from (out ∷ outs) nodes good told each =
-    each_outs job workers trace put from outs (out_at from nodes out) (All-tail (IsGoodOut job) out outs good) (All-tail (IsToldOut trace) out outs told)
-    (each_out job workers trace put from nodes out (All-head (IsGoodOut job) out outs good) (All-head (IsToldOut trace) out outs told) each)
+    let sent : List ToWorker = orders_to from put in
+    each_outs job workers trace put from outs (out_at from nodes out) (All-tail (IsGoodOut job) out outs good) (All-tail (IsToldOut sent trace) out outs told)
+    (each_out job workers trace put from nodes out (All-head (IsGoodOut job) out outs good) (All-head (IsToldOut sent trace) out outs told) each)
 
 done_out : (from : ℕ) (nodes : List Node) (out : Out) (ran : ran_type) → IsDone nodes ran → IsDone (out_at from nodes out) ran
 done_out from nodes (Out.Report report) ran is =

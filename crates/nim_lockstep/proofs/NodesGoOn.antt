@@ -105,7 +105,8 @@ finish_if s worker under = either (slice_get s.nodes worker) refl where
   out : (node : Node) → slice_get s.nodes worker ≡ Some node → (o : Option Batched) → IfSome o (IsBatchRight s.job worker (state_of node.happened))
       → GoesWell s.job (option_map_or (λ (b : Batched). batch_finished worker node s b) o s)
   out node there None right = well s under
-  out node there (Some b) right = finish_well s worker node b under.leads.whole (well s under) there right
+  out node there (Some b) right =
+      finish_well s worker node b under.leads.whole (well s under) (under.course.once worker (there_within s worker node under there)) there right
 
   either : (o : Option Node) → slice_get s.nodes worker ≡ o
       → GoesWell s.job (option_map_or (λ (node : Node). option_map_or (λ (b : Batched). batch_finished worker node s b) node.batch s) o s)

@@ -28,7 +28,8 @@ use Rattle.nim_lockstep.specs.Nodes.{batch_after, order_taken}
 use Rattle.nim_lockstep.proofs.NodesAt.{IsPast}
 use Rattle.nim_lockstep.proofs.NodesLists.{All_front, flat_map_same}
 use Rattle.nim_lockstep.proofs.NodesOnce.{no_run, position_in, reset_first, run_still}
-use Rattle.nim_lockstep.proofs.UnderWay.{BeginOnce, IsBatchRight, IsNodeUnderWay, position_at}
+use Rattle.nim_lockstep.proofs.NodesRan.{ordered_traced}
+use Rattle.nim_lockstep.proofs.UnderWay.{AreTraced, BeginOnce, IsBatchRight, IsNodeUnderWay, position_at}
 
 -- What is known of all orders to a worker: they may be given, their before sets are those of the rule, and they begin one
 -- epoch.
@@ -119,6 +120,7 @@ taken_way job workers number trace pending sent (order ∷ rest) node given link
           (order_covered front order rest (subst (All IsOrderByRule) (sym link) given.rule));
       senders = is.senders;
       waiting = record { reports = is.waiting.reports; frames = is.waiting.frames };
+      ran = subst (AreTraced trace) (sym (order_state node.happened order)) (ordered_traced trace node.happened order is.ran);
       told = is.told;
       batch = subst (λ (state : WorkerState). IfSome (batch_after order node.batch) (IsBatchRight job number state)) (sym (order_state node.happened order))
           (batch_out job number (state_of node.happened) order node.batch

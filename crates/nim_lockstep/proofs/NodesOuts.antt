@@ -1,9 +1,9 @@
 -- What a worker has come to once it completed commands in turn, and what it gave by that.
-use Rattle.std.proofs.Common.{◌≡◌, ℕ, zero, Bool, true, false, List, [], ◌∷◌, ◌++◌, drop, length, map, refl, ap, sym, subst, ◌∙◌, Option, None, Some, All}
+use Rattle.std.proofs.Common.{◌≡◌, ℕ, zero, Bool, true, false, List, [], ◌∷◌, ◌++◌, drop, length, map, refl, ap, sym, subst, ◌∙◌, Option, None, Some, All, inl, inr}
 use Rattle.std.specs.Prelude.{◌==◌, ◌||◌, if◌then◌else◌}
 use Rattle.std.specs.List.{flat_map}
 use Rattle.std.specs.Option.{option_map_or}
-use Rattle.std.proofs.lemmas.Bool.{both_ways, eq-eqb, or_left, or_right}
+use Rattle.std.proofs.lemmas.Bool.{both_ways, eq-eqb, or_cases, or_left, or_right}
 use Rattle.std.proofs.lemmas.List.{append-nil, append_assoc, drop_at}
 use Rattle.std.proofs.lemmas.List.Concat.{flat_map-append}
 use Rattle.std.proofs.lemmas.List.Elements.{All-append, All-cons, All-nil}
@@ -14,7 +14,7 @@ use Rattle.nim_command.specs.declared.command.Kind.TheVariants.{Fetch, Run, Send
 use Rattle.nim_command.specs.Waits.{Group, Source, FromInstance}
 use Rattle.nim_message.specs.declared.order.ToWorker.{ToWorker}
 use Rattle.nim_message.specs.declared.report.FromWorker.TheVariants.{Ran, Through, Value}
-use Rattle.nim_message.specs.Orders.{Session}
+use Rattle.nim_message.specs.Orders.{Session, session_of}
 use Rattle.nim_order.specs.Progress.{is_one_of}
 use Rattle.nim_place.specs.TaskRuns.{position_run}
 use Rattle.nim_store.specs.declared.held.Held.{Held}
@@ -31,7 +31,8 @@ use Rattle.nim_lockstep.specs.declared.ran.Ran.{Ran as ran_type}
 use Rattle.nim_lockstep.specs.InStep.{has_run}
 use Rattle.nim_lockstep.proofs.NodesAt.{IsPast}
 use Rattle.nim_lockstep.proofs.NodesOnce.{position_in}
-use Rattle.nim_lockstep.proofs.UnderWay.{IsTold, positions_of}
+use Rattle.nim_lockstep.proofs.NodesThrough.{AllRun, through_of}
+use Rattle.nim_lockstep.proofs.UnderWay.{IsThrough, IsThroughOf, IsTold, is_from_instance, positions_of}
 
 -- ---- the orders are the same, and more is complete
 
@@ -91,62 +92,75 @@ pub given_by : (state : WorkerState) (places : List ℕ) → drop (length state.
 given_by state places =
     ap (drop (length state.gave)) (gave_after state places) ∙ drop_at state.gave (outs_from state places) (length state.gave) refl
 
--- ---- each Run that is reported was performed
+-- ---- each Run that is reported was performed, and so were those of an instance that is through
 
-abbrev pub IsToldOut : List ran_type → Out → Type 0
-IsToldOut trace (Out.Report report) = IsTold trace report
-IsToldOut trace (Out.Data peer frame) = Unit {0}
-
--- positions whose tasks were run
-abbrev HaveRun : List ran_type → List ℕ → Type 0
-HaveRun trace positions = (position : ℕ) → is_one_of positions position ≡ true → has_run trace position ≡ true
+abbrev pub IsToldOut : List ToWorker → List ran_type → Out → Type 0
+IsToldOut sent trace (Out.Report report) = IsTold sent trace report
+IsToldOut sent trace (Out.Data peer frame) = Unit {0}
 
 only_one : {X : Type 0} (P : X → Type 0) (x : X) → P x → All P (x ∷ [])
 only_one P x is = All-cons P x [] is (All-nil P)
 
-ran_told : (trace : List ran_type) (position : ℕ) (out : Out) → HaveRun trace (position ∷ [])
-    → (has_run trace position ≡ true → IsToldOut trace out) → (b : Bool) → All (IsToldOut trace) (if b then out ∷ [] else [])
-ran_told trace position out have told true =
-    only_one (IsToldOut trace) out (told (have position (or_left (position == position) false (eq-eqb position position refl))))
-ran_told trace position out have told false = All-nil (IsToldOut trace)
+one_if : {X : Type 0} (P : X → Type 0) (x : X) → P x → (b : Bool) → All P (if b then x ∷ [] else [])
+one_if P x is true = only_one P x is
+one_if P x is false = All-nil P
 
-own_told : (trace : List ran_type) (group : Group) (kind : Kind) (slots : Slot → Option Held) → HaveRun trace (position_run kind)
-    → All (IsToldOut trace) (own_outs group kind slots)
-own_told trace group (Send slot peer entry) slots have =
-    only_one (IsToldOut trace) (Out.Data peer (frame_of group entry (seen slots slot))) tt
-own_told trace group (Fetch slot ticket) slots have =
-    only_one (IsToldOut trace) (Out.Report (Value group.epoch ticket (seen slots slot).object (seen slots slot).version (seen slots slot).value)) tt
-own_told trace group (Run position func params reads writes) slots have =
-    ran_told trace position (Out.Report (Ran group.epoch position (contents_read func params reads writes slots))) have (λ run. run) (is_single group.source)
-own_told trace group kind slots have = All-nil (IsToldOut trace)
+own_told : (sent : List ToWorker) (trace : List ran_type) (group : Group) (kind : Kind) (slots : Slot → Option Held)
+    → ((position : ℕ) → position_run kind ≡ position ∷ [] → has_run trace position ≡ true) → All (IsToldOut sent trace) (own_outs group kind slots)
+own_told sent trace group (Send slot peer entry) slots have =
+    only_one (IsToldOut sent trace) (Out.Data peer (frame_of group entry (seen slots slot))) tt
+own_told sent trace group (Fetch slot ticket) slots have =
+    only_one (IsToldOut sent trace) (Out.Report (Value group.epoch ticket (seen slots slot).object (seen slots slot).version (seen slots slot).value)) tt
+own_told sent trace group (Run position func params reads writes) slots have =
+    one_if (IsToldOut sent trace) (Out.Report (Ran group.epoch position (contents_read func params reads writes slots))) (have position refl)
+    (is_single group.source)
+own_told sent trace group kind slots have = All-nil (IsToldOut sent trace)
 
-through_told : (trace : List ran_type) (source : Source) (group : Group) (left : ℕ) → All (IsToldOut trace) (through_outs source group left)
-through_told trace (FromInstance base) group zero = only_one (IsToldOut trace) (Out.Report (Through group.epoch group.instance)) tt
-through_told trace source group left = All-nil (IsToldOut trace)
+through_told : (sent : List ToWorker) (trace : List ran_type) (source : Source) (group : Group) (left : ℕ)
+    → (is_from_instance source ≡ true → left ≡ 0 → IsThrough sent trace group.instance) → All (IsToldOut sent trace) (through_outs source group left)
+through_told sent trace (FromInstance base) group zero through =
+    only_one (IsToldOut sent trace) (Out.Report (Through group.epoch group.instance)) (through refl refl)
+through_told sent trace source group left through = All-nil (IsToldOut sent trace)
 
-at_told : (trace : List ran_type) (state : WorkerState) (place : ℕ) → HaveRun trace (position_in state.session.groups place)
-    → All (IsToldOut trace) (outs_at state place)
-at_told trace state place = either (asked_at state.session.groups place) where
-  either : (o : Option Asked) → HaveRun trace (option_map_or (λ (asked : Asked). position_run asked.command.kind) o [])
-      → All (IsToldOut trace) (option_map_or (outs_of state place) o [])
-  either None have = All-nil (IsToldOut trace)
-  either (Some asked) have =
+at_told : (sent : List ToWorker) (trace : List ran_type) (state : WorkerState) (place : ℕ) → state.session.groups ≡ (session_of sent).groups
+    → AllRun trace state.session.groups (state.ran ++ place ∷ []) → All (IsToldOut sent trace) (outs_at state place)
+at_told sent trace state place same have = either (asked_at state.session.groups place) refl where
+  either : (o : Option Asked) → asked_at state.session.groups place ≡ o → All (IsToldOut sent trace) (option_map_or (outs_of state place) o [])
+  either None at = All-nil (IsToldOut sent trace)
+  either (Some asked) at =
       let left : ℕ = left_of state.session.groups asked.number (state.ran ++ place ∷ []) in
-      All-append (IsToldOut trace) (own_outs asked.group asked.command.kind state.slots) (through_outs asked.group.source asked.group left)
-      (own_told trace asked.group asked.command.kind state.slots have) (through_told trace asked.group.source asked.group left)
+      All-append (IsToldOut sent trace) (own_outs asked.group asked.command.kind state.slots) (through_outs asked.group.source asked.group left)
+      (own_told sent trace asked.group asked.command.kind state.slots
+      (λ position run. have place position (among_later state.ran (place ∷ []) place (or_left (place == place) false (eq-eqb place place refl)))
+      (ap (λ (o : Option Asked). option_map_or (λ (a : Asked). position_run a.command.kind) o []) at ∙ run)))
+      (through_told sent trace asked.group.source asked.group left
+      (λ whole none. subst (λ (groups : List Group). IsThroughOf groups trace asked.group.instance) same
+      (through_of trace state.session.groups (state.ran ++ place ∷ []) place asked at whole none have)))
 
-pub outs_told : (trace : List ran_type) (groups : List Group) (state : WorkerState) (places : List ℕ) → state.session.groups ≡ groups
-    → ((position : ℕ) → is_one_of (flat_map (position_in groups) places) position ≡ true → has_run trace position ≡ true)
-    → All (IsToldOut trace) (outs_from state places)
-outs_told trace groups state [] same have = All-nil (IsToldOut trace)
-outs_told trace groups state (place ∷ places) same have =
-    let rest : List ℕ = flat_map (position_in groups) places in
-    All-append (IsToldOut trace) (outs_at state place) (outs_from (completed state place) places)
-    (at_told trace state place
-    (λ position is. have position (among_more (position_in groups place) rest position
-    (subst (λ (gs : List Group). is_one_of (position_in gs place) position ≡ true) same is))))
-    (outs_told trace groups (completed state place) places (ap (λ (session : Session). session.groups) (completed_session state place) ∙ same)
-    (λ position is. have position (among_later (position_in groups place) rest position is)))
+-- what is complete behind a command is so behind all
+ran_among : (state : WorkerState) (place : ℕ) (places : List ℕ) (n : ℕ) → is_one_of ((completed state place).ran ++ places) n ≡ true
+    → is_one_of (state.ran ++ place ∷ places) n ≡ true
+ran_among state place places n = either (asked_at state.session.groups place) where
+  either : (o : Option Asked) → is_one_of ((option_map_or (after_asked state place) o state).ran ++ places) n ≡ true
+      → is_one_of (state.ran ++ place ∷ places) n ≡ true
+  either None is =
+      elim (or_cases (is_one_of state.ran n) (is_one_of places n) (sym (list_any-append (λ other. other == n) state.ran places) ∙ is)) [
+        | inl early ↦ among_more state.ran (place ∷ places) n early
+        | inr late ↦ among_later state.ran (place ∷ places) n (or_right (place == n) (is_one_of places n) late)
+      ]
+  either (Some asked) is = ap (λ (all : List ℕ). is_one_of all n) (sym (append_assoc state.ran (place ∷ []) places)) ∙ is
+
+pub outs_told : (sent : List ToWorker) (trace : List ran_type) (state : WorkerState) (places : List ℕ) → state.session.groups ≡ (session_of sent).groups
+    → AllRun trace (session_of sent).groups (state.ran ++ places) → All (IsToldOut sent trace) (outs_from state places)
+outs_told sent trace state [] same have = All-nil (IsToldOut sent trace)
+outs_told sent trace state (place ∷ places) same have =
+    All-append (IsToldOut sent trace) (outs_at state place) (outs_from (completed state place) places)
+    (at_told sent trace state place same
+    (subst (λ (groups : List Group). AllRun trace groups (state.ran ++ place ∷ [])) (sym same)
+    (λ at position is. have at position
+    (ap (λ (all : List ℕ). is_one_of all at) (sym (append_assoc state.ran (place ∷ []) places)) ∙ among_more (state.ran ++ place ∷ []) places at is))))
+    (outs_told sent trace (completed state place) places (ap (λ (session : Session). session.groups) (completed_session state place) ∙ same)
+    (λ at position is. have at position (ran_among state place places at is)))
 
 -- a trace that has runs has their positions
 has_positions : (runs : List ran_type) (position : ℕ) → has_run runs position ≡ is_one_of (positions_of runs) position

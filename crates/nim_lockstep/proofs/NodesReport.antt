@@ -16,7 +16,7 @@ use Rattle.nim_lockstep.proofs.UnderWay.{IsDone, IsNodeUnderWay, IsTold}
 
 -- a worker with one report less
 less_way : (job : Job) (workers number : ℕ) (trace : List Ran) (orders : List ToWorker) (report : FromWorker) (rest : List FromWorker) (node : Node)
-    → All (IsGood job) (report ∷ rest) → All (IsTold trace) (report ∷ rest) → IsNodeUnderWay job workers number trace orders node
+    → All (IsGood job) (report ∷ rest) → All (IsTold orders trace) (report ∷ rest) → IsNodeUnderWay job workers number trace orders node
     → IsNodeUnderWay job workers number trace orders (record node { reports = rest })
 less_way job workers number trace orders report rest node good told is = record {
   link = is.link;
@@ -24,12 +24,13 @@ less_way job workers number trace orders report rest node good told is = record 
   handed = is.handed;
   senders = is.senders;
   waiting = record { reports = All-tail (IsGood job) report rest good; frames = is.waiting.frames };
-  told = All-tail (IsTold trace) report rest told;
+  ran = is.ran;
+  told = All-tail (IsTold orders trace) report rest told;
   batch = is.batch;
 }
 
 pub report_well : (s : ClusterState) (worker : ℕ) (node : Node) (reports : List FromWorker) → GoesWell s.job s → slice_get s.nodes worker ≡ Some node
-    → All (IsGood s.job) reports → All (IsTold s.trace) reports → GoesWell s.job (report_taken worker node reports s)
+    → All (IsGood s.job) reports → All (IsTold (orders_to worker s.put) s.trace) reports → GoesWell s.job (report_taken worker node reports s)
 report_well s worker node [] well there good told = well
 report_well s worker node (report ∷ rest) well there good told =
     let new : Node = record node { reports = rest } in

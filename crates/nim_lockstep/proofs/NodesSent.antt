@@ -1,13 +1,15 @@
 -- The controller took a turn, and its orders wait for their workers: all are still under way.
-use Rattle.std.proofs.Common.{◌≡◌, ℕ, Bool, true, false, List, [], ◌∷◌, ◌++◌, cond, length, map, refl, ap, sym, subst, ◌∙◌, Option, None, Some, All}
+use Rattle.std.proofs.Common.{◌≡◌, ℕ, ◌<◌, Bool, true, false, List, [], ◌∷◌, ◌++◌, cond, length, map, refl, ap, sym, subst, ◌∙◌, arith, Option, None, Some, All}
 use Rattle.std.specs.Prelude.{◌==◌, IsSomeAnd, slice_get}
 use Rattle.std.specs.List.{filter, fold}
 use Rattle.std.specs.Option.{option_map}
 use Rattle.std.proofs.lemmas.Bool.{both_ways, eq-eqb, eqb-true}
 use Rattle.std.proofs.lemmas.List.{append-nil, append_assoc, map-append}
 use Rattle.std.proofs.lemmas.List.Elements.{All-weaker, filter-append}
+use Rattle.std.proofs.lemmas.Option.{slice_get_within}
 use Rattle.nim_message.specs.declared.order.ToWorker.{ToWorker}
 use Rattle.nim_job.specs.declared.job.Job.{Job}
+use Rattle.nim_course.specs.declared.pending.Pending.{Pending}
 use Rattle.nim_place.specs.Directed.{Directed, orders_to}
 use Rattle.nim_history.specs.History.{orders_in}
 use Rattle.nim_lockstep.specs.declared.ran.Ran.{Ran}
@@ -15,7 +17,8 @@ use Rattle.nim_lockstep.specs.Cluster.{ClusterState, Node}
 use Rattle.nim_lockstep.specs.Events.{HasTurned, order_sent}
 use Rattle.nim_lockstep.proofs.NodesAt.{at_node_is, changed, changed_other, changed_same, length_changed}
 use Rattle.nim_lockstep.proofs.NodesLists.{IsMade, made}
-use Rattle.nim_lockstep.proofs.UnderWay.{AreUnderWay, IsDone, IsDoneBy, IsNodeUnderWay}
+use Rattle.nim_lockstep.proofs.NodesThrough.{told_front}
+use Rattle.nim_lockstep.proofs.UnderWay.{AreUnderWay, BeginOnce, IsDone, IsDoneBy, IsNodeUnderWay, IsTold}
 
 -- a worker that more orders wait for
 abbrev with_more : List ToWorker → Node → Node
@@ -73,15 +76,18 @@ orders_to_more number put more =
     ∙ map-append (λ (d : Directed). d.1) (filter (λ (d : Directed). d.0.0 == number) put) (filter (λ (d : Directed). d.0.0 == number) more)
 
 -- a worker that more orders wait for is under way
-more_way : (job : Job) (workers number : ℕ) (trace : List Ran) (orders more : List ToWorker) (node : Node)
-    → IsNodeUnderWay job workers number trace orders node → IsNodeUnderWay job workers number trace (orders ++ more) (with_more more node)
-more_way job workers number trace orders more node is = record {
+more_way : (job : Job) (workers number : ℕ) (trace : List Ran) (pending : Pending) (orders more : List ToWorker) (node : Node)
+    → BeginOnce pending (orders ++ more) → IsNodeUnderWay job workers number trace orders node
+    → IsNodeUnderWay job workers number trace (orders ++ more) (with_more more node)
+more_way job workers number trace pending orders more node once is = record {
   link = sym (append_assoc (orders_in node.happened) node.orders more) ∙ ap (λ (os : List ToWorker). os ++ more) is.link;
   history = is.history;
   handed = is.handed;
   senders = is.senders;
   waiting = record { reports = is.waiting.reports; frames = is.waiting.frames };
-  told = is.told;
+  ran = is.ran;
+  told = All-weaker (IsTold orders trace) (IsTold (orders ++ more) trace) (λ report told. told_front pending orders more trace report once told)
+      node.reports is.told;
   batch = is.batch;
 }
 
@@ -90,8 +96,9 @@ turned_is : (before after : ClusterState) (turn : HasTurned before after)
     → after ≡ record before { control = turn.control; put = before.put ++ turn.orders; nodes = fold sent before.nodes turn.orders }
 turned_is before after turn = turn.state ∙ fold_sent turn.orders (record before { control = turn.control; put = before.put ++ turn.orders })
 
-pub turned : (before after : ClusterState) → AreUnderWay before → HasTurned before after → AreUnderWay after
-turned before after under turn = subst AreUnderWay (sym (turned_is before after turn)) (record {
+pub turned : (before after : ClusterState) (turn : HasTurned before after) → AreUnderWay before
+    → ((number : ℕ) → number < before.setup.workers → BeginOnce turn.control.pending (orders_to number (before.put ++ turn.orders))) → AreUnderWay after
+turned before after turn under once = subst AreUnderWay (sym (turned_is before after turn)) (record {
   nodes = length_sent turn.orders before.nodes ∙ under.nodes;
   each = λ number node found. each number node (made (with_more (orders_to number turn.orders)) (slice_get before.nodes number) node
       (sym (get_sent turn.orders before.nodes number) ∙ found));
@@ -99,12 +106,13 @@ turned before after under turn = subst AreUnderWay (sym (turned_is before after 
   each : (number : ℕ) (node : Node) → IsMade (with_more (orders_to number turn.orders)) (slice_get before.nodes number) node
       → IsNodeUnderWay before.job before.setup.workers number before.trace (orders_to number (before.put ++ turn.orders)) node
   each number node m =
+      let more : List ToWorker = orders_to number turn.orders in
+      let all : orders_to number (before.put ++ turn.orders) ≡ orders_to number before.put ++ more = orders_to_more number before.put turn.orders in
+      let within : number < before.setup.workers = omega (arith, slice_get_within before.nodes number m.from m.there, under.nodes) in
       subst (IsNodeUnderWay before.job before.setup.workers number before.trace (orders_to number (before.put ++ turn.orders))) m.is
-      (subst
-      (λ (orders : List ToWorker). IsNodeUnderWay before.job before.setup.workers number before.trace orders (with_more (orders_to number turn.orders) m.from))
-      (sym (orders_to_more number before.put turn.orders))
-      (more_way before.job before.setup.workers number before.trace (orders_to number before.put) (orders_to number turn.orders) m.from
-      (under.each number m.from m.there)))
+      (subst (λ (orders : List ToWorker). IsNodeUnderWay before.job before.setup.workers number before.trace orders (with_more more m.from)) (sym all)
+      (more_way before.job before.setup.workers number before.trace turn.control.pending (orders_to number before.put) more m.from
+      (subst (BeginOnce turn.control.pending) all (once number within)) (under.each number m.from m.there)))
 
 -- runs that are done are done behind a turn
 still_by : (ran : Ran) (orders : List ToWorker) (o : Option Node) → IsSomeAnd o (IsDoneBy ran) → IsSomeAnd (option_map (with_more orders) o) (IsDoneBy ran)

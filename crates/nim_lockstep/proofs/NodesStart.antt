@@ -1,5 +1,6 @@
 -- Workers that nothing happened at are under way.
-use Rattle.std.proofs.Common.{◌≡◌, ℕ, true, [], refl, subst, All}
+use Rattle.std.proofs.Common.{◌≡◌, ℕ, true, false, [], refl, subst, All}
+use Rattle.std.proofs.lemmas.Bool.{both_ways}
 use Rattle.std.proofs.lemmas.List.{length-replicate}
 use Rattle.std.proofs.lemmas.List.Elements.{All-nil, All-replicate}
 use Rattle.nim_job.specs.declared.job.Job.{Job}
@@ -31,7 +32,8 @@ new_way job workers number = record {
     reports = All-nil (IsGood job);
     frames = All-replicate (All (IsGoodFrame job)) workers [] (All-nil (IsGoodFrame job));
   };
-  told = All-nil (IsTold []);
+  ran = λ place position is at. absurd (both_ways false refl is);
+  told = All-nil (IsTold [] []);
   batch = tt;
 }
 

@@ -3,9 +3,10 @@ use Rattle.std.specs.Prelude.{◌≡◌, ◌≢◌, ℕ, ◌-◌, ◌≤◌, ◌
 use Rattle.std.specs.List.{flat_map, list_any}
 use Rattle.std.specs.Option.{is_some, option_map_or}
 use Rattle.nim_base.specs.declared.number.Worker.{Worker}
+use Rattle.nim_command.specs.Waits.{Group, Source, FromInstance}
 use Rattle.nim_message.specs.declared.order.ToWorker.{ToWorker}
 use Rattle.nim_message.specs.declared.report.FromWorker.{FromWorker}
-use Rattle.nim_message.specs.declared.report.FromWorker.TheVariants.{Ran}
+use Rattle.nim_message.specs.declared.report.FromWorker.TheVariants.{Ran, Through}
 use Rattle.nim_message.specs.Orders.{session_of}
 use Rattle.nim_order.specs.Progress.{is_one_of}
 use Rattle.nim_schedule.specs.declared.event.Event.{Event}
@@ -56,20 +57,46 @@ pub record IsBatchRight (job : Job) (number : ℕ) (state : WorkerState) (b : Ba
   pub epochs : All (λ (ran : ran_type). ran.epoch ≡ 0) b.runs
   pub reads : All (ReadsByOrder job) b.runs
 
--- a Run that is reported was performed
-abbrev pub IsTold : List ran_type → FromWorker → Type 0
-IsTold trace (Ran epoch position reads) = has_run trace position ≡ true
-IsTold trace report = Unit {0}
+-- whether a group is an instance of a block
+abbrev pub is_from_instance : Source → Bool
+is_from_instance (FromInstance base) = true
+is_from_instance source = false
+
+-- One of these groups is of an instance, and all its Runs were performed.
+pub record IsThroughOf (groups : List Group) (trace : List ran_type) (instance : ℕ) : Type 0 where
+  pub number : ℕ
+  pub group : Group
+  pub there : slice_get groups number ≡ Some group
+  pub is : group.instance ≡ instance
+  pub whole : is_from_instance group.source ≡ true
+  pub all : (place : ℕ) (asked : Asked) (position : ℕ) → asked_at groups place ≡ Some asked → asked.number ≡ number
+      → position_run asked.command.kind ≡ position ∷ [] → has_run trace position ≡ true
+
+-- the same of a worker that was sent these orders
+abbrev pub IsThrough : List ToWorker → List ran_type → ℕ → Type 0
+IsThrough sent trace instance = IsThroughOf (session_of sent).groups trace instance
+
+-- a Run that a worker reports was performed, and so were those of an instance that is through
+abbrev pub IsTold : List ToWorker → List ran_type → FromWorker → Type 0
+IsTold sent trace (Ran epoch position reads) = has_run trace position ≡ true
+IsTold sent trace (Through epoch instance) = IsThrough sent trace instance
+IsTold sent trace report = Unit {0}
+
+-- each Run that a worker completed stands in the trace
+abbrev pub AreTraced : List ran_type → WorkerState → Type 0
+AreTraced trace state =
+    (place position : ℕ) → is_one_of state.ran place ≡ true → position_at state place ≡ position ∷ [] → has_run trace position ≡ true
 
 -- A worker is under way behind these orders: it took the front of them and the rest waits, it was handed what is true of
--- the job, and so is what it gave; each Run that it reports was performed.
+-- the job, and so is what it gave; each Run that it completed stands in the trace, and so does each that it reports.
 pub record IsNodeUnderWay (job : Job) (workers number : ℕ) (trace : List ran_type) (sent : List ToWorker) (node : Node) : Type 0 where
   pub link : orders_in node.happened ++ node.orders ≡ sent
   pub history : IsHistory node.happened
   pub handed : IsHandedTruth job node.happened
   pub senders : length node.frames ≡ workers
   pub waiting : HasTruth job node
-  pub told : All (IsTold trace) node.reports
+  pub ran : AreTraced trace (state_of node.happened)
+  pub told : All (IsTold sent trace) node.reports
   pub batch : IfSome node.batch (IsBatchRight job number (state_of node.happened))
 
 -- all workers are under way
@@ -143,8 +170,11 @@ AreApart s =
 pub record NodesGoOn : Type 0 where
   -- they are under way at first
   pub starts : (job : Job) (setup : Setup) → is_whole job ≡ true → AreUnderWay (unbegun job setup)
-  -- and behind a turn of the controller
-  pub turned : (before after : ClusterState) → AreUnderWay before → HasTurned before after → AreUnderWay after
+  -- and behind a turn of the controller, where its orders begin one epoch
+  pub turned : (before after : ClusterState) (turn : HasTurned before after) → AreUnderWay before
+      → ((number : ℕ) → number < before.setup.workers
+      → BeginOnce turn.control.pending (orders_to number (before.put ++ turn.orders)))
+      → AreUnderWay after
   pub done_turned : (before after : ClusterState) → HasTurned before after → All (IsDone before.nodes) before.trace
       → All (IsDone after.nodes) after.trace
   -- and behind what an enabled event does before the turn

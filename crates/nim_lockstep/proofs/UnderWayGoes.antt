@@ -15,7 +15,7 @@ use Rattle.nim_plan.specs.Good.{IsGood}
 use Rattle.nim_course.specs.declared.outcome.Outcome.{Outcome}
 use Rattle.nim_course.specs.declared.setup.Setup.{Setup}
 use Rattle.nim_course.specs.Controller.{Controller, new_controller}
-use Rattle.nim_place.specs.Directed.{Directed}
+use Rattle.nim_place.specs.Directed.{Directed, orders_to}
 use Rattle.nim_course.specs.Leads.{Leads}
 use Rattle.nim_course.proofs.Reports.{report_leads}
 use Rattle.nim_course.proofs.Starts.{start_leads}
@@ -108,16 +108,17 @@ pub turn_goes : NodesGoOn → (before after : ClusterState) → IsUnderWay befor
 turn_goes go before after under turned =
     let plan = planned before under in
     let beside = turn_beside before after turned in
+    let keeps = turn_keeps before.setup before.control turned.control before.put turned.orders plan.keeps turned.turned in
     beside_goes (turned_to before turned.control turned.orders) after beside
     (record {
       least = under.least;
       most = under.most;
       leads = turn_leads before.job before.control turned.control before.put turned.orders under.leads turned.turned;
-      keeps = turn_keeps before.setup before.control turned.control before.put turned.orders plan.keeps turned.turned;
+      keeps = keeps;
       settled = turn_settled before.control turned.control turned.orders plan.settled turned.turned;
     })
     (turn_accounted before.control turned.control turned.orders before.trace under.accounted turned.turned) under.once
-    (go.turned before after under.nodes turned) (go.done_turned before after turned under.done)
+    (go.turned before after turned under.nodes keeps.once) (go.done_turned before after turned under.done)
     (subst (All (ReadsByOrder before.job)) (sym beside.trace) under.reads)
 
 -- ---- what an event does before the turn
@@ -160,7 +161,7 @@ finishes go s number under = either (slice_get s.nodes number) refl where
 
 -- a report that is taken
 report_goes : (s : ClusterState) (number : ℕ) (node : Node) (report : FromWorker) (rest : List FromWorker) → IsUnderWay s → s.control.outcome ≡ None
-    → IsGood s.job report → IsTold s.trace report → IsHandled s (report_taken number node (report ∷ rest) s)
+    → IsGood s.job report → IsTold (orders_to number s.put) s.trace report → IsHandled s (report_taken number node (report ∷ rest) s)
     → IsUnderWay (report_taken number node (report ∷ rest) s)
 report_goes s number node report rest under none good told handled =
     let plan = planned s under in
@@ -173,14 +174,15 @@ report_goes s number node report rest under none good told handled =
       keeps = report_keeps s.setup s.control s.put from report plan.keeps;
       settled = report_settled s.control from report none;
     })
-    handled.nodes (report_accounted s.control from report s.trace told under.accounted) handled.done handled.reads under.once
+    handled.nodes (report_accounted s.control from report (orders_to number s.put) s.trace told under.accounted) handled.done handled.reads under.once
 
 taken_goes : (s : ClusterState) (number : ℕ) (node : Node) (reports : List FromWorker) → IsUnderWay s → s.control.outcome ≡ None
-    → All (IsGood s.job) reports → All (IsTold s.trace) reports → IsHandled s (report_taken number node reports s)
+    → All (IsGood s.job) reports → All (IsTold (orders_to number s.put) s.trace) reports → IsHandled s (report_taken number node reports s)
     → IsUnderWay (report_taken number node reports s)
 taken_goes s number node [] under none good told handled = under
 taken_goes s number node (report ∷ rest) under none good told handled =
-    report_goes s number node report rest under none (All-head (IsGood s.job) report rest good) (All-head (IsTold s.trace) report rest told) handled
+    report_goes s number node report rest under none (All-head (IsGood s.job) report rest good)
+    (All-head (IsTold (orders_to number s.put) s.trace) report rest told) handled
 
 reports_go : (s : ClusterState) (number : ℕ) → IsUnderWay s → s.control.outcome ≡ None → IsHandled s (passed s (Report number))
     → IsUnderWay (passed s (Report number))
