@@ -1,0 +1,14 @@
+pub mod Steps
+pub mod Stays
+pub mod Follows
+pub mod Keeps
+pub mod Blocks
+pub mod Stands
+pub mod Uses
+pub mod Templates
+pub mod Mended
+pub mod Instances
+pub mod NoRuns
+pub mod Lists
+pub mod GoesOn
+pub mod Short

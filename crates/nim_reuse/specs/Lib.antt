@@ -1,0 +1,5 @@
+pub mod Decisions
+pub mod Received
+pub mod Reuse
+pub mod GoesOn
+pub mod Cost
