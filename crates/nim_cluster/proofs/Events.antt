@@ -134,7 +134,8 @@ turned_so old control s orders stands turned = record {
 
 -- ---- a report
 
-pub reported : (old : Cluster) (nodes : Vec kept_node Global) (s : ClusterState) (number : ℕ) (kept new : kept_node) (report : FromWorker) (rest : List FromWorker)
+pub reported : (old : Cluster) (nodes : Vec kept_node Global) (s : ClusterState) (number : ℕ) (kept new : kept_node) (report : FromWorker)
+    (rest : List FromWorker)
     → Stands old s → slice_get old.nodes.items number ≡ Some kept → kept.reports.items ≡ report ∷ rest
     → nodes.items ≡ slice_set old.nodes.items number new
     → ((node : Node) → IsNode number kept node → IsNode number new (record node { reports = rest }))
@@ -183,7 +184,8 @@ unreported old nodes s number kept new stands at none is goes =
 pub reported_nobody : (old : Cluster) (s : ClusterState) (number : ℕ) → Stands old s → length old.nodes.items ≤ number
     → Stands old (passed s (Report number))
 reported_nobody old s number stands above =
-    subst (λ (o : Option Node). Stands old (option_map_or (λ (n : Node). report_taken number n n.reports s) o s)) (sym (nobody old s number stands above)) stands
+    subst (λ (o : Option Node). Stands old (option_map_or (λ (n : Node). report_taken number n n.reports s) o s)) (sym (nobody old s number stands above))
+    stands
 
 -- ---- a batch that is finished
 

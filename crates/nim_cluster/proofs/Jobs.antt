@@ -1,17 +1,18 @@
 -- A controller's job stays, whatever it is handed and however it moves.
-use Rattle.std.proofs.Common.{◌≡◌, ℕ, zero, suc, Bool, true, false, List, refl, ap, ◌∙◌}
+use Rattle.std.proofs.Common.{◌≡◌, ℕ, zero, suc, Bool, true, false, ℤ, List, refl, ap, ◌∙◌}
 use Rattle.std.specs.Prelude.{◌==◌, if◌then◌else◌}
 use Rattle.nim_base.specs.declared.number.Worker.{Worker}
 use Rattle.nim_job.specs.declared.ask.Ask.{Ask}
 use Rattle.nim_job.specs.Machine.{ask_of}
 use Rattle.nim_message.specs.declared.report.FromWorker.{FromWorker}
-use Rattle.nim_message.specs.declared.report.FromWorker.TheVariants.{Value, Ran, NoMemory}
+use Rattle.nim_message.specs.declared.report.FromWorker.TheVariants.{Value, Ran, Through, NoMemory}
 use Rattle.nim_place.specs.Extends.{is_live}
+use Rattle.nim_reuse.specs.Decisions.{is_recorded}
 use Rattle.nim_course.specs.declared.pending.Pending.{Pending}
 use Rattle.nim_course.specs.declared.pending.Pending.TheVariants.{Begin, Idle, Block, Cell, Parts, Ended}
 use Rattle.nim_course.specs.Controller.{Controller}
 use Rattle.nim_place.specs.Directed.{Directed}
-use Rattle.nim_course.specs.Moves.{IsTurned, after_moves, asked, done_with}
+use Rattle.nim_course.specs.Moves.{IsTurned, after_moves, asked, done_with, with_block}
 use Rattle.nim_course.specs.Reports.{after_report, reported}
 
 -- ---- reports
@@ -23,6 +24,7 @@ one_of false x y c first second = second
 told_job : (c : Controller) (from : Worker) (report : FromWorker) → (reported c from report).job ≡ c.job
 told_job c from (Value epoch ticket object version value) = one_of (epoch == c.epoch) _ c c refl refl
 told_job c from (Ran epoch position reads) = one_of (epoch == c.epoch) _ c c refl refl
+told_job c from (Through epoch instance) = one_of (epoch == c.epoch) _ c c refl refl
 told_job c from NoMemory = refl
 told_job c from report = refl
 
@@ -41,10 +43,14 @@ asked_job c (Ask.Output var) = refl
 asked_job c Ask.Finished = refl
 asked_job c Ask.Limit = refl
 
+block_job : (again : Bool) (c : Controller) (block : ℕ) (args : List ℤ) → (with_block again c block args).job ≡ c.job
+block_job true c block args = refl
+block_job false c block args = refl
+
 done_job : (c : Controller) (pending : Pending) → (done_with c pending).job ≡ c.job
 done_job c Begin = refl
 done_job c Idle = asked_job c (ask_of c.machine)
-done_job c (Block block args) = refl
+done_job c (Block block args) = block_job (is_recorded c.decisions block) c block args
 done_job c (Cell row cell) = refl
 done_job c (Parts var) = refl
 done_job c Ended = refl

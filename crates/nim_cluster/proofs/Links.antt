@@ -185,7 +185,8 @@ set_past (y ∷ ys) (suc i) x above = ap (λ (rest : List _). y ∷ rest) (set_p
 pub unsent_node : (number from : ℕ) (old : kept_node) (node : Node) (frame : Data) → IsNode number old node → length old.frames.items ≤ from
     → IsNode number old (frame_sent from frame node)
 unsent_node number from old node frame is above =
-    let many : length node.frames ≤ from = subst (λ (n : ℕ). n ≤ from) (sym (length-map old.frames.items (λ (q : VecDeque Data Global). q.items)) ∙ ap length is.frames) above in
+    let many : length node.frames ≤ from =
+    subst (λ (n : ℕ). n ≤ from) (sym (length-map old.frames.items (λ (q : VecDeque Data Global). q.items)) ∙ ap length is.frames) above in
     let same = set_past node.frames from (frames_from from node ++ frame ∷ []) many in
     record {
       core = is.core;

@@ -124,7 +124,8 @@ changed old nodes s number kept new change stands at is goes =
     })
 
 -- a worker took something, where memory wasn't refused
-pub stands_at : {A E : Type 0} (r : Result A E) (old : Cluster) (nodes : Vec kept_node Global) (s : ClusterState) (number : ℕ) (kept new : kept_node) (change : Node → Node)
+pub stands_at : {A E : Type 0} (r : Result A E) (old : Cluster) (nodes : Vec kept_node Global) (s : ClusterState) (number : ℕ) (kept new : kept_node)
+    (change : Node → Node)
     → Stands old s → number < length old.nodes.items → kept ≡ get_or old.nodes.items number kept → nodes.items ≡ slice_set old.nodes.items number new
     → ((n : ℕ) (node : Node) → IsNode n kept node → OnOk r (IsNode n new (change node)))
     → OnOk r (Stands (record old { nodes = nodes }) (at_node change number s))

@@ -1,19 +1,22 @@
 -- Moves that give orders: the output of a variable that is asked for, and a block whose turn it is.
-use Rattle.std.proofs.Common.{◌≡◌, ℕ, ℤ, pos, List, [], ◌∷◌, ◌++◌, length, refl, ap, ap₂, sym, ◌∙◌}
+use Rattle.std.proofs.Common.{◌≡◌, ℕ, Bool, true, false, ℤ, pos, List, [], ◌∷◌, ◌++◌, length, refl, ap, ap₂, sym, ◌∙◌}
 use Rattle.std.specs.Prelude.{if◌then◌else◌}
+use Rattle.std.proofs.lemmas.List.{length-map}
 use Rattle.nim_base.specs.declared.number.Object.{Object}
 use Rattle.nim_base.specs.declared.task.Task.{Task}
+use Rattle.nim_base.specs.declared.task.TaskForm.{TaskForm}
 use Rattle.nim_command.specs.Numbers.{counted_from}
 use Rattle.nim_job.specs.declared.ask.Ask.{Ask}
 use Rattle.nim_job.specs.Machine.{Machine, after_ask, answered, ask_of}
-use Rattle.nim_job.specs.Tasks.{block_tasks_of}
+use Rattle.nim_job.specs.Tasks.{block_forms_of, block_tasks_of, task_of}
+use Rattle.nim_reuse.specs.Decisions.{Decisions, is_recorded}
 use Rattle.nim_course.specs.declared.pending.Pending.{Pending}
 use Rattle.nim_course.specs.Controller.{Controller, Flight, is_in_flight}
 use Rattle.nim_place.specs.Directed.{Directed}
-use Rattle.nim_course.specs.Moves.{asked, done_with, fetching, moved, objects_in, orders_asked, orders_of, orders_with, with_instance}
-use Rattle.nim_course.specs.OrdersGiven.{after_instance, counted_on, fetch_orders, flight_of, instance_orders}
-use Rattle.nim_control.specs.Given.{AreTasks, awaiting, objects_from}
-use Rattle.nim_control.specs.Sites.{Sites}
+use Rattle.nim_course.specs.Moves.{asked, done_with, fetching, moved, objects_in, orders_asked, orders_of, orders_with, with_block, with_instance}
+use Rattle.nim_course.specs.OrdersGiven.{counted_on, fetch_orders, flight_of}
+use Rattle.nim_control.specs.Given.{IsGiven, awaiting, objects_from}
+use Rattle.nim_control.specs.Sites.{Sites, sites_of}
 
 -- ---- an output
 
@@ -37,17 +40,11 @@ output_asked seen now next m var first count is asks after objects fetched =
 
 -- ---- a block
 
--- the sites of a controller
-abbrev pub sites_of : Controller → Sites
-sites_of c = record { place = c.place; live = c.live; versions = c.versions }
-
-pub block_given : (seen now : Controller) (block : ℕ) (args : List ℤ) (tasks : List Task) (before after : List Directed) (new : Sites)
-    → seen ≡ now → seen.pending ≡ Pending.Block block args → tasks ≡ block_tasks_of seen.job block args
-    → AreTasks seen 0 tasks before (sites_of seen) after new → after ≡ before ++ orders_of now
-block_given seen now block args tasks before after new is pending made are =
-    are.orders ∙ ap (λ (ts : List Task). before ++ instance_orders seen 0 seen.versions ts) made
-    ∙ ap (λ (p : Pending). before ++ orders_with seen p) (sym pending)
-    ∙ ap (λ (c : Controller). before ++ orders_of c) is
+pub block_given : (seen now : Controller) (block : ℕ) (args : List ℤ) (before after : List Directed) (new : Sites) (decided : Decisions) (flight : Flight)
+    → seen ≡ now → seen.pending ≡ Pending.Block block args
+    → IsGiven (is_recorded seen.decisions block) seen block args before after new decided flight → after ≡ before ++ orders_of now
+block_given seen now block args before after new decided flight is pending given =
+    given.orders ∙ ap (λ (p : Pending). before ++ orders_with seen p) (sym pending) ∙ ap (λ (c : Controller). before ++ orders_of c) is
 
 -- what is in flight of an instance that was given
 open_flight : (c : Controller) (tasks : List Task) → (if is_in_flight (awaiting c tasks) then awaiting c tasks ∷ [] else []) ≡ flight_of c tasks
@@ -61,29 +58,44 @@ flights_are c tasks flight now pushed is =
     ∙ ap (λ (fs : List Flight). c.flight ++ fs) (open_flight c tasks)
 
 -- a controller with what an instance changes
-abbrev pub with_given : Controller → Machine → Sites → ℕ → ℕ → List Flight → Controller
-with_given c m sites position instance flight = record c {
+abbrev pub with_given : Controller → Machine → Sites → Decisions → ℕ → ℕ → List Flight → Controller
+with_given c m sites decisions position instance flight = record c {
   place = sites.place;
   live = sites.live;
   machine = m;
   versions = sites.versions;
+  decisions = decisions;
   position = position;
   instance = instance;
   pending = Pending.Idle;
   flight = flight;
 }
 
-pub block_done : (seen now : Controller) (block : ℕ) (args : List ℤ) (tasks : List Task) (before after : List Directed) (new : Sites) (m : Machine)
-    (position instance : ℕ) (flight : List Flight)
-    → seen ≡ now → seen.pending ≡ Pending.Block block args → tasks ≡ block_tasks_of seen.job block args
-    → AreTasks seen 0 tasks before (sites_of seen) after new → m ≡ answered seen.machine (pos 0)
-    → position ≡ counted_from seen.position (length tasks) → instance ≡ counted_on seen.instance 1 → flight ≡ seen.flight ++ flight_of seen tasks
-    → with_given seen m new position instance flight ≡ moved now
-block_done seen now block args tasks before after new m position instance flight is pending made are told counts begins flies =
-    let given : Sites = record { place = seen.place; live = seen.live; versions = after_instance seen 0 seen.versions tasks } in
-    ap₂ (λ (n : Machine) (s : Sites). with_given seen n s position instance flight) told are.sites
-    ∙ ap₂ (λ (p i : ℕ). with_given seen (answered seen.machine (pos 0)) given p i flight) counts begins
-    ∙ ap (with_given seen (answered seen.machine (pos 0)) given (counted_from seen.position (length tasks)) (counted_on seen.instance 1)) flies
-    ∙ ap (with_instance seen) made
+-- it is what the controller comes to
+with_all : (recorded : Bool) (c : Controller) (block : ℕ) (args : List ℤ)
+    → with_given c (answered c.machine (pos 0)) (record (sites_of c) { versions = (with_block recorded c block args).versions })
+    (with_block recorded c block args).decisions (counted_from c.position (length (block_forms_of c.job block))) (counted_on c.instance 1)
+    (with_block recorded c block args).flight ≡ with_block recorded c block args
+with_all true c block args = refl
+with_all false c block args =
+    ap (λ (count : ℕ). record (with_instance c block (block_tasks_of c.job block args)) { position = counted_from c.position count })
+    (sym (length-map (block_forms_of c.job block) (task_of args)))
+
+pub block_done : (seen now : Controller) (block : ℕ) (args : List ℤ) (forms : List TaskForm) (before after : List Directed) (new : Sites)
+    (decided : Decisions) (flight : Flight) (m : Machine) (position instance : ℕ) (flights : List Flight)
+    → seen ≡ now → seen.pending ≡ Pending.Block block args → forms ≡ block_forms_of seen.job block
+    → IsGiven (is_recorded seen.decisions block) seen block args before after new decided flight → m ≡ answered seen.machine (pos 0)
+    → position ≡ counted_from seen.position (length forms) → instance ≡ counted_on seen.instance 1
+    → flights ≡ seen.flight ++ (if is_in_flight flight then flight ∷ [] else []) → with_given seen m new decided position instance flights ≡ moved now
+block_done seen now block args forms before after new decided flight m position instance flights is pending made are told counts begins flies =
+    let recorded : Bool = is_recorded seen.decisions block in
+    let next : Controller = with_block recorded seen block args in
+    let sites : Sites = record (sites_of seen) { versions = next.versions } in
+    ap₂ (λ (n : Machine) (s : Sites). with_given seen n s decided position instance flights) told are.has_sites
+    ∙ ap₂ (λ (d : Decisions) (fs : List Flight). with_given seen (answered seen.machine (pos 0)) sites d position instance fs) are.has_decisions
+    (flies ∙ are.has_flight)
+    ∙ ap₂ (λ (p i : ℕ). with_given seen (answered seen.machine (pos 0)) sites next.decisions p i next.flight)
+    (counts ∙ ap (λ (fs : List TaskForm). counted_from seen.position (length fs)) made) begins
+    ∙ with_all recorded seen block args
     ∙ ap (done_with seen) (sym pending)
     ∙ ap moved is

@@ -21,18 +21,18 @@ use Rattle.nim_place.specs.Versions.{after_commands}
 use Rattle.nim_course.specs.Controller.{Controller, Flight}
 use Rattle.nim_place.specs.Directed.{Directed, directed}
 use Rattle.nim_course.specs.OrdersGiven.{after_instance, instance_orders, task_commands}
-use Rattle.nim_control.specs.declared.instance.InstanceAt.{InstanceAt}
+use Rattle.nim_reuse.specs.declared.instance.InstanceAt.{InstanceAt}
 use Rattle.nim_control.specs.Given.{AreTasks, IsToRun, awaiting}
 use Rattle.nim_control.specs.Sites.{Sites, SitesStay}
 use Rattle.nim_control.proofs.Alone.{has_still}
 
 -- ---- a task writes
 
-writes_some : (func : Func) → 1 ≤ writes_of func
+pub writes_some : (func : Func) → 1 ≤ writes_of func
 writes_some Split = omega arith
 writes_some func = omega arith
 
-counts_writes : (func : Func) (params reads writes : ℕ) → has_counts func params reads writes ≡ true → writes ≡ writes_of func
+pub counts_writes : (func : Func) (params reads writes : ℕ) → has_counts func params reads writes ≡ true → writes ≡ writes_of func
 counts_writes func params reads writes is = grind (arith, nat_tests)
 
 first_there : (objects : ℕ) (writes : List Object) → 1 ≤ length writes → list_all (is_object objects) writes ≡ true
@@ -143,10 +143,10 @@ runs_more sites tasks number task below is =
 
 -- they are the controller's
 pub runs_are : (c : Controller) (at : InstanceAt) (sites : Sites) (tasks : List Task) → IsToRun c at sites
-    → record { instance = at.instance; base = at.base; runs = runs_at sites tasks } ≡ awaiting c tasks
+    → record { instance = at.instance; base = at.base; runs = runs_at sites tasks; through = [] } ≡ awaiting c tasks
 runs_are c at sites tasks is =
     let runs : runs_at sites tasks ≡ (awaiting c tasks).runs =
     ap (λ (p : Placement). map (λ (t : Task). Some (owner_of p t sites.versions.objects sites.live)) tasks) (sym is.has.place)
     ∙ ap₂ (λ (n : ℕ) (flags : List Bool). map (λ (t : Task). Some (owner_of c.place t n flags)) tasks) (sym is.has.objects) (sym is.has.live) in
-    let flight : ℕ → ℕ → List (Option Worker) → Flight = λ (i b : ℕ) (rs : List (Option Worker)). record { instance = i; base = b; runs = rs } in
+    let flight : ℕ → ℕ → List (Option Worker) → Flight = λ (i b : ℕ) (rs : List (Option Worker)). record { instance = i; base = b; runs = rs; through = [] } in
     ap₂ (λ (i b : ℕ). flight i b (runs_at sites tasks)) (sym is.instance) (sym is.position) ∙ ap (flight c.instance c.position) runs

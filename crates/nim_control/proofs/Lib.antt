@@ -7,5 +7,6 @@ pub mod Given
 pub mod Instances
 pub mod Kept
 pub mod Moving
+pub mod Reused
 pub mod Taken
 pub mod Tasks

@@ -1,15 +1,17 @@
 -- Moves, one after another: how far it still is to the end of a turn, and what they have come to.
-use Rattle.std.proofs.Common.{◌≡◌, ℕ, ◌+◌, ◌-◌, ◌*◌, ◌<◌, zero, suc, true, false, List, [], ◌++◌, refl, ap, ap₂, sym, subst, ◌∙◌, arith, Option, None, Some}
+use Rattle.std.proofs.Common.{◌≡◌, ℕ, ◌+◌, ◌-◌, ◌*◌, ◌<◌, zero, suc, Bool, true, false, ℤ, List, [], ◌++◌, refl, ap, ap₂, sym, subst, ◌∙◌, arith, Option, None, Some}
 use Rattle.std.specs.Prelude.{Result, Ok, Err, OnErr}
 use Rattle.std.proofs.lemmas.Bool.{false≢true}
 use Rattle.nim_job.specs.declared.ask.Ask.{Ask}
 use Rattle.nim_job.specs.Machine.{Machine, after_ask, ask_of}
+use Rattle.nim_job.specs.Tasks.{block_tasks_of}
+use Rattle.nim_reuse.specs.Decisions.{is_recorded}
 use Rattle.nim_course.specs.declared.outcome.Outcome.{Outcome}
 use Rattle.nim_course.specs.declared.pending.Pending.{Pending}
 use Rattle.nim_course.specs.declared.pending.Pending.TheVariants.{Begin, Idle, Block, Cell, Parts, Ended}
 use Rattle.nim_course.specs.Controller.{Controller}
 use Rattle.nim_place.specs.Directed.{Directed}
-use Rattle.nim_course.specs.Moves.{AreFree, IsMoved, after_moves, asked, does_wait, done_with, is_held_up, moved, orders_in, orders_of, text_told}
+use Rattle.nim_course.specs.Moves.{AreFree, IsMoved, after_moves, asked, does_wait, done_with, is_held_up, moved, orders_in, orders_of, text_told, with_block, with_instance, with_reused}
 use Rattle.nim_course.proofs.Asking.{goes_on}
 use Rattle.nim_course.proofs.Standing.{held_parts}
 use Rattle.nim_control.specs.Keeps.{Keeps}
@@ -63,12 +65,19 @@ ask_down c Ask.Finished none idle is =
     omega (arith, left_is c.outcome (after_ask c.machine) Ended none, on.steps, on.more)
 ask_down c Ask.Limit none idle is = omega arith
 
+block_down : (c : Controller) (block : ℕ) (args : List ℤ) (recorded : Bool) → c.outcome ≡ None
+    → left_of (with_block recorded c block args) < before c.machine 3
+block_down c block args true none =
+    let next : Controller = with_reused c block in
+    omega (arith, left_is c.outcome next.machine Idle none)
+block_down c block args false none =
+    let next : Controller = with_instance c block (block_tasks_of c.job block args) in
+    omega (arith, left_is c.outcome next.machine Idle none)
+
 move_down : (c : Controller) (pending : Pending) → c.outcome ≡ None → c.pending ≡ pending → left_of (done_with c pending) < before c.machine (rank pending)
 move_down c Begin none is = omega (arith, left_is c.outcome c.machine Idle none)
 move_down c Idle none is = ask_down c (ask_of c.machine) none is refl
-move_down c (Block block args) none is =
-    let next : Controller = done_with c (Block block args) in
-    omega (arith, left_is c.outcome next.machine Idle none)
+move_down c (Block block args) none is = block_down c block args (is_recorded c.decisions block) none
 move_down c (Cell row cell) none is =
     let next : Controller = done_with c (Cell row cell) in
     omega (arith, left_is c.outcome next.machine Idle none)

@@ -10,7 +10,7 @@ use Rattle.nim_job.specs.Tasks.{task_of}
 use Rattle.nim_job.specs.Whole.{is_task}
 use Rattle.nim_place.specs.Schedule.{owner_of}
 use Rattle.nim_course.specs.Controller.{Controller, Flight}
-use Rattle.nim_control.specs.declared.instance.InstanceAt.{InstanceAt}
+use Rattle.nim_reuse.specs.declared.instance.InstanceAt.{InstanceAt}
 use Rattle.nim_control.specs.Given.{IsToRun, awaiting}
 use Rattle.nim_control.specs.Sites.{Sites, SitesStay}
 use Rattle.nim_control.proofs.Instances.{owner_still, runs_are, runs_at, runs_more}
@@ -47,7 +47,7 @@ tasks_past args forms at past = drop_all at (map (task_of args) forms) (omega (a
 -- ---- who is to report them
 
 abbrev pub flight_so_far : InstanceAt → Sites → List Task → ℕ → Flight
-flight_so_far at sites tasks number = record { instance = at.instance; base = at.base; runs = runs_at sites (take number tasks) }
+flight_so_far at sites tasks number = record { instance = at.instance; base = at.base; runs = runs_at sites (take number tasks); through = [] }
 
 -- one run more is awaited
 pub run_awaited : (at : InstanceAt) (old mid : Sites) (args : List ℤ) (forms : List TaskForm) (number : ℕ) (form : TaskForm) (task : Task)
@@ -58,7 +58,8 @@ pub run_awaited : (at : InstanceAt) (old mid : Sites) (args : List ℤ) (forms :
     → next ≡ flight_so_far at old (map (task_of args) forms) (number + 1)
 run_awaited at old mid args forms number form task owner now next below is made owns stay pushed so_far =
     let tasks : List Task = map (task_of args) forms in
-    let with_runs : List (Option Worker) → Flight = λ (runs : List (Option Worker)). record { instance = at.instance; base = at.base; runs = runs } in
+    let with_runs : List (Option Worker) → Flight =
+    λ (runs : List (Option Worker)). record { instance = at.instance; base = at.base; runs = runs; through = [] } in
     let more : runs_at old (take (number + 1) tasks)
     ≡ runs_at old (take number tasks) ++ Some (owner_of old.place task old.versions.objects old.live) ∷ [] =
     runs_more old tasks number task (omega (arith, below, length-map forms (task_of args))) (task_is args forms number form task below is made) in
@@ -71,5 +72,5 @@ pub all_awaited : (c : Controller) (at : InstanceAt) (sites : Sites) (args : Lis
     → flight ≡ awaiting c (map (task_of args) forms)
 all_awaited c at sites args forms number flight past is so_far =
     let tasks : List Task = map (task_of args) forms in
-    let with_runs : List Task → Flight = λ (ts : List Task). record { instance = at.instance; base = at.base; runs = runs_at sites ts } in
+    let with_runs : List Task → Flight = λ (ts : List Task). record { instance = at.instance; base = at.base; runs = runs_at sites ts; through = [] } in
     so_far ∙ ap with_runs (take_all number tasks (omega (arith, past, length-map forms (task_of args)))) ∙ runs_are c at sites tasks is

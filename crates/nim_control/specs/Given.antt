@@ -1,16 +1,20 @@
 -- What is given at sites: the orders behind those before them, and where the versions lie then.
-use Rattle.std.specs.Prelude.{◌≡◌, ℕ, ◌+◌, List, ◌++◌, map}
+use Rattle.std.specs.Prelude.{◌≡◌, ℕ, ◌+◌, Bool, if◌then◌else◌, ℤ, List, [], ◌∷◌, ◌++◌, map}
 use Rattle.std.specs.List.{range_with_len}
 use Rattle.nim_base.specs.declared.number.Object.{Object}
 use Rattle.nim_base.specs.declared.number.Worker.{Worker}
 use Rattle.nim_base.specs.declared.task.Task.{Task}
+use Rattle.nim_base.specs.declared.task.TaskForm.{TaskForm}
 use Rattle.nim_command.specs.declared.command.Command.{Command}
-use Rattle.nim_place.specs.Versions.{after_commands}
-use Rattle.nim_course.specs.Controller.{Controller, Flight}
+use Rattle.nim_job.specs.Tasks.{block_forms_of}
 use Rattle.nim_place.specs.Directed.{Directed}
-use Rattle.nim_course.specs.OrdersGiven.{after_instance, awaited_of, instance_orders, single_for}
-use Rattle.nim_control.specs.declared.instance.InstanceAt.{InstanceAt}
-use Rattle.nim_control.specs.Sites.{HasSites, Sites}
+use Rattle.nim_place.specs.Versions.{after_commands}
+use Rattle.nim_reuse.specs.declared.instance.InstanceAt.{InstanceAt}
+use Rattle.nim_reuse.specs.Decisions.{Decisions}
+use Rattle.nim_course.specs.Controller.{Controller, Flight, is_in_flight}
+use Rattle.nim_course.specs.Moves.{orders_of_block, with_block}
+use Rattle.nim_course.specs.OrdersGiven.{after_instance, awaited_of, instance_at, instance_orders, single_for}
+use Rattle.nim_control.specs.Sites.{HasSites, Sites, sites_of}
 
 -- Commands were given, each alone in a Single, and the map took them in.
 pub record AreAlone (epoch : ℕ) (commands : List (Worker × Command)) (before : List Directed) (old : Sites)
@@ -33,7 +37,26 @@ pub record AreTasks (c : Controller) (number : ℕ) (tasks : List Task) (before 
 
 -- a report of each of an instance's tasks is awaited
 abbrev pub awaiting : Controller → List Task → Flight
-awaiting c tasks = record { instance = c.instance; base = c.position; runs = map (awaited_of c) tasks }
+awaiting c tasks =
+    record { instance = c.instance; base = c.position; runs = map (awaited_of c) tasks; through = [] }
+
+-- a controller is to give this instance of a block of these forms, with these sites and decisions
+pub record IsToGive (c : Controller) (at : InstanceAt) (forms : List TaskForm) (sites : Sites) (decisions : Decisions)
+    : Type 0 where
+  pub is_next : at ≡ instance_at c at.block
+  pub has_forms : forms ≡ block_forms_of c.job at.block
+  pub has_sites : sites ≡ sites_of c
+  pub has_decisions : decisions ≡ c.decisions
+
+-- An instance of a block was given, by whether the block was recorded: its orders, where the versions lie then, what is
+-- decided, and what is in flight.
+pub record IsGiven (recorded : Bool) (c : Controller) (block : ℕ) (args : List ℤ) (before after : List Directed)
+    (sites : Sites) (decisions : Decisions) (flight : Flight) : Type 0 where
+  pub orders : after ≡ before ++ orders_of_block recorded c block args
+  pub has_sites : sites ≡ record (sites_of c) { versions = (with_block recorded c block args).versions }
+  pub has_decisions : decisions ≡ (with_block recorded c block args).decisions
+  pub has_flight : c.flight ++ (if is_in_flight flight then flight ∷ [] else [])
+      ≡ (with_block recorded c block args).flight
 
 -- so many objects, from the one with this number on
 abbrev pub objects_from : ℕ → ℕ → List Object

@@ -10,6 +10,7 @@ seen c = record {
   live = c.sites.live;
   machine = c.machine;
   versions = c.sites.versions;
+  decisions = c.decisions;
   epoch = c.epoch;
   position = c.position;
   instance = c.instance;

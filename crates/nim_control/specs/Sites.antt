@@ -34,6 +34,10 @@ pub record SitesStay (old new : Sites) : Type 0 where
   pub workers : new.versions.workers ≡ old.versions.workers
   pub objects : new.versions.objects ≡ old.versions.objects
 
+-- the sites of a controller
+abbrev pub sites_of : Controller → Sites
+sites_of c = record { place = c.place; live = c.live; versions = c.versions }
+
 -- a controller has these sites: the same rule, flags and objects, whatever lies where by now
 pub record HasSites (c : Controller) (sites : Sites) : Type 0 where
   pub place : c.place ≡ sites.place

@@ -17,16 +17,19 @@ ghost use Rattle.nim_control.specs.Given.{objects_from};
 ghost use Rattle.nim_control.specs.Keeps.{HasFailed, Keeps};
 
 use crate::begin::{push_firsts, push_resets};
+use crate::block::give_block;
 use crate::blocks::{all_forms, forms_of, objects};
 use crate::fetch::fetch_objects;
 use crate::flight::InFlight;
-use crate::instance::{InstanceAt, give_tasks};
 use crate::sites::SiteMap;
-use crate::told::{cell_told, first_open, is_any_open, on_ran, push_open, tell_at, texts};
+use crate::told::{
+    cell_told, first_open, is_any_open, on_ran, on_through, push_open, tell_at, texts,
+};
 use nim_base::{Epoch, Instance, NoMemory, Position, Seq, TaskForm, Worker};
 use nim_course::{Fetched, Outcome, Pending, Setup, Waiting};
 use nim_job::{Ask, DriverMachine, Job, first_object};
 use nim_message::{FromWorker, ToWorker};
+use nim_reuse::{DecisionMap, InstanceAt};
 use std::alloc::Global;
 use std::marker::Model;
 
@@ -43,6 +46,7 @@ pub struct ControllerCore {
     /// The tasks of each block, their arguments not yet put in: a `do` makes none of them anew.
     forms: Vec<Seq<TaskForm>>,
     sites: SiteMap,
+    decisions: DecisionMap,
     machine: DriverMachine,
     epoch: Epoch,
     /// How many tasks were given.
@@ -88,12 +92,14 @@ impl ControllerCore {
     {
         let forms = all_forms(alloc, &job)?;
         let sites = SiteMap::new(alloc, setup, objects(job.vars.as_slice()))?;
+        let decisions = DecisionMap::new(alloc, job.blocks.len())?;
         let machine = DriverMachine::new(alloc, &job)?;
         Ok(ControllerCore {
             alloc,
             job,
             forms,
             sites,
+            decisions,
             machine,
             epoch: 0,
             position: 0,
@@ -338,13 +344,15 @@ impl ControllerCore {
     {
         if let Pending::Block { block, args } = &self.pending {
             let forms = forms_of(self.forms.as_slice(), *block);
-            let flight = give_tasks(
+            let flight = give_block(
                 self.alloc,
                 orders,
                 &mut self.sites,
+                &mut self.decisions,
                 InstanceAt {
                     epoch: self.epoch,
                     instance: self.instance,
+                    block: *block,
                     base: self.position,
                 },
                 forms,
@@ -420,8 +428,13 @@ impl ControllerCore {
                     on_ran(&mut self.flight, from, position);
                 }
             }
+            FromWorker::Through { epoch, instance } => {
+                if epoch == self.epoch {
+                    on_through(&mut self.flight, from, instance);
+                }
+            }
             FromWorker::NoMemory => self.outcome = Some(Outcome::NoMemory),
-            FromWorker::Through { .. } | FromWorker::PeerDown { .. } => {}
+            FromWorker::PeerDown { .. } => {}
         }
     }
 

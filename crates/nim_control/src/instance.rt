@@ -14,18 +14,11 @@ ghost use Rattle.nim_control.specs.Sites.{SitesStay};
 use crate::flight::InFlight;
 use crate::orders::push_singles;
 use crate::sites::SiteMap;
-use nim_base::{Copied, Epoch, Instance, NoMemory, Param, Position, Seq, Task, TaskForm, Worker};
+use nim_base::{Copied, NoMemory, Param, Seq, Task, TaskForm, Worker};
 use nim_job::param_of;
 use nim_message::ToWorker;
+use nim_reuse::InstanceAt;
 use std::alloc::Global;
-
-/// An instance that is given: its epoch, its number, and the position of its task 0.
-#[derive(Clone, Copy, Debug)]
-pub(crate) struct InstanceAt {
-    pub(crate) epoch: Epoch,
-    pub(crate) instance: Instance,
-    pub(crate) base: Position,
-}
 
 /// Gives the tasks of an instance, the arguments put in, each at its home; a report of each is awaited then.
 pub(crate) fn give_tasks(

@@ -2,6 +2,7 @@
 #![tactic(auto)]
 
 mod begin;
+mod block;
 mod blocks;
 mod controller;
 mod fetch;

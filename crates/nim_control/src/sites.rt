@@ -1,14 +1,19 @@
-ghost use Rattle.std.specs.Prelude.{◌≡◌, ◌<◌, ◌≤◌, length, slice_get, IfOk, IsSomeAnd, OnErr};
+ghost use Rattle.std.specs.Prelude.{◌≡◌, ◌<◌, ◌≤◌, ◌++◌, length, slice_get, slice_set, IfOk, IsSomeAnd, OnErr, OnOk};
 ghost use Rattle.nim_place.specs.Extends.{is_live};
 ghost use Rattle.nim_place.specs.Placement as placement;
 ghost use Rattle.nim_place.specs.Schedule as schedule;
 ghost use Rattle.nim_place.specs.Versions as versions;
+ghost use Rattle.nim_reuse.specs.declared.decided.Decided.{Decided as decided_type};
+ghost use Rattle.nim_reuse.specs.Decisions.{decided_of};
+ghost use Rattle.nim_reuse.specs.Reuse as reuses;
 ghost use Rattle.nim_control.specs.Sites.{AreSites, SitesStay, new_sites};
 
 use nim_base::{NoMemory, Object, Position, Task, Version, Worker};
 use nim_command::Command;
 use nim_course::Setup;
+use nim_message::ToWorker;
 use nim_place::{Placement, VersionMap, home, schedule_task};
+use nim_reuse::{DecisionMap, InstanceAt, Reused};
 use std::alloc::Global;
 use std::marker::Model;
 
@@ -134,6 +139,43 @@ impl SiteMap {
             position,
             &self.place,
             self.live.as_slice(),
+        )
+    }
+
+    /// Gives the orders of an instance of a block that was recorded, as `DecisionMap::reuse` does. The map takes in
+    /// what it leaves.
+    pub(crate) fn reuse(
+        &mut self,
+        alloc: Global,
+        orders: &mut Vec<(Worker, ToWorker)>,
+        decisions: &mut DecisionMap,
+        at: &InstanceAt,
+        args: &[i64],
+    ) -> Result<Reused, NoMemory>
+        requires block { at.now.block < length decisions.old.blocks }
+        requires may { reuses.CanReuse self.old.versions.objects self.old.live at.now.block
+            (decided_of decisions.old at.now.block) }
+        ensures orders { OnOk result (orders.new.items ≡ orders.old.items
+            ++ reuses.orders_at self.old.place self.old.live at.now args.now self.old.versions decisions.old) }
+        ensures map { OnOk result (self.new ≡ record self.old {
+          versions = reuses.versions_at self.old.place self.old.live at.now self.old.versions decisions.old;
+        }) }
+        ensures reused { IfOk result (λ reused. reused
+            ≡ reuses.reused_at self.old.place self.old.live at.now self.old.versions decisions.old) }
+        ensures decisions { OnOk result (decisions.new
+            ≡ reuses.decisions_at self.old.place self.old.live at.now self.old.versions decisions.old) }
+        ensures refused { OnErr result (decisions.new.blocks
+            ≡ slice_set decisions.old.blocks at.now.block decided_type.Open) }
+        ensures stay { SitesStay self.old self.new }
+    {
+        decisions.reuse(
+            alloc,
+            orders,
+            &mut self.versions,
+            &self.place,
+            self.live.as_slice(),
+            at,
+            args,
         )
     }
 }

@@ -8,7 +8,7 @@ ghost use Rattle.nim_course.specs.Moves.{is_open, value_in};
 ghost use Rattle.nim_course.specs.Reports as reports;
 
 use crate::flight::InFlight;
-use nim_base::{NoMemory, Object, Position, Value, Version, Worker, value_text};
+use nim_base::{Instance, NoMemory, Object, Position, Value, Version, Worker, value_text};
 use nim_course::Fetched;
 use std::alloc::Global;
 
@@ -52,6 +52,21 @@ pub(crate) fn on_ran(flights: &mut Vec<InFlight>, from: Worker, position: Positi
     let mut at = 0;
     while at < flights.len() {
         flights[at].on_ran(from, position);
+        if flights[at].is_open() {
+            at += 1;
+        } else {
+            flights.remove(at);
+        }
+    }
+}
+
+/// A worker reports that it is through with an instance; what isn't in flight any more goes.
+pub(crate) fn on_through(flights: &mut Vec<InFlight>, from: Worker, instance: Instance)
+    ensures { flights.new.items ≡ reports.flight_through from instance flights.old.items }
+{
+    let mut at = 0;
+    while at < flights.len() {
+        flights[at].on_through(from, instance);
         if flights[at].is_open() {
             at += 1;
         } else {

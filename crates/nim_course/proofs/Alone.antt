@@ -1,27 +1,26 @@
 -- What orders so far come to, and one command more that stands alone.
-use Rattle.std.proofs.Common.{◌≡◌, ℕ, ◌<◌, Bool, true, false, List, [], ◌∷◌, ◌++◌, length, map, refl, ap, sym, subst, ◌∙◌}
+use Rattle.std.proofs.Common.{◌≡◌, ℕ, ◌<◌, Bool, true, false, List, [], ◌∷◌, ◌++◌, length, map, refl, ap, sym, subst}
 use Rattle.std.specs.Prelude.{◌==◌, if◌then◌else◌, All}
-use Rattle.std.specs.List.{AllByRecursion, flat_map}
 use Rattle.std.proofs.lemmas.Bool.{eqb-true, false≢true}
-use Rattle.std.proofs.lemmas.List.{append-nil}
-use Rattle.std.proofs.lemmas.List.Concat.{flat_map-append}
-use Rattle.std.proofs.lemmas.List.Elements.{All-append, All-cons, All-from_recursion, All-nil, All-weaker}
+use Rattle.std.proofs.lemmas.List.{append-nil, append_assoc}
+use Rattle.std.proofs.lemmas.List.Elements.{All-cons, All-nil, All-weaker}
 use Rattle.nim_base.specs.declared.number.Worker.{Worker}
 use Rattle.nim_command.specs.declared.command.Command.{Command}
-use Rattle.nim_command.specs.declared.command.Kind.{Kind}
-use Rattle.nim_command.specs.declared.command.Kind.TheVariants.{Create, Load, Send, Receive, Copy, Run, Fetch}
 use Rattle.nim_command.specs.Before.{IsByRule}
 use Rattle.nim_command.specs.Covered.{is_covered}
 use Rattle.nim_command.specs.Holds.{holds}
 use Rattle.nim_command.specs.Waits.{placed_commands}
 use Rattle.nim_message.specs.declared.order.ToWorker.{ToWorker}
+use Rattle.nim_message.specs.declared.order.ToWorker.TheVariants.{Single}
 use Rattle.nim_message.specs.Orders.{session_of}
 use Rattle.nim_order.specs.Orders.{IsOrderByRule}
 use Rattle.nim_job.specs.declared.job.Job.{Job}
+use Rattle.nim_job.specs.Objects.{objects_of}
+use Rattle.nim_job.specs.Tasks.{block_forms_of}
 use Rattle.nim_plan.specs.Legal.{AreLegal, IsLegal, IsLegalKind}
 use Rattle.nim_plan.specs.Paired.{ArePaired, Key, keys_received, keys_sent}
 use Rattle.nim_place.specs.declared.placement.Placement.{Placement}
-use Rattle.nim_place.specs.Extends.{AskFor, HaveNone, LongerIsCovered, LongerIsLegal, is_live, live_lists, longer, singles_of}
+use Rattle.nim_place.specs.Extends.{AskFor, HaveNone, LongerIsCovered, LongerIsLegal, is_live, live_lists, longer, single_with, singles_of, worker_of}
 use Rattle.nim_place.specs.Orders.{AreExtended, has_no_key}
 use Rattle.nim_place.specs.Stands.{AreByRule, commands_for, is_aside}
 use Rattle.nim_place.specs.TaskOrders.{AreSoFar}
@@ -29,9 +28,11 @@ use Rattle.nim_place.specs.Versions.{Versions, after_kind}
 use Rattle.nim_place.proofs.Begins.{singles_extend}
 use Rattle.nim_place.proofs.History.{stands_more}
 use Rattle.nim_place.specs.Directed.{Directed, by_number}
+use Rattle.nim_reuse.specs.Decisions.{Decisions}
+use Rattle.nim_reuse.specs.GoesOn.{AreDecided, IsSingle}
 use Rattle.nim_course.specs.Leads.{AreLeading, AreRight}
-use Rattle.nim_place.specs.TaskRuns.{RunsAtHome, position_run}
 use Rattle.nim_course.specs.OrdersGiven.{no_instance, single_for}
+use Rattle.nim_reuse.proofs.Stands.{decisions_stand}
 use Rattle.nim_course.proofs.Lists.{more_alone}
 
 -- the orders so far are right, ask for what the map stands for, and have no key of those to come
@@ -121,57 +122,42 @@ alone_comes job live epoch to_come given commands versions c come may =
       fresh = subst (HaveNone to_come live) (sym same) (longer_paired.others to_come (λ key is. absurd (false≢true is)) come.fresh);
     }
 
--- ---- commands that run nothing
+-- ---- decisions
 
--- a command that runs nothing stands anywhere
-quiet_home : (job : Job) (place : Placement) (live : List Bool) (worker : Worker) (kind : Kind) → position_run kind ≡ []
-    → RunsAtHome job place live worker kind
-quiet_home job place live worker (Run position func params reads writes) none = absurd cc
-quiet_home job place live worker (Create slot iota number) none = tt
-quiet_home job place live worker (Load slot version value) none = tt
-quiet_home job place live worker (Send slot peer entry) none = tt
-quiet_home job place live worker (Receive slot version) none = tt
-quiet_home job place live worker (Copy from to) none = tt
-quiet_home job place live worker (Fetch slot ticket) none = tt
+-- the orders of Singles are Singles
+single_is : (epoch instance : ℕ) (commands : List Command) → All IsSingle (single_with epoch instance commands)
+single_is epoch instance [] = All-nil IsSingle
+single_is epoch instance (c ∷ cs) = All-cons IsSingle (Single epoch instance (c ∷ cs)) [] tt (All-nil IsSingle)
 
--- commands that run nothing
-abbrev pub AreQuiet : List (Worker × Command) → Type 0
-AreQuiet commands = AllByRecursion (λ (c : Worker × Command). position_run c.1.kind ≡ []) commands
+-- decisions stand where Singles are given
+pub decided_more : (job : Job) (place : Placement) (live : List Bool) (epoch instance : ℕ) (given next : List Directed)
+    (commands : List (Worker × Command)) (decisions : Decisions)
+    → by_number next ≡ longer (by_number given) (singles_of epoch instance commands)
+    → AreDecided place live (objects_of job.vars) (block_forms_of job) (by_number given) decisions
+    → AreDecided place live (objects_of job.vars) (block_forms_of job) (by_number next) decisions
+decided_more job place live epoch instance given next commands decisions same decided =
+    subst (λ (lists : ℕ → List ToWorker). AreDecided place live (objects_of job.vars) (block_forms_of job) lists decisions) (sym same)
+    (decisions_stand.singles place live (objects_of job.vars) (block_forms_of job) (by_number given) (singles_of epoch instance commands) decisions decided
+    (λ number. single_is epoch instance (commands_for (worker_of number) commands)))
 
-abbrev pub runs_of : List (Worker × Command) → List ℕ
-runs_of commands = flat_map (λ (one : Worker × Command). position_run one.1.kind) commands
-
-pub quiet_runs : (commands : List (Worker × Command)) → AreQuiet commands → runs_of commands ≡ []
-quiet_runs [] quiet = refl
-quiet_runs (c ∷ cs) quiet = ap (λ (xs : List ℕ). xs ++ runs_of cs) quiet.0 ∙ quiet_runs cs quiet.1
-
-quiet_each : (job : Job) (place : Placement) (live : List Bool) (commands : List (Worker × Command)) → AreQuiet commands
-    → AllByRecursion (λ (one : Worker × Command). RunsAtHome job place live one.0 one.1.kind) commands
-quiet_each job place live [] quiet = tt
-quiet_each job place live (c ∷ cs) quiet = (quiet_home job place live c.0 c.1.kind quiet.0, quiet_each job place live cs quiet.1)
-
-pub quiet_homes : (job : Job) (place : Placement) (live : List Bool) (commands : List (Worker × Command)) → AreQuiet commands
-    → All (λ (one : Worker × Command). RunsAtHome job place live one.0 one.1.kind) commands
-quiet_homes job place live commands quiet =
-    All-from_recursion (λ (one : Worker × Command). RunsAtHome job place live one.0 one.1.kind) commands (quiet_each job place live commands quiet)
-
--- with more of them as many positions are run
-pub quiet_more : (commands more : List (Worker × Command)) (positions : List ℕ) → runs_of commands ≡ positions → AreQuiet more
-    → runs_of (commands ++ more) ≡ positions
-quiet_more commands more positions runs quiet =
-    flat_map-append (λ (one : Worker × Command). position_run one.1.kind) commands more
-    ∙ ap (λ (xs : List ℕ). runs_of commands ++ xs) (quiet_runs more quiet) ∙ append-nil (runs_of commands) ∙ runs
-
-pub homes_more : (job : Job) (place : Placement) (live : List Bool) (commands more : List (Worker × Command))
-    → All (λ (one : Worker × Command). RunsAtHome job place live one.0 one.1.kind) commands → AreQuiet more
-    → All (λ (one : Worker × Command). RunsAtHome job place live one.0 one.1.kind) (commands ++ more)
-homes_more job place live commands more homes quiet =
-    All-append (λ (one : Worker × Command). RunsAtHome job place live one.0 one.1.kind) commands more homes (quiet_homes job place live more quiet)
+-- and where commands are given one by one
+pub decided_alone : (job : Job) (place : Placement) (live : List Bool) (epoch : ℕ) (given : List Directed) (commands : List (Worker × Command))
+    (decisions : Decisions)
+    → AreDecided place live (objects_of job.vars) (block_forms_of job) (by_number given) decisions
+    → AreDecided place live (objects_of job.vars) (block_forms_of job) (by_number (given ++ map (single_for epoch) commands)) decisions
+decided_alone job place live epoch given [] decisions decided =
+    subst (λ (ds : List Directed). AreDecided place live (objects_of job.vars) (block_forms_of job) (by_number ds) decisions) (sym (append-nil given)) decided
+decided_alone job place live epoch given (c ∷ cs) decisions decided =
+    let one : List Directed = given ++ single_for epoch c ∷ [] in
+    subst (λ (ds : List Directed). AreDecided place live (objects_of job.vars) (block_forms_of job) (by_number ds) decisions)
+    (append_assoc given (single_for epoch c ∷ []) (map (single_for epoch) cs))
+    (decided_alone job place live epoch one cs decisions
+    (decided_more job place live epoch no_instance given one (c ∷ []) decisions (more_alone given epoch c) decided))
 
 -- ---- both together
 
 -- the orders so far are right, and lead to a position
 pub record AreLed (job : Job) (place : Placement) (live : List Bool) (epoch position : ℕ) (to_come : Key → Bool) (given : List Directed)
-    (versions : Versions) : Type 0 where
+    (versions : Versions) (decisions : Decisions) : Type 0 where
   pub right : AreRight job live given
-  pub leading : AreLeading job place live epoch position to_come given versions
+  pub leading : AreLeading job place live epoch position to_come given versions decisions

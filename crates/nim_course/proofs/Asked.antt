@@ -1,5 +1,5 @@
 -- The move of a controller that has nothing to do: its driver is asked.
-use Rattle.std.proofs.Common.{◌≡◌, ℕ, ◌≤◌, Bool, true, ℤ, pos, List, [], ◌∷◌, ◌++◌, refl, ap, sym, subst, ◌∙◌, arith, None}
+use Rattle.std.proofs.Common.{◌≡◌, ℕ, ◌≤◌, Bool, true, ℤ, pos, List, [], ◌∷◌, ◌++◌, length, refl, ap, sym, subst, ◌∙◌, arith, None}
 use Rattle.std.specs.Prelude.{All}
 use Rattle.std.specs.List.{list_any}
 use Rattle.std.proofs.lemmas.Bool.{false≢true}
@@ -28,7 +28,8 @@ record IsIdle (c : Controller) (given : List Directed) : Type 0 where
   opened : IsOpenAt c.job c.machine c.position
   empty : c.fetched ≡ []
   some : list_any (λ (flag : Bool). flag) c.live ≡ true
-  led : AreLed c.job c.place c.live c.epoch c.position (is_key_from c.epoch c.instance) given c.versions
+  workers : length c.live ≤ 16
+  led : AreLed c.job c.place c.live c.epoch c.position (is_key_from c.epoch c.instance) given c.versions c.decisions
   few : c.instance ≤ c.machine.driver.count
 
 idle_of : (c : Controller) (given : List Directed) → c.pending ≡ Pending.Idle → GoesOn c given → IsIdle c given
@@ -37,6 +38,7 @@ idle_of c given is on = record {
   opened = subst (StandsFor c.job c) is on.driver;
   empty = on.unfetched (ap does_fetch is);
   some = on.some;
+  workers = on.few;
   led = record { right = on.right; leading = subst (AreLeadingFor c.job c given) is on.leading };
   few = subst (λ (pending : Pending). begun_by c pending ≤ c.machine.driver.count) is on.instances;
 }
@@ -58,6 +60,7 @@ run_leads c given block args none idle is =
       fetched = none_fetched c given idle;
       unfetched = λ fetches. idle.empty;
       some = idle.some;
+      few = idle.workers;
       right = idle.led.right;
       leading = idle.led.leading;
       instances = omega (arith, idle.few, counted.more);
@@ -83,7 +86,9 @@ fetching_leads c given objects pending none idle there driver leading fetches ap
           (λ object below. idle.led.leading.at.latest object (omega (arith, below, idle.led.leading.at.objects))) there;
       unfetched = λ not. absurd (false≢true (sym not ∙ fetches));
       some = idle.some;
-      right = (fetches_lead c.job c.place c.live c.epoch c.position (is_key_from c.epoch c.instance) given c.versions c.ticket objects idle.led there).right;
+      few = idle.workers;
+      right = (fetches_lead c.job c.place c.live c.epoch c.position (is_key_from c.epoch c.instance) given c.versions c.decisions c.ticket objects idle.led
+          there).right;
       leading = leading;
       instances = few;
       all_run = λ ended. absurd (apart ended);
@@ -100,7 +105,8 @@ get_leads c given object row cell none idle is =
       fetched = fetched_objects c.versions (object ∷ []);
       asked = record { before = c.machine; opened = idle.opened; asks = is; after = refl };
     })
-    (fetches_lead c.job c.place c.live c.epoch c.position (is_key_from c.epoch c.instance) given c.versions c.ticket (object ∷ []) idle.led there).leading
+    (fetches_lead c.job c.place c.live c.epoch c.position (is_key_from c.epoch c.instance) given c.versions c.decisions c.ticket (object ∷ []) idle.led
+    there).leading
     refl (λ ended. cc) (omega (arith, idle.few, asking_counts c.machine))
 
 output_leads : (c : Controller) (given : List Directed) (var : ℕ) → c.outcome ≡ None → IsIdle c given → ask_of c.machine ≡ Ask.Output var
@@ -112,7 +118,7 @@ output_leads c given var none idle is =
       fetched = fetched_objects c.versions (objects_in c var);
       asked = record { before = c.machine; opened = idle.opened; asks = is; after = refl };
     })
-    (fetches_lead c.job c.place c.live c.epoch c.position (is_key_from c.epoch c.instance) given c.versions c.ticket (objects_in c var) idle.led
+    (fetches_lead c.job c.place c.live c.epoch c.position (is_key_from c.epoch c.instance) given c.versions c.decisions c.ticket (objects_in c var) idle.led
     there).leading
     refl (λ ended. cc) (omega (arith, idle.few, asking_counts c.machine))
 
@@ -132,6 +138,7 @@ checkpoint_leads c given none pending idle is =
       fetched = none_fetched c given idle;
       unfetched = λ fetches. idle.empty;
       some = idle.some;
+      few = idle.workers;
       right = idle.led.right;
       leading = subst (AreLeadingFor c.job next given) (sym pending) idle.led.leading;
       instances = subst (λ (p : Pending). begun_by next p ≤ (after_ask c.machine).driver.count) (sym pending)
@@ -148,6 +155,7 @@ finished_leads c given none idle is =
       fetched = none_fetched c given idle;
       unfetched = λ fetches. idle.empty;
       some = idle.some;
+      few = idle.workers;
       right = idle.led.right;
       leading = idle.led.leading;
       instances = omega (arith, idle.few, asking_counts c.machine);
@@ -164,6 +172,7 @@ limit_leads c given pending idle is =
       ends = ends_limit c.job c.machine c.position idle.whole idle.opened is;
       fetched = none_fetched c given idle;
       unfetched = λ fetches. idle.empty;
+      few = idle.workers;
       right = idle.led.right;
       leading = subst (AreLeadingFor c.job next given) (sym pending) idle.led.leading;
       instances = subst (λ (p : Pending). begun_by next p ≤ (after_ask c.machine).driver.count) (sym pending)

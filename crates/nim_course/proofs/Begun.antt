@@ -19,6 +19,7 @@ begun_leads c given none is on =
       fetched = on.fetched;
       unfetched = λ fetches. on.unfetched (ap does_fetch is);
       some = on.some;
+      few = on.few;
       right = led.right;
       leading = led.leading;
       instances = subst (λ (pending : Pending). begun_by c pending ≤ c.machine.driver.count) is on.instances;

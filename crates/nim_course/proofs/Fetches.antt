@@ -1,5 +1,5 @@
 -- Orders that fetch lead on: where their objects are there, the workers hold what is fetched.
-use Rattle.std.proofs.Common.{◌≡◌, ℕ, ◌<◌, Bool, true, List, [], ◌∷◌, ◌++◌, map, refl, sym, subst, ◌∙◌, arith, Option, None, Some}
+use Rattle.std.proofs.Common.{◌≡◌, ℕ, ◌-◌, ◌<◌, Bool, true, List, [], ◌∷◌, ◌++◌, map, refl, sym, subst, ◌∙◌, arith, Option, None, Some}
 use Rattle.std.specs.List.{AllByRecursion}
 use Rattle.std.specs.Option.{is_some, option_map_or}
 use Rattle.std.proofs.lemmas.List.{append-nil, append_assoc}
@@ -17,8 +17,10 @@ use Rattle.nim_place.specs.Versions.{Versions, holder, latest_of}
 use Rattle.nim_place.proofs.Held.{holder_lives, slot_held}
 use Rattle.nim_place.proofs.Moves.{holder_facts}
 use Rattle.nim_place.specs.Directed.{Directed, by_number}
+use Rattle.nim_reuse.specs.Decisions.{Decisions}
 use Rattle.nim_course.specs.OrdersGiven.{counted_on, fetch_at, fetch_commands, single_for}
-use Rattle.nim_course.proofs.Alone.{AreLed, AreQuiet, ComeTo, MayBeAlone, alone_comes, homes_more, quiet_more}
+use Rattle.nim_course.proofs.Alone.{AreLed, ComeTo, MayBeAlone, alone_comes, decided_alone}
+use Rattle.nim_course.proofs.Runs.{AreQuiet, homes_more, once_quiet}
 
 -- what is there
 pub some_there : {X : Type 0} (o : Option X) → is_some o ≡ true → (x : X) × (o ≡ Some x)
@@ -91,10 +93,10 @@ are_held job versions [] holders there = tt
 are_held job versions (object ∷ objects) holders there = (holders object there.0, are_held job versions objects holders there.1)
 
 pub fetches_lead : (job : Job) (place : Placement) (live : List Bool) (epoch position : ℕ) (to_come : Key → Bool) (given : List Directed)
-    (versions : Versions) (ticket : ℕ) (objects : List Object)
-    → AreLed job place live epoch position to_come given versions → AreThere job objects
-    → AreLed job place live epoch position to_come (given ++ map (single_for epoch) (fetch_commands versions ticket objects)) versions
-fetches_lead job place live epoch position to_come given versions ticket objects led there =
+    (versions : Versions) (decisions : Decisions) (ticket : ℕ) (objects : List Object)
+    → AreLed job place live epoch position to_come given versions decisions → AreThere job objects
+    → AreLed job place live epoch position to_come (given ++ map (single_for epoch) (fetch_commands versions ticket objects)) versions decisions
+fetches_lead job place live epoch position to_come given versions decisions ticket objects led there =
     let leading = led.leading in
     let more : List (Worker × Command) = fetch_commands versions ticket objects in
     let quiet = fetches_quiet versions ticket objects in
@@ -106,13 +108,14 @@ fetches_lead job place live epoch position to_come given versions ticket objects
       leading = record {
         commands = leading.commands ++ more;
         so_far = come.so_far;
-        workers = leading.workers;
+        before = leading.before;
         at = leading.at;
+        decided = decided_alone job place live epoch given more decisions leading.decided;
         fresh = come.fresh;
         from = leading.from;
         first = leading.first;
         since = leading.since;
-        runs = quiet_more leading.commands more _ leading.runs quiet;
+        runs = once_quiet leading.from (position - leading.from) leading.commands more leading.runs quiet;
         homes = homes_more job place live leading.commands more leading.homes quiet;
       };
     }

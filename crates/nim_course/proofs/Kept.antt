@@ -46,7 +46,8 @@ with_outcome c fetched flight due outcome = record c { fetched = fetched; flight
 pub leading_still : (job : Job) (c : Controller) (fetched : List Fetched) (flight : List Flight) (due : Bool) (outcome : Option Outcome)
     (given : List Directed) (pending : Pending)
     → AreLeadingFor job c given pending → AreLeadingFor job (with_outcome c fetched flight due outcome) given pending
-leading_still job c fetched flight due outcome given Begin leading = record { versions = leading.versions; position = leading.position }
+leading_still job c fetched flight due outcome given Begin leading =
+    record { versions = leading.versions; position = leading.position; decisions = leading.decisions }
 leading_still job c fetched flight due outcome given Idle leading = leading
 leading_still job c fetched flight due outcome given (Block block args) leading = leading
 leading_still job c fetched flight due outcome given (Cell row cell) leading = leading
@@ -75,6 +76,7 @@ told_leads job c given fetched flight due same all empty leads =
       fetched = all;
       unfetched = λ fetches. empty (leads.unfetched fetches);
       some = leads.some;
+      few = leads.few;
       right = leads.right;
       leading = leading_still job c fetched flight due c.outcome given c.pending leads.leading;
       instances = subst (λ (n : ℕ). n ≤ c.machine.driver.count) (sym (begun_still c next c.pending refl)) leads.instances;

@@ -4,13 +4,17 @@ pub mod Asking
 pub mod Begins
 pub mod Begun
 pub mod Blocks
+pub mod Counts
 pub mod Fetches
+pub mod Firsts
 pub mod Homes
 pub mod Instances
 pub mod Kept
 pub mod Lists
 pub mod Printed
 pub mod Reports
+pub mod Reused
+pub mod Runs
 pub mod Standing
 pub mod Starts
 pub mod Tasks

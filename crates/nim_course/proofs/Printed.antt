@@ -1,5 +1,5 @@
 -- A controller prints nothing but texts of values that were reported to it.
-use Rattle.std.proofs.Common.{◌≡◌, ℕ, ◌+◌, ◌-◌, zero, suc, true, false, List, [], ◌∷◌, ◌++◌, length, map, refl, ap, ap₂, sym, subst, ◌∙◌, inl, inr, Option, None, Some}
+use Rattle.std.proofs.Common.{◌≡◌, ℕ, ◌+◌, ◌-◌, zero, suc, Bool, true, false, List, [], ◌∷◌, ◌++◌, length, map, refl, ap, ap₂, sym, subst, ◌∙◌, inl, inr, Option, None, Some}
 use Rattle.std.specs.Prelude.{◌==◌, nat_le, if◌then◌else◌, slice_get, slice_set, IfSome}
 use Rattle.std.specs.List.{AllByRecursion, flat_map, list_any}
 use Rattle.std.specs.Option.{is_none, option_map_or}
@@ -20,15 +20,16 @@ use Rattle.nim_job.specs.Quiet.{is_quiet, quiet_step}
 use Rattle.nim_job.specs.Step.{texts_of}
 use Rattle.nim_place.specs.Extends.{is_live}
 use Rattle.nim_place.specs.Versions.{Versions}
+use Rattle.nim_reuse.specs.Decisions.{is_recorded}
 use Rattle.nim_course.specs.declared.fetched.Fetched.{Fetched}
 use Rattle.nim_course.specs.declared.pending.Pending.{Pending}
 use Rattle.nim_course.specs.declared.pending.Pending.TheVariants.{Begin, Idle, Block, Cell, Parts, Ended}
 use Rattle.nim_course.specs.Controller.{Controller, new_controller}
 use Rattle.nim_place.specs.Directed.{Directed}
-use Rattle.nim_course.specs.Moves.{AreFree, IsTurned, after_moves, asked, does_wait, done_with, is_open, objects_in, value_in}
+use Rattle.nim_course.specs.Moves.{AreFree, IsTurned, after_moves, asked, does_wait, done_with, is_open, objects_in, value_in, with_block}
 use Rattle.nim_course.specs.OrdersGiven.{fetched_of}
 use Rattle.nim_course.specs.Printed.{Happened, IsAmong, IsOfValues, LeadsTo, Part, PrintsWhatIsTold, Reported, Turned, part_text, value_of, values_by}
-use Rattle.nim_course.specs.Reports.{after_report, flight_after, is_asked, reported, told, told_at}
+use Rattle.nim_course.specs.Reports.{after_report, flight_after, flight_through, is_asked, reported, told, told_at}
 use Rattle.nim_course.proofs.Standing.{held_parts}
 
 -- ---- values among others
@@ -171,7 +172,10 @@ appended_prints values m text before after =
 move_tells : (values : List Grid) (c : Controller) (pending : Pending) → does_wait c pending ≡ false → Tells values c → Tells values (done_with c pending)
 move_tells values c Begin free tells = record { printed = tells.printed; fetched = tells.fetched }
 move_tells values c Idle free tells = asked_tells values c (ask_of c.machine) tells
-move_tells values c (Block block args) free tells = record { printed = tells.printed; fetched = tells.fetched }
+move_tells values c (Block block args) free tells = either (is_recorded c.decisions block) where
+  either : (b : Bool) → Tells values (with_block b c block args)
+  either false = record { printed = tells.printed; fetched = tells.fetched }
+  either true = record { printed = tells.printed; fetched = tells.fetched }
 move_tells values c (Cell row cell) free tells = record { printed = tells.printed; fetched = tt }
 move_tells values c (Parts var) free tells =
     let name : List ℕ = option_map_or (λ v. v.name) (slice_get c.job.vars var) [] in
@@ -236,7 +240,10 @@ live_tells values c from (Ran epoch position reads) tells =
     (λ now. record { printed = more.printed; fetched = more.fetched }) (λ other. more)
 live_tells values c from NoMemory tells =
     let more : Tells (values ++ []) c = tells_more values [] c tells in record { printed = more.printed; fetched = more.fetched }
-live_tells values c from (Through epoch instance) tells = tells_more values [] c tells
+live_tells values c from (Through epoch instance) tells =
+    let more : Tells (values ++ []) c = tells_more values [] c tells in
+    cond_both (epoch == c.epoch) (record c { flight = flight_through from instance c.flight }) c (Tells (values ++ []))
+    (λ now. record { printed = more.printed; fetched = more.fetched }) (λ other. more)
 live_tells values c from (PeerDown peer) tells = tells_more values [] c tells
 
 report_tells : (values : List Grid) (c : Controller) (from : Worker) (report : FromWorker) → Tells values c

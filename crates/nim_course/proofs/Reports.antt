@@ -21,7 +21,7 @@ use Rattle.nim_course.specs.Controller.{Controller}
 use Rattle.nim_place.specs.Directed.{Directed}
 use Rattle.nim_course.specs.Leads.{IsFetchedAt, Leads}
 use Rattle.nim_course.specs.Moves.{is_open}
-use Rattle.nim_course.specs.Reports.{after_report, flight_after, is_asked, reported, told, told_at}
+use Rattle.nim_course.specs.Reports.{after_report, flight_after, flight_through, is_asked, reported, told, told_at}
 use Rattle.nim_course.proofs.Kept.{begun_still, due_leads, leading_still, told_leads}
 use Rattle.nim_course.proofs.Standing.{over_leads}
 
@@ -103,6 +103,7 @@ memory_leads c given leads =
       ends = tt;
       fetched = leads.fetched;
       unfetched = leads.unfetched;
+      few = leads.few;
       right = leads.right;
       leading = leading_still c.job c c.fetched c.flight c.due (Some Outcome.NoMemory) given c.pending leads.leading;
       instances = subst (λ (n : ℕ). n ≤ c.machine.driver.count) (sym (begun_still c next c.pending refl)) leads.instances;
@@ -123,7 +124,9 @@ live_leads job c given from (Ran epoch position reads) leads good =
 live_leads job c given from NoMemory leads good =
     subst (λ (j : Job). Leads j (record c { outcome = Some Outcome.NoMemory }) given) leads.is_job
     (memory_leads c given (subst (λ (j : Job). Leads j c given) (sym leads.is_job) leads))
-live_leads job c given from (Through epoch instance) leads good = leads
+live_leads job c given from (Through epoch instance) leads good =
+    cond_both (epoch == c.epoch) (record c { flight = flight_through from instance c.flight }) c (λ (next : Controller). Leads job next given)
+    (λ now. told_leads job c given c.fetched (flight_through from instance c.flight) c.due refl leads.fetched (λ empty. empty) leads) (λ other. leads)
 live_leads job c given from (PeerDown peer) leads good = leads
 
 pub report_leads : (job : Job) (c : Controller) (given : List Directed) (from : Worker) (report : FromWorker) → Leads job c given → IsGood job report

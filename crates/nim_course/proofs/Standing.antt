@@ -19,6 +19,7 @@ pub record GoesOn (c : Controller) (given : List Directed) : Type 0 where
   pub fetched : All (IsFetchedAt c.job c.position) c.fetched
   pub unfetched : does_fetch c.pending ≡ false → c.fetched ≡ []
   pub some : list_any (λ (flag : Bool). flag) c.live ≡ true
+  pub few : length c.live ≤ 16
   pub right : AreRight c.job c.live given
   pub leading : AreLeadingFor c.job c given c.pending
   pub instances : begun_by c c.pending ≤ c.machine.driver.count
@@ -39,6 +40,7 @@ goes_leads c given none on = record {
   fetched = on.fetched;
   unfetched = on.unfetched;
   some = λ still. on.some;
+  few = on.few;
   right = on.right;
   leading = on.leading;
   instances = on.instances;
@@ -53,6 +55,7 @@ leads_goes c given none leads = record {
   fetched = leads.fetched;
   unfetched = leads.unfetched;
   some = leads.some none;
+  few = leads.few;
   right = leads.right;
   leading = leads.leading;
   instances = leads.instances;
@@ -71,6 +74,7 @@ pub record IsOver (c : Controller) (given : List Directed) (outcome : Outcome) :
   pub ends : EndsBy c.job c outcome
   pub fetched : All (IsFetchedAt c.job c.position) c.fetched
   pub unfetched : does_fetch c.pending ≡ false → c.fetched ≡ []
+  pub few : length c.live ≤ 16
   pub right : AreRight c.job c.live given
   pub leading : AreLeadingFor c.job c given c.pending
   pub instances : begun_by c c.pending ≤ c.machine.driver.count
@@ -88,6 +92,7 @@ over_leads c given outcome over =
       fetched = over.fetched;
       unfetched = over.unfetched;
       some = λ still. absurd (going still);
+      few = over.few;
       right = over.right;
       leading = over.leading;
       instances = over.instances;

@@ -60,22 +60,25 @@ some_live : (workers : ℕ) → 1 ≤ workers → list_any (λ (flag : Bool). fl
 some_live zero least = absurd (omega (arith, least))
 some_live (suc workers) least = refl
 
-new_leads : (job : Job) (setup : Setup) → is_whole job ≡ true → 1 ≤ setup.workers → Leads job (new_controller job setup) []
-new_leads job setup whole least =
+new_leads : (job : Job) (setup : Setup) → is_whole job ≡ true → 1 ≤ setup.workers → setup.workers ≤ 16
+    → Leads job (new_controller job setup) []
+new_leads job setup whole least most =
     goes_leads (new_controller job setup) [] refl (record {
       whole = whole;
       driver = begins_open job (start_machine job) 0 refl refl;
       fetched = All-nil (IsFetchedAt job 0);
       unfetched = λ fetches. refl;
       some = some_live setup.workers least;
+      few = omega (arith, most, length-replicate setup.workers true);
       right = nothing_right job (replicate setup.workers true);
       leading = record {
         versions = ap (λ (n : ℕ). no_versions n (objects_of job.vars)) (sym (length-replicate setup.workers true));
         position = refl;
+        decisions = refl;
       };
       instances = omega arith;
       all_run = λ ended. absurd cc;
     })
 
 pub start_leads : (job : Job) (setup : Setup) → is_whole job ≡ true → 1 ≤ setup.workers → setup.workers ≤ 16 → Leads job (new_controller job setup) []
-start_leads job setup whole least most = new_leads job setup whole least
+start_leads job setup whole least most = new_leads job setup whole least most

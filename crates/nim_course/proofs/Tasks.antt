@@ -1,19 +1,15 @@
 -- The orders of a block's tasks lead on.
-use Rattle.std.proofs.Common.{◌≡◌, ℕ, ◌+◌, ◌-◌, ◌<◌, ◌≤◌, suc, zero, Bool, true, false, List, [], ◌∷◌, ◌++◌, length, refl, ap, ap₂, sym, subst, ◌∙◌, arith, Option, None, Some}
+use Rattle.std.proofs.Common.{◌≡◌, ℕ, ◌+◌, ◌<◌, ◌≤◌, suc, Bool, true, false, List, [], ◌∷◌, ◌++◌, length, refl, ap, sym, subst, ◌∙◌, arith, Option, None, Some}
 use Rattle.std.specs.Prelude.{◌==◌, ◌&&◌, ◌||◌, nat_le, nat_lt, slice_get, IfSome}
-use Rattle.std.specs.List.{list_all, list_any, range_with_len}
+use Rattle.std.specs.List.{list_all, list_any}
 use Rattle.std.proofs.Math.ListN.{get_or-eq_default}
 use Rattle.std.proofs.lemmas.Bool.{and_parts}
 use Rattle.std.proofs.lemmas.Bool.Decides.{nat_tests}
 use Rattle.std.proofs.lemmas.List.{append-nil, append_assoc}
-use Rattle.std.proofs.lemmas.List.Concat.{flat_map-append}
 use Rattle.std.proofs.lemmas.List.Elements.{All-append, All-cons, All-nil}
 use Rattle.nim_base.specs.declared.number.Object.{Object}
 use Rattle.nim_base.specs.declared.number.Worker.{Worker}
-use Rattle.nim_base.specs.declared.task.Func.{Func}
-use Rattle.nim_base.specs.declared.task.Func.TheVariants.{Set, Split}
 use Rattle.nim_base.specs.declared.task.Task.{Task}
-use Rattle.nim_base.specs.Apply.{has_counts, most_reads, writes_of}
 use Rattle.nim_command.specs.declared.command.Command.{Command}
 use Rattle.nim_command.specs.Numbers.{counted_from, task_of}
 use Rattle.nim_message.specs.declared.order.ToWorker.{ToWorker}
@@ -26,40 +22,28 @@ use Rattle.nim_place.specs.declared.placement.Placement.{Placement}
 use Rattle.nim_place.specs.Extends.{AskFor, HaveNone, LongerIsPaired, is_live, longer, single_with, singles_of, worker_of}
 use Rattle.nim_place.specs.Schedule.{copies_of, moved_first, moves, owner_of, run_of, scheduled, source_of}
 use Rattle.nim_place.specs.Stands.{commands_for}
-use Rattle.nim_place.specs.TaskOrders.{IsRunAt, IsTaskAt, is_key_of}
+use Rattle.nim_place.specs.TaskOrders.{IsTaskAt, is_key_of}
 use Rattle.nim_place.specs.Versions.{Versions, after_commands}
 use Rattle.nim_place.proofs.ByTask.{schedule_ruled}
 use Rattle.nim_place.proofs.Given.{schedule_stands}
-use Rattle.nim_place.proofs.GoesOn.{position_few, schedule_goes_on, schedule_runs}
+use Rattle.nim_place.proofs.GoesOn.{position_few, schedule_goes_on}
 use Rattle.nim_place.proofs.Held.{for_append}
 use Rattle.nim_place.proofs.Legal.{schedule_legal}
 use Rattle.nim_place.proofs.Singles.{schedule_asks, singles_covered}
 use Rattle.nim_place.proofs.TaskPairs.{schedule_paired}
+use Rattle.nim_template.proofs.StaysBefore.{maps_stay_before}
+use Rattle.nim_reuse.specs.Decisions.{Decisions}
 use Rattle.nim_course.specs.Controller.{Controller}
 use Rattle.nim_place.specs.Directed.{Directed, by_number, directed}
 use Rattle.nim_course.specs.Leads.{AreLeading, is_key_from}
-use Rattle.nim_place.specs.TaskRuns.{RunsAtHome, position_run}
+use Rattle.nim_place.specs.TaskRuns.{RunsAtHome}
 use Rattle.nim_course.specs.OrdersGiven.{after_instance, instance_orders}
-use Rattle.nim_course.proofs.Alone.{AreLed, AreQuiet, none_weaker, quiet_homes, quiet_runs, right_more}
+use Rattle.nim_course.proofs.Alone.{AreLed, decided_more, none_weaker, right_more}
 use Rattle.nim_course.proofs.Asking.{AreNext}
+use Rattle.nim_course.proofs.Counts.{counts_of, reads_few, task_counts, writes_some}
 use Rattle.nim_course.proofs.Homes.{live_below, owner_live}
+use Rattle.nim_course.proofs.Runs.{AreQuiet, once_before, once_more, quiet_homes, run_once}
 use Rattle.nim_place.proofs.Directed.{more_directed}
-
--- ---- what a task reads and writes
-
-reads_few : (func : Func) → most_reads func ≤ 8
-reads_few Set = omega arith
-reads_few func = omega arith
-
-writes_some : (func : Func) → 1 ≤ writes_of func
-writes_some Split = omega arith
-writes_some func = omega arith
-
-counts_of : (func : Func) (params reads writes : ℕ) → has_counts func params reads writes ≡ true → (reads ≤ most_reads func) × (writes ≡ writes_of func)
-counts_of func params reads writes is = grind (arith, nat_tests)
-
-task_counts : (n : ℕ) (task : Task) → is_task n task ≡ true → has_counts task.func (length task.params) (length task.reads) (length task.writes) ≡ true
-task_counts n task is = grind (arith, nat_tests)
 
 -- ---- keys that are still to come
 
@@ -112,19 +96,6 @@ past_none live epoch instance lists commands more ask number past =
     (behind_none (commands_for (worker_of number) commands) (commands_for (worker_of number) more)
     (sym (for_append (worker_of number) commands more) ∙ ask.none (worker_of number) (get_or-eq_default live false past)))
 
-range_push : (a n : ℕ) → range_with_len a (suc n) ≡ range_with_len a n ++ (a + n) ∷ []
-range_push a zero = let same : a ≡ a + 0 = omega arith in ap (λ (x : ℕ). x ∷ []) same
-range_push a (suc n) =
-    let same : a + 1 + n ≡ a + suc n = omega arith in
-    ap (λ (xs : List ℕ). a ∷ xs) (range_push (a + 1) n ∙ ap (λ (x : ℕ). range_with_len (a + 1) n ++ x ∷ []) same)
-
--- one position more
-range_on : (from position : ℕ) → from ≤ position → range_with_len from (position - from) ++ position ∷ [] ≡ range_with_len from (position + 1 - from)
-range_on from position since =
-    let last : position ≡ from + (position - from) = omega (arith, since) in
-    let next : suc (position - from) ≡ position + 1 - from = omega (arith, since) in
-    ap (λ (n : ℕ). range_with_len from (position - from) ++ n ∷ []) last ∙ sym (range_push from (position - from)) ∙ ap (range_with_len from) next
-
 copies_quiet : (versions : Versions) (number : ℕ) (owner : Worker) (past reads : List Object)
     → AreQuiet (copies_of versions number owner (moves versions owner past reads))
 copies_quiet versions number owner past [] = tt
@@ -136,20 +107,20 @@ copies_quiet versions number owner past (next ∷ reads) =
       either rest (Some from) = (refl, (refl, rest))
 
 pub task_leads : (job : Job) (place : Placement) (live : List Bool) (epoch instance number position : ℕ) (given : List Directed) (versions : Versions)
-    (task : Task)
+    (decisions : Decisions) (task : Task)
     → list_any (λ (flag : Bool). flag) live ≡ true → is_task (objects_of job.vars) task ≡ true → IsTaskAt job position task → number < 65536
-    → AreLed job place live epoch position (is_to_come epoch instance number) given versions
+    → AreLed job place live epoch position (is_to_come epoch instance number) given versions decisions
     → AreLed job place live epoch (position + 1) (is_to_come epoch instance (number + 1))
     (given ++ directed (length live) (singles_of epoch instance (scheduled versions task number position place live)))
-    (after_commands versions (scheduled versions task number position place live))
-task_leads job place live epoch instance number position given versions task some fits next small led =
-    let leading : AreLeading job place live epoch position (is_to_come epoch instance number) given versions = led.leading in
+    (after_commands versions (scheduled versions task number position place live)) decisions
+task_leads job place live epoch instance number position given versions decisions task some fits next small led =
+    let leading : AreLeading job place live epoch position (is_to_come epoch instance number) given versions decisions = led.leading in
     let past : List (Worker × Command) = leading.commands in
     let counts = counts_of task.func (length task.params) (length task.reads) (length task.writes) (task_counts (objects_of job.vars) task fits) in
     let owner : Worker = owner_of place task versions.objects live in
     let owns : is_live live owner ≡ true =
     owner_live place task versions.objects live some (omega (arith, counts.1, writes_some task.func)) in
-    let below : owner.0 < versions.workers = omega (arith, live_below live owner owns, leading.workers) in
+    let below : owner.0 < versions.workers = omega (arith, live_below live owner owns, leading.before.rows) in
     let moved = moves versions owner [] task.reads in
     let copies : List (Worker × Command) = copies_of versions number owner moved in
     let run : Worker × Command = (owner, run_of task number position moved) in
@@ -164,9 +135,6 @@ task_leads job place live epoch instance number position given versions task som
     let paired : LongerIsPaired (is_key_of epoch instance number) live (by_number given) more =
     schedule_paired versions live owner task number position commands small refl epoch instance (by_number given) past leading.so_far
     (omega (arith, counts.0, reads_few task.func)) in
-    let ran : IsRunAt versions after owner task position =
-    schedule_runs versions after owner task number position commands below refl refl past leading.so_far.stands
-    (omega (arith, position_few job position task next.whole next.there)) in
     let Home : Worker × Command → Type 0 = λ one. RunsAtHome job place live one.0 one.1.kind in
     let at_home : Home run =
     subst (λ (o : Option Task). IfSome o (λ (t : Task). owner ≡ owner_of place t (objects_of job.vars) live)) (sym next.there)
@@ -186,8 +154,11 @@ task_leads job place live epoch instance number position given versions task som
           stands = schedule_stands versions after owner task number position commands below refl refl past leading.so_far.stands;
           ask = subst (λ (lists : ℕ → List ToWorker). AskFor live epoch lists (past ++ commands)) (sym same) ask;
         };
-        workers = ran.workers ∙ leading.workers;
+        before =
+            maps_stay_before.task (length live) (objects_of job.vars) position number versions task place live leading.before refl some
+            (omega (arith, position_few job position task next.whole next.there));
         at = schedule_goes_on versions after owner task number position commands below refl refl job past leading.so_far.stands leading.at next;
+        decided = decided_more job place live epoch instance given orders commands decisions same leading.decided;
         fresh = subst (HaveNone (is_to_come epoch instance (number + 1)) live) (sym same)
             (paired.others (is_to_come epoch instance (number + 1))
             (λ key is. not_later epoch instance number key.epoch key.instance (task_of key.entry) is)
@@ -196,12 +167,8 @@ task_leads job place live epoch instance number position given versions task som
         from = leading.from;
         first = leading.first;
         since = omega (arith, leading.since);
-        runs =
-            flat_map-append (λ (one : Worker × Command). position_run one.1.kind) past commands
-            ∙ ap₂ (λ (xs ys : List ℕ). xs ++ ys) leading.runs
-            (flat_map-append (λ (one : Worker × Command). position_run one.1.kind) copies (run ∷ [])
-            ∙ ap (λ (xs : List ℕ). xs ++ position ∷ []) (quiet_runs copies quiet))
-            ∙ range_on leading.from position leading.since;
+        runs = once_more leading.from position 1 (position + 1) past commands leading.since refl leading.runs
+            (once_before position 1 copies (run ∷ []) (run_once position run refl) quiet);
         homes = All-append Home past commands leading.homes
             (All-append Home copies (run ∷ []) (quiet_homes job place live copies quiet) (All-cons Home run [] at_home (All-nil Home)));
       };
@@ -241,14 +208,15 @@ rest_ready job position number task tasks ready =
 
 pub tasks_lead : (c : Controller) (number : ℕ) (given : List Directed) (versions : Versions) (tasks : List Task)
     → list_any (λ (flag : Bool). flag) c.live ≡ true → AreReady c.job c.position number tasks
-    → AreLed c.job c.place c.live c.epoch (c.position + number) (is_to_come c.epoch c.instance number) given versions
+    → AreLed c.job c.place c.live c.epoch (c.position + number) (is_to_come c.epoch c.instance number) given versions c.decisions
     → AreLed c.job c.place c.live c.epoch (c.position + (number + length tasks)) (is_to_come c.epoch c.instance (number + length tasks))
-    (given ++ instance_orders c number versions tasks) (after_instance c number versions tasks)
+    (given ++ instance_orders c number versions tasks) (after_instance c number versions tasks) c.decisions
 tasks_lead c number given versions [] some ready led =
     let same : number ≡ number + 0 = omega arith in
-    subst (λ (ds : List Directed). AreLed c.job c.place c.live c.epoch (c.position + (number + 0)) (is_to_come c.epoch c.instance (number + 0)) ds versions)
+    subst (λ (ds : List Directed). AreLed c.job c.place c.live c.epoch (c.position + (number + 0)) (is_to_come c.epoch c.instance (number + 0)) ds versions
+    c.decisions)
     (sym (append-nil given))
-    (subst (λ (n : ℕ). AreLed c.job c.place c.live c.epoch (c.position + n) (is_to_come c.epoch c.instance n) given versions) same led)
+    (subst (λ (n : ℕ). AreLed c.job c.place c.live c.epoch (c.position + n) (is_to_come c.epoch c.instance n) given versions c.decisions) same led)
 tasks_lead c number given versions (task ∷ tasks) some ready led =
     let at : ℕ = c.position + number in
     let there = first_task c.job c.position number task tasks ready in
@@ -259,17 +227,17 @@ tasks_lead c number given versions (task ∷ tasks) some ready led =
     let orders : List Directed = directed (length c.live) (singles_of c.epoch c.instance commands) in
     let fits = (and_parts (is_task (objects_of c.job.vars) task) (list_all (is_task (objects_of c.job.vars)) tasks) ready.fit).0 in
     let one : AreLed c.job c.place c.live c.epoch (at + 1) (is_to_come c.epoch c.instance (number + 1)) (given ++ orders)
-    (after_commands versions commands) =
+    (after_commands versions commands) c.decisions =
     subst (λ (p : ℕ). AreLed c.job c.place c.live c.epoch (at + 1) (is_to_come c.epoch c.instance (number + 1))
     (given ++ directed (length c.live) (singles_of c.epoch c.instance (scheduled versions task number p c.place c.live)))
-    (after_commands versions (scheduled versions task number p c.place c.live))) exact
-    (task_leads c.job c.place c.live c.epoch c.instance number at given versions task some fits there (omega (arith, ready.few)) led) in
+    (after_commands versions (scheduled versions task number p c.place c.live)) c.decisions) exact
+    (task_leads c.job c.place c.live c.epoch c.instance number at given versions c.decisions task some fits there (omega (arith, ready.few)) led) in
     let rest = tasks_lead c (number + 1) (given ++ orders) (after_commands versions commands) tasks some
     (rest_ready c.job c.position number task tasks ready)
     (subst (λ (p : ℕ). AreLed c.job c.place c.live c.epoch p (is_to_come c.epoch c.instance (number + 1)) (given ++ orders)
-    (after_commands versions commands)) on one) in
+    (after_commands versions commands) c.decisions) on one) in
     let others : List Directed = instance_orders c (number + 1) (after_commands versions commands) tasks in
     let last : Versions = after_instance c (number + 1) (after_commands versions commands) tasks in
-    subst (λ (n : ℕ). AreLed c.job c.place c.live c.epoch (c.position + n) (is_to_come c.epoch c.instance n) (given ++ (orders ++ others)) last) end
+    subst (λ (n : ℕ). AreLed c.job c.place c.live c.epoch (c.position + n) (is_to_come c.epoch c.instance n) (given ++ (orders ++ others)) last c.decisions) end
     (subst (λ (ds : List Directed). AreLed c.job c.place c.live c.epoch (c.position + (number + 1 + length tasks))
-    (is_to_come c.epoch c.instance (number + 1 + length tasks)) ds last) (append_assoc given orders others) rest)
+    (is_to_come c.epoch c.instance (number + 1 + length tasks)) ds last c.decisions) (append_assoc given orders others) rest)

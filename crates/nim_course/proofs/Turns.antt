@@ -1,17 +1,19 @@
 -- A controller leads its job after a move, and so after a turn.
-use Rattle.std.proofs.Common.{◌≡◌, ℕ, zero, suc, false, List, [], ◌++◌, refl, sym, subst, None}
+use Rattle.std.proofs.Common.{◌≡◌, ℕ, zero, suc, Bool, true, false, ℤ, List, [], ◌++◌, refl, sym, subst, None}
 use Rattle.std.proofs.lemmas.List.{append-nil, append_assoc}
 use Rattle.nim_job.specs.declared.job.Job.{Job}
+use Rattle.nim_reuse.specs.Decisions.{is_recorded}
 use Rattle.nim_course.specs.declared.pending.Pending.{Pending}
 use Rattle.nim_course.specs.declared.pending.Pending.TheVariants.{Begin, Idle, Block, Cell, Parts, Ended}
 use Rattle.nim_course.specs.Controller.{Controller}
 use Rattle.nim_place.specs.Directed.{Directed}
 use Rattle.nim_course.specs.Leads.{Leads}
-use Rattle.nim_course.specs.Moves.{AreFree, IsTurned, after_moves, does_wait, done_with, is_held_up, moved, orders_in, orders_of, orders_with}
+use Rattle.nim_course.specs.Moves.{AreFree, IsTurned, after_moves, does_wait, done_with, is_held_up, moved, orders_in, orders_of, orders_of_block, orders_with, with_block}
 use Rattle.nim_course.proofs.Asked.{asked_leads}
 use Rattle.nim_course.proofs.Begun.{begun_leads}
 use Rattle.nim_course.proofs.Instances.{instance_leads}
 use Rattle.nim_course.proofs.Kept.{due_leads}
+use Rattle.nim_course.proofs.Reused.{reused_leads}
 use Rattle.nim_course.proofs.Standing.{GoesOn, held_parts, leads_goes}
 use Rattle.nim_course.proofs.Values.{cell_leads, ended_leads, parts_lead}
 
@@ -20,11 +22,19 @@ use Rattle.nim_course.proofs.Values.{cell_leads, ended_leads, parts_lead}
 plain : (c next : Controller) (given : List Directed) → Leads c.job next given → Leads c.job next (given ++ [])
 plain c next given leads = subst (Leads c.job next) (sym (append-nil given)) leads
 
+-- an instance of a block is given, as a whole where the block was recorded
+block_leads : (c : Controller) (given : List Directed) (block : ℕ) (args : List ℤ) → c.outcome ≡ None → c.pending ≡ Block block args → GoesOn c given
+    → Leads c.job (done_with c (Block block args)) (given ++ orders_with c (Block block args))
+block_leads c given block args none is on = either (is_recorded c.decisions block) refl where
+  either : (b : Bool) → is_recorded c.decisions block ≡ b → Leads c.job (with_block b c block args) (given ++ orders_of_block b c block args)
+  either false new = instance_leads c given block args none is on
+  either true recorded = reused_leads c given block args none is recorded on
+
 with_leads : (c : Controller) (given : List Directed) (pending : Pending) → c.outcome ≡ None → c.pending ≡ pending → does_wait c pending ≡ false
     → GoesOn c given → Leads c.job (done_with c pending) (given ++ orders_with c pending)
 with_leads c given Begin none is free on = begun_leads c given none is on
 with_leads c given Idle none is free on = asked_leads c given none is on
-with_leads c given (Block block args) none is free on = instance_leads c given block args none is on
+with_leads c given (Block block args) none is free on = block_leads c given block args none is on
 with_leads c given (Cell row cell) none is free on = plain c (done_with c (Cell row cell)) given (cell_leads c given row cell none is free on)
 with_leads c given (Parts var) none is free on = plain c (done_with c (Parts var)) given (parts_lead c given var none is free on)
 with_leads c given Ended none is free on = plain c (done_with c Ended) given (ended_leads c given is on)

@@ -1,6 +1,6 @@
 -- How a controller leads its job: where its driver stands, and what its orders so far come to.
 use Rattle.std.specs.Prelude.{◌≡◌, ℕ, ◌+◌, ◌-◌, ◌≤◌, ◌==◌, nat_le, Bool, true, false, ◌&&◌, List, [], ◌∷◌, length, map, All, None, Some, IfSome}
-use Rattle.std.specs.List.{flat_map, list_any, range_with_len}
+use Rattle.std.specs.List.{list_any}
 use Rattle.nim_base.specs.declared.number.Object.{Object}
 use Rattle.nim_base.specs.declared.number.Worker.{Worker}
 use Rattle.nim_base.specs.Value.{Grid}
@@ -15,15 +15,19 @@ use Rattle.nim_job.specs.Follows.{IsOf, StandsAt, state_at}
 use Rattle.nim_job.specs.Machine.{Machine, after_ask, ask_of}
 use Rattle.nim_job.specs.Objects.{objects_of}
 use Rattle.nim_job.specs.Serial.{serial_of, tasks_of}
+use Rattle.nim_job.specs.Tasks.{block_forms_of}
 use Rattle.nim_job.specs.Versions.{read_version, version_value}
 use Rattle.nim_job.specs.Whole.{is_whole}
 use Rattle.nim_plan.specs.Legal.{IsLegal}
 use Rattle.nim_plan.specs.Paired.{ArePaired, Key}
 use Rattle.nim_place.specs.declared.placement.Placement.{Placement}
 use Rattle.nim_place.specs.Extends.{HaveNone, is_live, live_lists}
-use Rattle.nim_place.specs.TaskRuns.{RunsAtHome, position_run}
+use Rattle.nim_place.specs.TaskRuns.{AreRunOnce, RunsAtHome}
 use Rattle.nim_place.specs.TaskOrders.{AreSoFar, IsAt}
 use Rattle.nim_place.specs.Versions.{Versions, no_versions}
+use Rattle.nim_template.specs.Again.{IsBefore}
+use Rattle.nim_reuse.specs.Decisions.{Decisions, no_decisions}
+use Rattle.nim_reuse.specs.GoesOn.{AreDecided}
 use Rattle.nim_course.specs.declared.fetched.Fetched.{Fetched}
 use Rattle.nim_course.specs.declared.outcome.Outcome.{Outcome}
 use Rattle.nim_course.specs.declared.outcome.Outcome.TheVariants.{Done, Limit, NoWorker, NoMemory}
@@ -88,33 +92,35 @@ pub record IsFetchedAt (job : Job) (position : ℕ) (f : Fetched) : Type 0 where
 abbrev pub is_key_from : ℕ → ℕ → Key → Bool
 is_key_from epoch instance key = (key.epoch == epoch) && nat_le instance key.instance
 
--- The orders so far ask for commands that the map of versions stands for, and the map is at the position. No key passes
--- the test of those that are still to come. Since the epoch began, each task was run once, in order, at its home; epoch
--- 0 begins with the job.
+-- The orders so far ask for commands that the map of versions stands for, the map is at the position, and what was
+-- decided of the job's blocks rests on them. No key passes the test of those that are still to come. Since the epoch
+-- began, each task was run once, at its home; epoch 0 begins with the job.
 pub record AreLeading (job : Job) (place : Placement) (live : List Bool) (epoch position : ℕ) (to_come : Key → Bool)
-    (given : List Directed) (versions : Versions) : Type 0 where
+    (given : List Directed) (versions : Versions) (decisions : Decisions) : Type 0 where
   pub commands : List (Worker × Command)
   pub so_far : AreSoFar live epoch (by_number given) commands versions
-  pub workers : versions.workers ≡ length live
+  pub before : IsBefore (length live) (objects_of job.vars) position versions
   pub at : IsAt job position versions
+  pub decided : AreDecided place live (objects_of job.vars) (block_forms_of job) (by_number given) decisions
   pub fresh : HaveNone to_come live (by_number given)
   pub from : ℕ
   pub first : epoch ≡ 0 → from ≡ 0
   pub since : from ≤ position
-  pub runs : flat_map (λ (one : Worker × Command). position_run one.1.kind) commands
-      ≡ range_with_len from (position - from)
+  pub runs : AreRunOnce from (position - from) commands
   pub homes : All (λ (one : Worker × Command). RunsAtHome job place live one.0 one.1.kind) commands
 
 -- before an epoch is begun nothing lies anywhere
 pub record IsToBegin (job : Job) (c : Controller) : Type 0 where
   pub versions : c.versions ≡ no_versions (length c.live) (objects_of job.vars)
   pub position : c.position ≡ 0
+  pub decisions : c.decisions ≡ no_decisions (length job.blocks)
 
 -- before an epoch is begun there are no orders of it
 abbrev pub AreLeadingFor : Job → Controller → List Directed → Pending → Type 0
 AreLeadingFor job c given Begin = IsToBegin job c
 AreLeadingFor job c given pending =
     AreLeading job c.place c.live c.epoch c.position (is_key_from c.epoch c.instance) given c.versions
+    c.decisions
 
 -- the orders to each live worker may be given for the job, and what they ask for is covered; and all lists are paired
 pub record AreRight (job : Job) (live : List Bool) (given : List Directed) : Type 0 where
@@ -144,8 +150,9 @@ pub record Leads (job : Job) (c : Controller) (given : List Directed) : Type 0 w
   pub end : IfSome c.outcome (EndsBy job c)
   pub fetched : All (IsFetchedAt job c.position) c.fetched
   pub unfetched : does_fetch c.pending ≡ false → c.fetched ≡ []
-  -- some worker is live, and what the orders come to
+  -- some of few workers is live, and what the orders come to
   pub some : c.outcome ≡ None → list_any (λ (flag : Bool). flag) c.live ≡ true
+  pub few : length c.live ≤ 16
   pub right : AreRight job c.live given
   pub leading : AreLeadingFor job c given c.pending
   pub instances : begun_by c c.pending ≤ c.machine.driver.count

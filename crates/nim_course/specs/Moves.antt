@@ -10,15 +10,18 @@ use Rattle.nim_job.specs.declared.ask.Ask.{Ask}
 use Rattle.nim_job.specs.Machine.{after_ask, answered, appended, ask_of}
 use Rattle.nim_job.specs.Objects.{first_object, parts_of}
 use Rattle.nim_job.specs.Step.{texts_of}
-use Rattle.nim_job.specs.Tasks.{block_tasks_of}
+use Rattle.nim_job.specs.Tasks.{block_forms_of, block_tasks_of}
+use Rattle.nim_place.specs.Directed.{Directed}
 use Rattle.nim_place.specs.Versions.{after_commands}
+use Rattle.nim_reuse.specs.declared.instance.InstanceAt.{InstanceAt}
+use Rattle.nim_reuse.specs.Decisions.{after_recording, is_recorded}
+use Rattle.nim_reuse.specs.Reuse.{decisions_at, reused_at, versions_at}
 use Rattle.nim_course.specs.declared.fetched.Fetched.{Fetched}
 use Rattle.nim_course.specs.declared.outcome.Outcome.{Outcome}
 use Rattle.nim_course.specs.declared.pending.Pending.{Pending}
 use Rattle.nim_course.specs.declared.pending.Pending.TheVariants.{Begin, Idle, Block, Cell, Parts, Ended}
 use Rattle.nim_course.specs.Controller.{Controller}
-use Rattle.nim_place.specs.Directed.{Directed}
-use Rattle.nim_course.specs.OrdersGiven.{after_instance, counted_on, epoch_orders, fetch_orders, fetched_of, first_commands, flight_of, instance_orders}
+use Rattle.nim_course.specs.OrdersGiven.{after_instance, counted_on, epoch_orders, fetch_orders, fetched_of, first_commands, flight_of, instance_at, instance_orders, recorded_of, reused_flight, reused_orders}
 
 -- ---- what holds a controller up
 
@@ -48,16 +51,36 @@ is_held_up c = option_map_or (λ (outcome : Outcome). true) c.outcome (does_wait
 abbrev pub begun : Controller → Controller
 begun c = record c { versions = after_commands c.versions (first_commands c 0 c.job.vars); pending = Idle }
 
--- an instance of these tasks was given
-abbrev pub with_instance : Controller → List Task → Controller
-with_instance c tasks = record c {
+-- an instance of a block was given task by task, and the block recorded
+abbrev pub with_instance : Controller → ℕ → List Task → Controller
+with_instance c block tasks = record c {
   machine = answered c.machine (pos 0);
   versions = after_instance c 0 c.versions tasks;
+  decisions = after_recording (recorded_of c block) c.decisions;
   position = counted_from c.position (length tasks);
   instance = counted_on c.instance 1;
   pending = Idle;
   flight = c.flight ++ flight_of c tasks;
 }
+
+-- an instance of a block that was recorded was asked for as a whole
+abbrev pub with_reused : Controller → ℕ → Controller
+with_reused c block =
+    let at : InstanceAt = instance_at c block in
+    record c {
+      machine = answered c.machine (pos 0);
+      versions = versions_at c.place c.live at c.versions c.decisions;
+      decisions = decisions_at c.place c.live at c.versions c.decisions;
+      position = counted_from c.position (length (block_forms_of c.job block));
+      instance = counted_on c.instance 1;
+      pending = Idle;
+      flight = c.flight ++ reused_flight c (reused_at c.place c.live at c.versions c.decisions).awaited;
+    }
+
+-- An instance of a block was given: task by task where the block wasn't recorded.
+abbrev pub with_block : Bool → Controller → ℕ → List ℤ → Controller
+with_block false c block args = with_instance c block (block_tasks_of c.job block args)
+with_block true c block args = with_reused c block
 
 -- the parts of a variable, as objects
 abbrev pub objects_in : Controller → ℕ → List Object
@@ -99,7 +122,7 @@ text_told c var = texts_of (option_map_or (λ v. v.name) (slice_get c.job.vars v
 abbrev pub done_with : Controller → Pending → Controller
 done_with c Begin = begun c
 done_with c Idle = asked c (ask_of c.machine)
-done_with c (Block block args) = with_instance c (block_tasks_of c.job block args)
+done_with c (Block block args) = with_block (is_recorded c.decisions block) c block args
 done_with c (Cell row cell) =
     record c { machine = answered c.machine (cell_told c.fetched row cell); pending = Idle; fetched = [] }
 done_with c (Parts var) =
@@ -116,11 +139,16 @@ orders_asked c (Ask.Get object row cell) = fetch_orders c (object ∷ [])
 orders_asked c (Ask.Output var) = fetch_orders c (objects_in c var)
 orders_asked c _ = []
 
+-- those of an instance of a block
+abbrev pub orders_of_block : Bool → Controller → ℕ → List ℤ → List Directed
+orders_of_block false c block args = instance_orders c 0 c.versions (block_tasks_of c.job block args)
+orders_of_block true c block args = reused_orders c block args
+
 -- the orders that are given with a move
 abbrev pub orders_with : Controller → Pending → List Directed
 orders_with c Begin = epoch_orders c
 orders_with c Idle = orders_asked c (ask_of c.machine)
-orders_with c (Block block args) = instance_orders c 0 c.versions (block_tasks_of c.job block args)
+orders_with c (Block block args) = orders_of_block (is_recorded c.decisions block) c block args
 orders_with c _ = []
 
 -- the orders that are given with the next one

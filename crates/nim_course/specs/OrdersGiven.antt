@@ -1,5 +1,5 @@
 -- The orders that a controller gives: those that begin an epoch, those of an instance's tasks, and those that fetch.
-use Rattle.std.specs.Prelude.{ℕ, ◌+◌, min, pos, false, true, List, [], ◌∷◌, ◌++◌, length, map, slice_index_or, Option, None, Some}
+use Rattle.std.specs.Prelude.{ℕ, ◌+◌, min, ℤ, pos, false, true, List, [], ◌∷◌, ◌++◌, length, map, slice_index_or, Option, None, Some}
 use Rattle.std.specs.List.{range_with_len}
 use Rattle.std.specs.Option.{option_map_or}
 use Rattle.nim_base.specs.declared.number.Object.{Object}
@@ -16,11 +16,15 @@ use Rattle.nim_job.specs.declared.job.Init.{Init}
 use Rattle.nim_job.specs.declared.job.Init.TheVariants.{Fill, Iota, Loaded}
 use Rattle.nim_job.specs.declared.job.Var.{Var}
 use Rattle.nim_job.specs.Objects.{first_cell, shapes_of}
+use Rattle.nim_job.specs.Tasks.{block_forms_of}
 use Rattle.nim_place.specs.Extends.{singles_of}
 use Rattle.nim_place.specs.Orders.{resets_of}
 use Rattle.nim_place.specs.Placement.{home}
 use Rattle.nim_place.specs.Schedule.{owner_of, scheduled}
 use Rattle.nim_place.specs.Versions.{Versions, after_commands, holder, latest_of}
+use Rattle.nim_template.specs.declared.template.ControllerTemplate.{ControllerTemplate}
+use Rattle.nim_reuse.specs.declared.instance.InstanceAt.{InstanceAt}
+use Rattle.nim_reuse.specs.Reuse.{orders_at}
 use Rattle.nim_course.specs.declared.fetched.Fetched.{Fetched}
 use Rattle.nim_course.specs.Controller.{Controller, Flight}
 use Rattle.nim_place.specs.Directed.{Directed, directed}
@@ -95,7 +99,27 @@ awaited_of c task = Some (owner_of c.place task c.versions.objects c.live)
 -- the instance in flight; a block without tasks never is
 abbrev pub flight_of : Controller → List Task → List Flight
 flight_of c [] = []
-flight_of c tasks = record { instance = c.instance; base = c.position; runs = map (awaited_of c) tasks } ∷ []
+flight_of c tasks =
+    record { instance = c.instance; base = c.position; runs = map (awaited_of c) tasks; through = [] } ∷ []
+
+-- what is recorded of a block
+abbrev pub recorded_of : Controller → ℕ → ControllerTemplate
+recorded_of c block = record { block = block; forms = block_forms_of c.job block }
+
+-- ---- an instance of a block that was recorded
+
+-- which instance is next
+abbrev pub instance_at : Controller → ℕ → InstanceAt
+instance_at c block = record { epoch = c.epoch; instance = c.instance; block = block; base = c.position }
+
+-- its orders
+abbrev pub reused_orders : Controller → ℕ → List ℤ → List Directed
+reused_orders c block args = orders_at c.place c.live (instance_at c block) args c.versions c.decisions
+
+-- the instance in flight, where some worker is to report that it is through
+abbrev pub reused_flight : Controller → List Worker → List Flight
+reused_flight c [] = []
+reused_flight c awaited = record { instance = c.instance; base = c.position; runs = []; through = awaited } ∷ []
 
 -- ---- a fetch
 

@@ -1,12 +1,12 @@
 -- What a report does to a controller.
-use Rattle.std.specs.Prelude.{ℕ, ◌-◌, ◌==◌, nat_le, Bool, true, false, ◌&&◌, if◌then◌else◌, List, map, slice_get, slice_set, Option, None, Some}
+use Rattle.std.specs.Prelude.{ℕ, ◌-◌, ◌==◌, nat_le, Bool, true, false, not, ◌&&◌, if◌then◌else◌, List, map, slice_get, slice_set, Option, None, Some}
 use Rattle.std.specs.List.{filter}
 use Rattle.std.specs.Option.{option_map_or}
 use Rattle.nim_base.specs.declared.number.Object.{Object}
 use Rattle.nim_base.specs.declared.number.Worker.{Worker}
 use Rattle.nim_base.specs.Value.{Grid}
 use Rattle.nim_message.specs.declared.report.FromWorker.{FromWorker}
-use Rattle.nim_message.specs.declared.report.FromWorker.TheVariants.{Value, Ran, NoMemory}
+use Rattle.nim_message.specs.declared.report.FromWorker.TheVariants.{Value, Ran, Through, NoMemory}
 use Rattle.nim_place.specs.Extends.{is_live}
 use Rattle.nim_course.specs.declared.fetched.Fetched.{Fetched}
 use Rattle.nim_course.specs.declared.outcome.Outcome.{Outcome}
@@ -42,16 +42,29 @@ after_ran from position flight =
     then record flight { runs = slice_set flight.runs (position - flight.base) None }
     else flight
 
+-- a worker reports that it is through with an instance
+abbrev pub after_through : Worker → ℕ → Flight → Flight
+after_through from instance flight =
+    if flight.instance == instance
+    then record flight { through = filter (λ (worker : Worker). not (worker.0 == from.0)) flight.through }
+    else flight
+
 -- what is in flight then
+abbrev pub flight_through : Worker → ℕ → List Flight → List Flight
+flight_through from instance flight = filter is_in_flight (map (after_through from instance) flight)
+
+-- what is in flight once a run was reported
 abbrev pub flight_after : Worker → ℕ → List Flight → List Flight
 flight_after from position flight = filter is_in_flight (map (after_ran from position) flight)
 
--- A report of a live worker: a Value and a Ran count where they are of this epoch.
+-- A report of a live worker: a Value, a Ran and a Through count where they are of this epoch.
 abbrev pub reported : Controller → Worker → FromWorker → Controller
 reported c from (Value epoch ticket object version value) =
     if epoch == c.epoch then record c { fetched = told c ticket object version value } else c
 reported c from (Ran epoch position reads) =
     if epoch == c.epoch then record c { flight = flight_after from position c.flight } else c
+reported c from (Through epoch instance) =
+    if epoch == c.epoch then record c { flight = flight_through from instance c.flight } else c
 reported c from NoMemory = record c { outcome = Some Outcome.NoMemory }
 reported c from _ = c
 

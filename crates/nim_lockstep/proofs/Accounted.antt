@@ -1,194 +1,210 @@
--- Each task that was given is awaited or was run, by moves and reports.
-use Rattle.std.proofs.Common.{◌≡◌, ◌⊎◌, ℕ, zero, suc, ◌+◌, ◌-◌, ◌<◌, ◌≤◌, Bool, true, false, List, [], ◌∷◌, ◌++◌, length, map, refl, ap, sym, subst, ◌∙◌, inl, inr, Option, None, arith}
-use Rattle.std.specs.Prelude.{◌&&◌, ◌||◌, ◌==◌, nat_le, if◌then◌else◌, slice_get, slice_set}
-use Rattle.std.specs.List.{list_any}
-use Rattle.std.specs.Option.{is_some, option_map_or}
-use Rattle.std.proofs.lemmas.Bool.{and_from, and_parts, both_ways, cases_eq, cases_lt, cond-true, cond_both, le-leb, leb-true, or_cases, or_left, or_right}
-use Rattle.std.proofs.lemmas.List.Folds.{list_any-append}
+-- Each run that workers are asked for is awaited or was performed, behind each move.
+use Rattle.std.proofs.Common.{◌≡◌, ℕ, zero, suc, ◌<◌, Bool, true, false, ℤ, List, [], ◌∷◌, ◌++◌, length, map, refl, ap, sym, subst, ◌∙◌, inl, inr, Option, Some, arith}
+use Rattle.std.specs.Prelude.{◌||◌, ◌&&◌, ◌==◌, nat_lt, slice_get}
+use Rattle.std.specs.List.{list_any, range_with_len}
+use Rattle.std.specs.Option.{option_map_or}
+use Rattle.std.proofs.lemmas.Bool.{and_from, cases_lt, eq-eqb, or_cases, or_left, or_right}
+use Rattle.std.proofs.lemmas.List.{length-replicate}
+use Rattle.std.proofs.lemmas.Option.{none-some, same_Some}
 use Rattle.nim_base.specs.declared.number.Worker.{Worker}
 use Rattle.nim_base.specs.declared.task.Task.{Task}
-use Rattle.nim_message.specs.declared.order.ToWorker.{ToWorker}
-use Rattle.nim_message.specs.declared.report.FromWorker.{FromWorker}
-use Rattle.nim_message.specs.declared.report.FromWorker.TheVariants.{Value, Ran, NoMemory}
-use Rattle.nim_job.specs.declared.ask.Ask.{Ask}
-use Rattle.nim_job.specs.Machine.{ask_of}
-use Rattle.nim_job.specs.Tasks.{block_tasks_of}
-use Rattle.nim_place.specs.Extends.{is_live}
-use Rattle.nim_course.specs.declared.pending.Pending.{Pending}
-use Rattle.nim_course.specs.declared.pending.Pending.TheVariants.{Idle, Block}
-use Rattle.nim_course.specs.Controller.{Controller, Flight, is_in_flight}
-use Rattle.nim_place.specs.Directed.{Directed}
-use Rattle.nim_course.specs.Moves.{IsTurned, after_moves, asked, done_with, with_instance}
-use Rattle.nim_course.specs.OrdersGiven.{awaited_of, flight_of}
-use Rattle.nim_course.specs.Reports.{after_ran, after_report, flight_after, is_of, reported, told}
-use Rattle.nim_lockstep.specs.declared.ran.Ran.{Ran as ran_type}
+use Rattle.nim_command.specs.declared.template.WorkerTemplate.{WorkerTemplate}
+use Rattle.nim_command.specs.Waits.{Group}
+use Rattle.nim_message.specs.Orders.{session_of}
+use Rattle.nim_order.proofs.Items.{any_of_filter, any_of_range}
+use Rattle.nim_job.specs.declared.job.Job.{Job}
+use Rattle.nim_place.specs.Directed.{Directed, orders_to}
+use Rattle.nim_place.specs.Extends.{worker_of}
+use Rattle.nim_place.specs.TaskRuns.{position_run}
+use Rattle.nim_template.specs.Instance.{half_of}
+use Rattle.nim_reuse.specs.Reuse.{awaited_of, has_entries}
+use Rattle.nim_course.specs.declared.setup.Setup.{Setup}
+use Rattle.nim_course.specs.Controller.{Controller, Flight}
+use Rattle.nim_course.specs.Leads.{Leads}
+use Rattle.nim_course.specs.Moves.{with_instance, with_reused}
+use Rattle.nim_course.specs.OrdersGiven.{flight_of, instance_orders, reused_flight, reused_orders}
+use Rattle.nim_history.specs.History.{Asked, asked_at}
+use Rattle.nim_history.proofs.InTurn.{asked_still}
+use Rattle.nim_lockstep.specs.declared.ran.Ran.{Ran}
 use Rattle.nim_lockstep.specs.InStep.{has_run}
-use Rattle.nim_lockstep.proofs.NodesLists.{get_set_other}
-use Rattle.nim_lockstep.proofs.UnderWay.{AreAccounted, IsTold, is_awaited_in}
+use Rattle.nim_lockstep.proofs.Apart.{all_live, apart_for}
+use Rattle.nim_lockstep.proofs.BegunOnce.{is_begin}
+use Rattle.nim_lockstep.proofs.Course.{KeepsTo}
+use Rattle.nim_lockstep.proofs.Flights.{more_awaited, reused_awaited, single_awaited}
+use Rattle.nim_lockstep.proofs.Gives.{IsLast, IsQuiet, RunsNone, reused_grow, singles_grow}
+use Rattle.nim_lockstep.proofs.Groups.{Gives, IsNew, each_at, old_or_new}
+use Rattle.nim_lockstep.proofs.Places.{given_to, leading_on, none_given, within_given}
+use Rattle.nim_lockstep.proofs.Reused.{template_for}
+use Rattle.nim_lockstep.proofs.Separate.{IsOther}
+use Rattle.nim_lockstep.proofs.Singles.{Each, instance_each}
+use Rattle.nim_lockstep.proofs.UnderWay.{AreAccounted, is_awaited_by, run_placed}
 
--- ---- tests
+-- ---- what a controller and its orders keep to
 
-or_more : (x y z : Bool) → (x || z) ≡ true → ((x || y) || z) ≡ true
-or_more true y z is = refl
-or_more false true z is = refl
-or_more false false z is = is
+-- a controller leads by these orders, and keeps to its course
+pub record LeadsOnCourse (job : Job) (setup : Setup) (c : Controller) (given : List Directed) : Type 0 where
+  pub leads : Leads job c given
+  pub keeps : KeepsTo setup c given
 
-or_wider : (x y z : Bool) → (x || y) ≡ true → (x || (y || z)) ≡ true
-or_wider true y z is = refl
-or_wider false true z is = refl
-or_wider false false z is = absurd (both_ways false refl is)
+-- the run at a place
+placed_run : (given : List Directed) (number place p : ℕ) (asked : Asked)
+    → asked_at (session_of (orders_to number given)).groups place ≡ Some asked → position_run asked.command.kind ≡ p ∷ []
+    → run_placed (orders_to number given) place ≡ p ∷ []
+placed_run given number place p asked there runs =
+    ap (λ (o : Option Asked). option_map_or (λ (a : Asked). position_run a.command.kind) o []) there ∙ runs
 
--- ---- more instances in flight
+-- groups that are longer at each worker
+abbrev AllGrow : ℕ → List Directed → List Directed → Type 0
+AllGrow workers given all =
+    (number : ℕ) → number < workers
+    → (news : List Group) × ((session_of (orders_to number all)).groups ≡ (session_of (orders_to number given)).groups ++ news)
 
--- each task of a new instance is awaited
-each_awaited : (c : Controller) (tasks : List Task) (k : ℕ) → k < length tasks
-    → option_map_or (λ (run : Option Worker). is_some run) (slice_get (map (awaited_of c) tasks) k) false ≡ true
-each_awaited c [] k below = absurd (omega (arith, below))
-each_awaited c (task ∷ tasks) zero below = refl
-each_awaited c (task ∷ tasks) (suc k) below = each_awaited c tasks k (omega (arith, below))
+-- a task that was given before stands where it stood
+was_there : (job : Job) (setup : Setup) (c next : Controller) (given all : List Directed) → LeadsOnCourse job setup c given
+    → LeadsOnCourse job setup next all → is_begin c.pending ≡ false → AllGrow setup.workers given all
+    → (number : ℕ) → number < setup.workers → (place p : ℕ) (asked : Asked)
+    → asked_at (session_of (orders_to number all)).groups place ≡ Some asked → position_run asked.command.kind ≡ p ∷ [] → p < c.position
+    → asked_at (session_of (orders_to number given)).groups place ≡ Some asked
+was_there job setup c next given all on later begun grow number below place p asked there runs early =
+    let to = given_to job c given setup.workers p on.keeps.live on.keeps.epoch (leading_on job c given c.pending begun on.leads.leading) early in
+    let first : Asked = to.runs.asked in
+    let grown = grow to.number to.below in
+    let still : asked_at (session_of (orders_to to.number all)).groups to.place ≡ Some first =
+    ap (λ (groups : List Group). asked_at groups to.place) grown.1
+    ∙ asked_still (session_of (orders_to to.number given)).groups grown.0 to.place first to.runs.there in
+    let same : (to.number ≡ number) × (to.place ≡ place) =
+    apart_for job next all setup.workers next.pending later.keeps.live later.leads.leading later.keeps.once to.number number to.below below to.place place p
+    (placed_run all to.number to.place p first still to.runs.runs) (placed_run all number place p asked there runs) in
+    let at : (numbers : List Directed) → asked_at (session_of (orders_to to.number numbers)).groups to.place ≡ Some first
+    → asked_at (session_of (orders_to number numbers)).groups place ≡ Some first =
+    λ numbers is.
+    subst (λ (n : ℕ). asked_at (session_of (orders_to n numbers)).groups place ≡ Some first) same.0
+    (subst (λ (k : ℕ). asked_at (session_of (orders_to to.number numbers)).groups k ≡ Some first) same.1 is) in
+    at given to.runs.there ∙ ap (λ (a : Asked). Some a) (same_Some first asked (sym (at all still) ∙ there))
 
-new_awaited : (c : Controller) (tasks : List Task) (position : ℕ) → c.position ≤ position → position < c.position + length tasks
-    → list_any (is_awaited_in position) (flight_of c tasks) ≡ true
-new_awaited c [] position from below = absurd (omega (arith, from, below))
-new_awaited c (task ∷ tasks) position from below =
-    or_left (is_awaited_in position (record { instance = c.instance; base = c.position; runs = map (awaited_of c) (task ∷ tasks) })) false
-    (and_from (nat_le c.position position)
-    (option_map_or (λ (run : Option Worker). is_some run) (slice_get (map (awaited_of c) (task ∷ tasks)) (position - c.position)) false)
-    (le-leb c.position position from) (each_awaited c (task ∷ tasks) (position - c.position) (omega (arith, from, below))))
+-- it was given by now
+given_now : (job : Job) (setup : Setup) (c : Controller) (given : List Directed) → LeadsOnCourse job setup c given → is_begin c.pending ≡ false
+    → (number : ℕ) → number < setup.workers → (place p : ℕ) (asked : Asked)
+    → asked_at (session_of (orders_to number given)).groups place ≡ Some asked → position_run asked.command.kind ≡ p ∷ [] → p < c.position
+given_now job setup c given on begun number below place p asked there runs =
+    within_given job c given number place p (leading_on job c given c.pending begun on.leads.leading)
+    (all_live setup.workers number c.live on.keeps.live below)
+    (placed_run given number place p asked there runs)
 
-instance_accounted : (c : Controller) (trace : List ran_type) (tasks : List Task) → AreAccounted c trace → AreAccounted (with_instance c tasks) trace
-instance_accounted c trace tasks accounted = λ position below.
-    let Awaited : Flight → Bool = is_awaited_in position in
-    let whole : list_any Awaited (c.flight ++ flight_of c tasks) ≡ (list_any Awaited c.flight || list_any Awaited (flight_of c tasks)) =
-    list_any-append Awaited c.flight (flight_of c tasks) in
-    elim (cases_lt position c.position) [
-      | inl early ↦
-          ap (λ (b : Bool). b || has_run trace position) whole
-          ∙ or_more (list_any Awaited c.flight) (list_any Awaited (flight_of c tasks)) (has_run trace position) (accounted position early)
-      | inr late ↦
-          let within : position < c.position + length tasks = omega (arith, below) in
-          or_left (list_any Awaited (c.flight ++ flight_of c tasks)) (has_run trace position)
-          (whole ∙ or_right (list_any Awaited c.flight) (list_any Awaited (flight_of c tasks)) (new_awaited c tasks position late within))
+-- ---- a move that gives no instance
+
+pub still_accounted : (job : Job) (setup : Setup) (c next : Controller) (given more : List Directed) (trace : List Ran) → LeadsOnCourse job setup c given
+    → LeadsOnCourse job setup next (given ++ more) → is_begin next.pending ≡ false → next.position ≡ c.position
+    → (is_begin c.pending ≡ false → Each (Gives IsOther) more)
+    → AreAccounted c.flight setup.workers given trace → AreAccounted c.flight setup.workers (given ++ more) trace
+still_accounted job setup c next given more trace on later begun same gives accounted = λ number below place asked there position runs.
+    let early : position < c.position =
+    omega (arith, given_now job setup next (given ++ more) later begun number below place position asked there runs, same) in
+    either number below place asked there position runs early (is_begin c.pending) refl where
+      either : (number : ℕ) → number < setup.workers → (place : ℕ) (asked : Asked)
+          → asked_at (session_of (orders_to number (given ++ more))).groups place ≡ Some asked
+          → (position : ℕ) → position_run asked.command.kind ≡ position ∷ [] → position < c.position
+          → (b : Bool) → is_begin c.pending ≡ b → (is_awaited_by c.flight number asked.group position || has_run trace position) ≡ true
+      either number below place asked there position runs early true begin =
+          let none = none_given job c given c.pending begin on.leads.leading in absurd (omega (arith, early, none))
+      either number below place asked there position runs early false open_now =
+          let grow : AllGrow setup.workers given (given ++ more) =
+          λ n under. let grows = singles_grow given more n (gives open_now) in (grows.news, grows.are) in
+          accounted number below place asked
+          (was_there job setup c next given (given ++ more) on later open_now grow number below place position asked there runs early) position runs
+
+-- ---- an instance task by task
+
+wider_accounted : (flights more : List Flight) (trace : List Ran) (number : ℕ) (group : Group) (position : ℕ)
+    → (is_awaited_by flights number group position || has_run trace position) ≡ true
+    → (is_awaited_by (flights ++ more) number group position || has_run trace position) ≡ true
+wider_accounted flights more trace number group position is =
+    let now : Bool = is_awaited_by (flights ++ more) number group position in
+    elim (or_cases (is_awaited_by flights number group position) (has_run trace position) is) [
+      | inl awaited ↦ or_left now (has_run trace position) (more_awaited flights more number group position awaited)
+      | inr done ↦ or_right now (has_run trace position) done
     ]
 
-asked_accounted : (c : Controller) (trace : List ran_type) (ask : Ask) → AreAccounted c trace → AreAccounted (asked c ask) trace
-asked_accounted c trace Ask.Checkpoint accounted = accounted
-asked_accounted c trace ask accounted = accounted
-
-done_accounted : (c : Controller) (trace : List ran_type) (pending : Pending) → AreAccounted c trace → AreAccounted (done_with c pending) trace
-done_accounted c trace Idle accounted = asked_accounted c trace (ask_of c.machine) accounted
-done_accounted c trace (Block block args) accounted = instance_accounted c trace (block_tasks_of c.job block args) accounted
-done_accounted c trace pending accounted = accounted
-
-moves_accounted : (c : Controller) (trace : List ran_type) (count : ℕ) → AreAccounted c trace → AreAccounted (after_moves count c) trace
-moves_accounted c trace zero accounted = accounted
-moves_accounted c trace (suc count) accounted =
-    let now : Controller = after_moves count c in done_accounted now trace now.pending (moves_accounted c trace count accounted)
-
-due_accounted : (c : Controller) (trace : List ran_type) → AreAccounted c trace → AreAccounted (record c { due = false }) trace
-due_accounted c trace accounted = accounted
-
-pub turn_accounted : (before after : Controller) (orders : List Directed) (trace : List ran_type) → AreAccounted before trace
-    → IsTurned before orders after → AreAccounted after trace
-turn_accounted before after orders trace accounted turned =
-    subst (λ (c : Controller). AreAccounted c trace) (sym turned.rests)
-    (due_accounted turned.end trace
-    (subst (λ (c : Controller). AreAccounted c trace) (sym turned.moved.state) (moves_accounted before trace turned.moved.count accounted)))
-
--- a longer trace accounts for more
-pub longer_accounted : (c : Controller) (trace more : List ran_type) → AreAccounted c trace → AreAccounted c (trace ++ more)
-longer_accounted c trace more accounted = λ position below.
-    let Same : ran_type → Bool = λ ran. ran.position == position in
-    ap (λ (b : Bool). list_any (is_awaited_in position) c.flight || b) (list_any-append Same trace more)
-    ∙ or_wider (list_any (is_awaited_in position) c.flight) (has_run trace position) (has_run more position) (accounted position below)
-
--- ---- a report
-
--- where another task is reported, one that is awaited still is
-still_awaited : (from : Worker) (at position : ℕ) (flight : Flight) → (position ≡ at → ⊥) → is_awaited_in position flight ≡ true
-    → is_awaited_in position (after_ran from at flight) ≡ true
-still_awaited from at position flight other is =
-    let runs : List (Option Worker) = slice_set flight.runs (at - flight.base) None in
-    cond_both (nat_le flight.base at && option_map_or (is_of from) (slice_get flight.runs (at - flight.base)) false) (record flight { runs = runs }) flight
-    (λ (f : Flight). is_awaited_in position f ≡ true)
-    (λ counts.
-    let first = and_parts (nat_le flight.base position)
-    (option_map_or (λ (run : Option Worker). is_some run) (slice_get flight.runs (position - flight.base)) false) is in
-    let second = and_parts (nat_le flight.base at) (option_map_or (is_of from) (slice_get flight.runs (at - flight.base)) false) counts in
-    let past : flight.base ≤ position = leb-true flight.base position first.0 in
-    let from_base : flight.base ≤ at = leb-true flight.base at second.0 in
-    let apart : position - flight.base ≡ at - flight.base → ⊥ = λ same. other (omega (arith, same, past, from_base)) in
-    and_from (nat_le flight.base position)
-    (option_map_or (λ (run : Option Worker). is_some run) (slice_get runs (position - flight.base)) false) first.0
-    (ap (λ (o : Option (Option Worker)). option_map_or (λ (run : Option Worker). is_some run) o false)
-    (get_set_other flight.runs (at - flight.base) (position - flight.base) None apart)
-    ∙ first.1))
-    (λ counts. is)
-
-some_at : (runs : List (Option Worker)) (k : ℕ) → option_map_or (λ (run : Option Worker). is_some run) (slice_get runs k) false ≡ true
-    → list_any (λ (run : Option Worker). is_some run) runs ≡ true
-some_at [] k is = absurd (both_ways false refl is)
-some_at (run ∷ runs) zero is = or_left (is_some run) (list_any (λ (r : Option Worker). is_some r) runs) is
-some_at (run ∷ runs) (suc k) is = or_right (is_some run) (list_any (λ (r : Option Worker). is_some r) runs) (some_at runs k is)
-
--- what awaits a task is in flight
-awaiting_flies : (position : ℕ) (flight : Flight) → is_awaited_in position flight ≡ true → is_in_flight flight ≡ true
-awaiting_flies position flight is =
-    some_at flight.runs (position - flight.base)
-    (and_parts (nat_le flight.base position)
-    (option_map_or (λ (run : Option Worker). is_some run) (slice_get flight.runs (position - flight.base)) false) is).1
-
-still_in : (from : Worker) (at position : ℕ) (flights : List Flight) → (position ≡ at → ⊥) → list_any (is_awaited_in position) flights ≡ true
-    → list_any (is_awaited_in position) (flight_after from at flights) ≡ true
-still_in from at position [] other is = absurd (both_ways false refl is)
-still_in from at position (flight ∷ flights) other is =
-    either (or_cases (is_awaited_in position flight) (list_any (is_awaited_in position) flights) is) (still_in from at position flights other) where
-      either : ((is_awaited_in position flight ≡ true) ⊎ (list_any (is_awaited_in position) flights ≡ true))
-          → (list_any (is_awaited_in position) flights ≡ true → list_any (is_awaited_in position) (flight_after from at flights) ≡ true)
-          → list_any (is_awaited_in position) (flight_after from at (flight ∷ flights)) ≡ true
-      either (inl here) later =
-          let now : Flight = after_ran from at flight in
-          let rest : List Flight = flight_after from at flights in
-          let awaited : is_awaited_in position now ≡ true = still_awaited from at position flight other here in
-          ap (list_any (is_awaited_in position)) (cond-true (is_in_flight now) (now ∷ rest) rest (awaiting_flies position now awaited))
-          ∙ or_left (is_awaited_in position now) (list_any (is_awaited_in position) rest) awaited
-      either (inr there) later =
-          let now : Flight = after_ran from at flight in
-          let rest : List Flight = flight_after from at flights in
-          cond_both (is_in_flight now) (now ∷ rest) rest (λ (all : List Flight). list_any (is_awaited_in position) all ≡ true)
-          (λ flies. or_right (is_awaited_in position now) (list_any (is_awaited_in position) rest) (later there)) (λ flies. later there)
-
-ran_accounted : (c : Controller) (from : Worker) (at : ℕ) (trace : List ran_type) → has_run trace at ≡ true → AreAccounted c trace
-    → AreAccounted (record c { flight = flight_after from at c.flight }) trace
-ran_accounted c from at trace ran accounted = λ position below.
-    let Awaited : Flight → Bool = is_awaited_in position in
-    let rest : List Flight = flight_after from at c.flight in
-    elim (cases_eq position at) [
-      | inl same ↦
-          or_right (list_any Awaited rest) (has_run trace position) (subst (λ (p : ℕ). has_run trace p ≡ true) (sym same) ran)
-      | inr other ↦
-          elim (or_cases (list_any Awaited c.flight) (has_run trace position) (accounted position below)) [
-            | inl awaited ↦ or_left (list_any Awaited rest) (has_run trace position) (still_in from at position c.flight other awaited)
-            | inr done ↦ or_right (list_any Awaited rest) (has_run trace position) done
+pub instance_accounted : (job : Job) (setup : Setup) (c : Controller) (given : List Directed) (block : ℕ) (tasks : List Task) (trace : List Ran)
+    → LeadsOnCourse job setup c given → LeadsOnCourse job setup (with_instance c block tasks) (given ++ instance_orders c 0 c.versions tasks)
+    → is_begin c.pending ≡ false → AreAccounted c.flight setup.workers given trace
+    → AreAccounted (with_instance c block tasks).flight setup.workers (given ++ instance_orders c 0 c.versions tasks) trace
+instance_accounted job setup c given block tasks trace on later begun accounted = λ number below place asked there position runs.
+    let more : List Directed = instance_orders c 0 c.versions tasks in
+    let next : Controller = with_instance c block tasks in
+    let gives : Each (Gives IsOther) more = instance_each (Gives IsOther) (λ epoch instance commands. refl) c 0 c.versions tasks in
+    let grows = singles_grow given more number gives in
+    let old : asked_at (session_of (orders_to number given)).groups place ≡ Some asked
+    → (is_awaited_by next.flight number asked.group position || has_run trace position) ≡ true =
+    λ at. wider_accounted c.flight (flight_of c tasks) trace number asked.group position (accounted number below place asked at position runs) in
+    elim
+    (old_or_new (session_of (orders_to number given)).groups grows.news place asked
+    (sym (ap (λ (groups : List Group). asked_at groups place) grows.are) ∙ there)) [
+      | inl at ↦ old at
+      | inr new ↦
+          elim (cases_lt position c.position) [
+            | inl early ↦
+                old (was_there job setup c next given (given ++ more) on later begun
+                (λ n under. let other = singles_grow given more n gives in (other.news, other.are)) number below place position asked there runs early)
+            | inr late ↦
+                or_left (is_awaited_by next.flight number asked.group position) (has_run trace position)
+                (single_awaited c c.flight tasks number asked.group position (each_at IsOther grows.news new.behind asked.group grows.all new.there) late
+                (omega (arith, given_now job setup next (given ++ more) later refl number below place position asked there runs)))
           ]
     ]
 
-reported_accounted : (c : Controller) (from : Worker) (report : FromWorker) (sent : List ToWorker) (trace : List ran_type)
-    → IsTold sent trace report → AreAccounted c trace → AreAccounted (reported c from report) trace
-reported_accounted c from (Value epoch ticket object version value) sent trace is accounted = either (epoch == c.epoch) where
-  either : (b : Bool) → AreAccounted (if b then record c { fetched = told c ticket object version value } else c) trace
-  either true = accounted
-  either false = accounted
-reported_accounted c from (Ran epoch position reads) sent trace is accounted = either (epoch == c.epoch) where
-  either : (b : Bool) → AreAccounted (if b then record c { flight = flight_after from position c.flight } else c) trace
-  either true = ran_accounted c from position trace is accounted
-  either false = accounted
-reported_accounted c from NoMemory sent trace is accounted = accounted
-reported_accounted c from report sent trace is accounted = accounted
+-- ---- an instance as a whole
 
-pub report_accounted : (c : Controller) (from : Worker) (report : FromWorker) (sent : List ToWorker) (trace : List ran_type)
-    → IsTold sent trace report → AreAccounted c trace → AreAccounted (after_report c from report) trace
-report_accounted c from report sent trace is accounted = either (is_live c.live from) where
-  either : (b : Bool) → AreAccounted (if b then reported (record c { due = true }) from report else record c { due = true }) trace
-  either true = reported_accounted (record c { due = true }) from report sent trace is accounted
-  either false = accounted
+-- the group of a worker's part
+last_is : (entries : Bool) (instance : ℕ) (groups : List Group) (k : ℕ) (group : Group) → IsLast entries instance groups
+    → slice_get groups k ≡ Some group → IsLast entries instance (group ∷ [])
+last_is entries instance [] k group is there = absurd (none-some group there)
+last_is entries instance (g ∷ []) zero group is there = subst (λ (h : Group). IsLast entries instance (h ∷ [])) (same_Some g group there) is
+last_is entries instance (g ∷ []) (suc k) group is there = absurd (none-some group there)
+last_is entries instance (g ∷ h ∷ groups) k group is there = absurd is
+
+any_of_map : {X Y : Type 0} (p : Y → Bool) (f : X → Y) (xs : List X) → list_any (λ (x : X). p (f x)) xs ≡ true → list_any p (map f xs) ≡ true
+any_of_map p f [] is = is
+any_of_map {X} p f (x ∷ xs) is =
+    elim (or_cases (p (f x)) (list_any (λ (y : X). p (f y)) xs) is) [
+      | inl here ↦ or_left (p (f x)) (list_any p (map f xs)) here
+      | inr there ↦ or_right (p (f x)) (list_any p (map f xs)) (any_of_map p f xs there)
+    ]
+
+-- a worker whose half has entries is awaited
+entries_awaited : (workers : ℕ) (template : WorkerTemplate) (number : ℕ) → number < workers → nat_lt 0 (length (half_of template number)) ≡ true
+    → list_any (λ (worker : Worker). worker.0 == number) (awaited_of workers template) ≡ true
+entries_awaited workers template number below some =
+    let Is : Worker → Bool = λ worker. worker.0 == number in
+    any_of_filter Is (has_entries template) (map worker_of (range_with_len 0 workers))
+    (any_of_map (λ (worker : Worker). has_entries template worker && Is worker) worker_of (range_with_len 0 workers)
+    (any_of_range (λ (n : ℕ). has_entries template (worker_of n) && Is (worker_of n)) 0 workers number (omega arith) (omega (arith, below))
+    (and_from (has_entries template (worker_of number)) (number == number) some (eq-eqb number number refl))))
+
+pub reused_accounted : (setup : Setup) (c : Controller) (given : List Directed) (block : ℕ) (args : List ℤ) (trace : List Ran) → KeepsTo setup c given
+    → AreAccounted c.flight setup.workers given trace
+    → AreAccounted (with_reused c block).flight setup.workers (given ++ reused_orders c block args) trace
+reused_accounted setup c given block args trace keeps accounted = λ number below place asked there position runs.
+    let template : WorkerTemplate = template_for c block in
+    let awaited : List Worker = awaited_of (length c.live) template in
+    let own : List Group = (session_of (orders_to number given)).groups in
+    let few : number < length c.live =
+    omega (arith, below, ap (λ (flags : List Bool). length flags) keeps.live, length-replicate setup.workers true) in
+    let grows = reused_grow c given block args number few in
+    let quiet : IsNew grows.quiet asked → ⊥ = λ new.
+    let none : position_run asked.command.kind ≡ [] =
+    each_at RunsNone asked.group.commands new.at asked.command (each_at IsQuiet grows.quiet new.behind asked.group grows.all new.there).1 new.command in
+    let nothing : [] ≡ position ∷ [] = sym none ∙ runs in cc in
+    let last : IsNew grows.last asked → (is_awaited_by (with_reused c block).flight number asked.group position || has_run trace position) ≡ true = λ new.
+    let is = last_is (nat_lt 0 (length (half_of template number))) c.instance grows.last new.behind asked.group grows.is new.there in
+    or_left (is_awaited_by (with_reused c block).flight number asked.group position) (has_run trace position)
+    (reused_awaited c c.flight awaited number asked.group position is.0 is.1.0 (entries_awaited (length c.live) template number few is.1.1)) in
+    elim (old_or_new (own ++ grows.quiet) grows.last place asked (sym (ap (λ (groups : List Group). asked_at groups place) grows.are) ∙ there)) [
+      | inl before ↦
+          elim (old_or_new own grows.quiet place asked before) [
+            | inl at ↦
+                wider_accounted c.flight (reused_flight c awaited) trace number asked.group position (accounted number below place asked at position runs)
+            | inr new ↦ absurd (quiet new)
+          ]
+      | inr new ↦ last new
+    ]

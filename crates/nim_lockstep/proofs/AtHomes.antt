@@ -16,6 +16,7 @@ use Rattle.nim_place.specs.declared.placement.Placement.{Placement}
 use Rattle.nim_place.specs.Extends.{is_live, worker_of}
 use Rattle.nim_place.specs.Stands.{commands_for}
 use Rattle.nim_place.specs.Versions.{Versions}
+use Rattle.nim_reuse.specs.Decisions.{Decisions}
 use Rattle.nim_course.specs.declared.pending.Pending.{Pending}
 use Rattle.nim_course.specs.declared.pending.Pending.TheVariants.{Begin, Idle, Block, Cell, Parts, Ended}
 use Rattle.nim_course.specs.Controller.{Controller}
@@ -44,10 +45,10 @@ own_homes job place live worker (c ∷ commands) all = either (c.0.0 == worker.0
   either false own rest = rest
 
 leading_homes : (job : Job) (place : Placement) (live : List Bool) (epoch position : ℕ) (to_come : Key → Bool) (given : List Directed)
-    (versions : Versions) → AreLeading job place live epoch position to_come given versions
+    (versions : Versions) (decisions : Decisions) → AreLeading job place live epoch position to_come given versions decisions
     → (worker : Worker) → is_live live worker ≡ true
     → All (λ (command : Command). RunsAtHome job place live worker command.kind) (commands_of (session_of (orders_to worker.0 given)).groups)
-leading_homes job place live epoch position to_come given versions leading worker there =
+leading_homes job place live epoch position to_come given versions decisions leading worker there =
     let Home : Command → Type 0 = λ command. RunsAtHome job place live worker command.kind in
     subst (All Home) (sym (leading.so_far.ask.asked worker there))
     (All-from_recursion Home (commands_for worker leading.commands)
@@ -63,15 +64,15 @@ homes_for job c given workers Begin are leading once = λ worker there.
     omega (arith, live_below c.live worker there, ap (λ (flags : List Bool). length flags) are, length-replicate workers true) in
     subst (λ (os : List ToWorker). All Home (commands_of (session_of os).groups)) (sym (once worker.0 below)) (All-nil Home)
 homes_for job c given workers Idle are leading once =
-    leading_homes job c.place c.live c.epoch c.position (is_key_from c.epoch c.instance) given c.versions leading
+    leading_homes job c.place c.live c.epoch c.position (is_key_from c.epoch c.instance) given c.versions c.decisions leading
 homes_for job c given workers (Block block args) are leading once =
-    leading_homes job c.place c.live c.epoch c.position (is_key_from c.epoch c.instance) given c.versions leading
+    leading_homes job c.place c.live c.epoch c.position (is_key_from c.epoch c.instance) given c.versions c.decisions leading
 homes_for job c given workers (Cell row cell) are leading once =
-    leading_homes job c.place c.live c.epoch c.position (is_key_from c.epoch c.instance) given c.versions leading
+    leading_homes job c.place c.live c.epoch c.position (is_key_from c.epoch c.instance) given c.versions c.decisions leading
 homes_for job c given workers (Parts var) are leading once =
-    leading_homes job c.place c.live c.epoch c.position (is_key_from c.epoch c.instance) given c.versions leading
+    leading_homes job c.place c.live c.epoch c.position (is_key_from c.epoch c.instance) given c.versions c.decisions leading
 homes_for job c given workers Ended are leading once =
-    leading_homes job c.place c.live c.epoch c.position (is_key_from c.epoch c.instance) given c.versions leading
+    leading_homes job c.place c.live c.epoch c.position (is_key_from c.epoch c.instance) given c.versions c.decisions leading
 
 pub are_at_homes : (s : ClusterState) → Leads s.job s.control s.put → IsOnCourse s → AreAtHomes s.job s.control s.put
 are_at_homes s leads course = homes_for s.job s.control s.put s.setup.workers s.control.pending course.live leads.leading course.once

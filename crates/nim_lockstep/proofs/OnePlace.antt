@@ -1,57 +1,52 @@
--- In a list whose items stand for numbers that rise, what stands for a number is at one place.
-use Rattle.std.proofs.Common.{◌≡◌, ℕ, zero, suc, ◌+◌, ◌≤◌, Bool, true, false, cond, List, [], ◌∷◌, ◌++◌, length, map, take, refl, ap, ap₂, sym, subst, ◌∙◌, arith, Option, None, Some}
-use Rattle.std.specs.Prelude.{◌==◌, slice_get}
-use Rattle.std.specs.List.{filter, flat_map, range_with_len}
+-- What runs a position: where each is run once, it is one worker's command at one place.
+use Rattle.std.proofs.Common.{◌≡◌, ℕ, zero, suc, ◌+◌, ◌<◌, ◌≤◌, Bool, true, false, cond, List, [], ◌∷◌, length, map, take, refl, ap, ap₂, sym, subst, ◌∙◌, arith, inl, inr, Option, None, Some}
+use Rattle.std.specs.Prelude.{◌==◌, ◌&&◌, if◌then◌else◌, count_by, nat_le, nat_lt, slice_get}
+use Rattle.std.specs.List.{filter, list_any}
 use Rattle.std.specs.Option.{option_map_or}
-use Rattle.std.proofs.lemmas.Bool.{both_ways, eqb-true}
+use Rattle.std.proofs.lemmas.Bool.{and_from, and_parts, both_ways, eq-eqb, eqb-true, le-leb, lt-ltb, ltb-true, or_cases, or_left}
 use Rattle.nim_base.specs.declared.number.Worker.{Worker}
 use Rattle.nim_command.specs.declared.command.Command.{Command}
+use Rattle.nim_command.specs.declared.command.Kind.{Kind}
+use Rattle.nim_command.specs.declared.command.Kind.TheVariants.{Run}
 use Rattle.nim_place.specs.Extends.{worker_of}
 use Rattle.nim_place.specs.Stands.{commands_for}
-use Rattle.nim_place.specs.TaskRuns.{position_run}
+use Rattle.nim_place.specs.TaskRuns.{AreRunOnce, position_run, times_run}
+use Rattle.nim_place.proofs.Pairs.{count_first}
 
 -- the numbers that the item at a place stands for
 abbrev pub numbers_at : {X : Type 0} → (X → List ℕ) → List X → ℕ → List ℕ
 numbers_at f xs place = option_map_or f (slice_get xs place) []
 
--- numbers from one on, each greater than those before it
-abbrev pub RisesFrom : ℕ → List ℕ → Type 0
-RisesFrom low [] = Unit {0}
-RisesFrom low (n ∷ ns) = (low ≤ n) × RisesFrom (n + 1) ns
+-- an item passes a test at a place
+abbrev pub PassesAt : {X : Type 0} → (X → Bool) → List X → ℕ → Type 0
+PassesAt test xs place = option_map_or test (slice_get xs place) false ≡ true
 
-range_rises : (from n : ℕ) → RisesFrom from (range_with_len from n)
-range_rises from zero = tt
-range_rises from (suc n) = (omega arith, range_rises (from + 1) n)
+-- where one passes at least one is counted
+counted_there : {X : Type 0} (test : X → Bool) (xs : List X) (place : ℕ) → PassesAt test xs place → 1 ≤ count_by test xs
+counted_there test [] place is = absurd (both_ways false refl is)
+counted_there test (x ∷ xs) zero is = let first = count_first test x xs true is in omega (arith, first)
+counted_there test (x ∷ xs) (suc place) is =
+    let first = count_first test x xs (test x) refl in let rest = counted_there test xs place is in omega (arith, first, rest)
 
-rising_lower : (low high : ℕ) (ns : List ℕ) → low ≤ high → RisesFrom high ns → RisesFrom low ns
-rising_lower low high [] below rises = tt
-rising_lower low high (n ∷ ns) below rises = (omega (arith, below, rises.0), rises.1)
+-- where at most one is counted, one passes at one place
+one_passes : {X : Type 0} (test : X → Bool) (xs : List X) (one other : ℕ) → count_by test xs ≤ 1 → PassesAt test xs one → PassesAt test xs other → one ≡ other
+one_passes test [] one other few first second = absurd (both_ways false refl first)
+one_passes test (x ∷ xs) zero zero few first second = refl
+one_passes test (x ∷ xs) zero (suc other) few first second =
+    let counted = count_first test x xs true first in let more = counted_there test xs other second in absurd (omega (arith, few, counted, more))
+one_passes test (x ∷ xs) (suc one) zero few first second =
+    let counted = count_first test x xs true second in let more = counted_there test xs one first in absurd (omega (arith, few, counted, more))
+one_passes test (x ∷ xs) (suc one) (suc other) few first second =
+    let counted = count_first test x xs (test x) refl in
+    ap (λ (n : ℕ). suc n) (one_passes test xs one other (omega (arith, few, counted)) first second)
 
-rising_behind : (low : ℕ) (ms ns : List ℕ) → RisesFrom low (ms ++ ns) → RisesFrom low ns
-rising_behind low [] ns rises = rises
-rising_behind low (m ∷ ms) ns rises = rising_lower low (m + 1) ns (omega (arith, rises.0)) (rising_behind (m + 1) ms ns rises.1)
-
--- the first item stands for this number alone
-first_rises : {X : Type 0} (f : X → List ℕ) (x : X) (xs : List X) (low p : ℕ) → RisesFrom low (f x ++ flat_map f xs) → f x ≡ p ∷ []
-    → (low ≤ p) × RisesFrom (p + 1) (flat_map f xs)
-first_rises f x xs low p rises is = subst (λ (ns : List ℕ). RisesFrom low (ns ++ flat_map f xs)) is rises
-
--- no number is below the first
-none_below : {X : Type 0} (f : X → List ℕ) (xs : List X) (low place p : ℕ) → RisesFrom low (flat_map f xs) → numbers_at f xs place ≡ p ∷ [] → low ≤ p
-none_below f [] low place p rises is = absurd cc
-none_below f (x ∷ xs) low zero p rises is = (first_rises f x xs low p rises is).0
-none_below f (x ∷ xs) low (suc place) p rises is = none_below f xs low place p (rising_behind low (f x) (flat_map f xs) rises) is
-
-one_place : {X : Type 0} (f : X → List ℕ) (xs : List X) (low one other p : ℕ) → RisesFrom low (flat_map f xs) → numbers_at f xs one ≡ p ∷ []
-    → numbers_at f xs other ≡ p ∷ [] → one ≡ other
-one_place f [] low one other p rises first second = absurd cc
-one_place f (x ∷ xs) low zero zero p rises first second = refl
-one_place f (x ∷ xs) low zero (suc other) p rises first second =
-    let past : p + 1 ≤ p = none_below f xs (p + 1) other p (first_rises f x xs low p rises first).1 second in absurd (omega (arith, past))
-one_place f (x ∷ xs) low (suc one) zero p rises first second =
-    let past : p + 1 ≤ p = none_below f xs (p + 1) one p (first_rises f x xs low p rises second).1 first in absurd (omega (arith, past))
-one_place f (x ∷ xs) low (suc one) (suc other) p rises first second =
-    ap (λ (n : ℕ). suc n) (one_place f xs low one other p (rising_behind low (f x) (flat_map f xs) rises) first second)
+-- what stands for a number is one of those that do
+stands_for : {X : Type 0} (f : X → List ℕ) (xs : List X) (place p : ℕ) → numbers_at f xs place ≡ p ∷ []
+    → PassesAt (λ (x : X). list_any (λ (q : ℕ). q == p) (f x)) xs place
+stands_for {X} f xs place p is = either (slice_get xs place) is where
+  either : (o : Option X) → option_map_or f o [] ≡ p ∷ [] → option_map_or (λ (x : X). list_any (λ (q : ℕ). q == p) (f x)) o false ≡ true
+  either None is = absurd cc
+  either (Some x) is = ap (list_any (λ (q : ℕ). q == p)) is ∙ or_left (p == p) false (eq-eqb p p refl)
 
 -- ---- the items of a list that pass a test
 
@@ -92,6 +87,20 @@ numbers_map g f [] place = refl
 numbers_map g f (x ∷ xs) zero = refl
 numbers_map g f (x ∷ xs) (suc place) = numbers_map g f xs place
 
+-- ---- counts of one or none
+
+few_times : (b : Bool) (n : ℕ) → n ≡ (if b then 1 else 0) → n ≤ 1
+few_times true n is = omega (arith, is)
+few_times false n is = omega (arith, is)
+
+some_time : (b : Bool) (n : ℕ) → n ≡ (if b then 1 else 0) → 1 ≤ n → b ≡ true
+some_time true n is some = refl
+some_time false n is some = absurd (omega (arith, is, some))
+
+one_time : (b : Bool) (n : ℕ) → n ≡ (if b then 1 else 0) → b ≡ true → 1 ≤ n
+one_time true n is holds = omega (arith, is)
+one_time false n is holds = absurd (both_ways false refl holds)
+
 -- ---- the commands of all workers
 
 -- the position that a command runs
@@ -107,21 +116,97 @@ same_worker one other None first second = absurd (both_ways false refl first)
 same_worker one other (Some c) first second = sym (eqb-true c.0.0 one first) ∙ eqb-true c.0.0 other second
 
 -- the run of a task is one worker's, at one place
-pub one_run : (commands : List (Worker × Command)) (from n one other place there p : ℕ)
-    → flat_map (λ (c : Worker × Command). position_run c.1.kind) commands ≡ range_with_len from n
+pub one_run : (commands : List (Worker × Command)) (from n one other place there p : ℕ) → AreRunOnce from n commands
     → numbers_at run_in (commands_for (worker_of one) commands) place ≡ p ∷ []
     → numbers_at run_in (commands_for (worker_of other) commands) there ≡ p ∷ [] → (one ≡ other) × (place ≡ there)
 one_run commands from n one other place there p runs first second =
     let f : Worker × Command → List ℕ = λ c. position_run c.1.kind in
-    let rises : RisesFrom from (flat_map f commands) = subst (RisesFrom from) (sym runs) (range_rises from n) in
     let a : IsPassing (of_worker one) f commands place p =
     passing_at (of_worker one) f commands place p
     (sym (numbers_map (λ (c : Worker × Command). c.1) run_in (filter (of_worker one) commands) place) ∙ first) in
     let b : IsPassing (of_worker other) f commands there p =
     passing_at (of_worker other) f commands there p
     (sym (numbers_map (λ (c : Worker × Command). c.1) run_in (filter (of_worker other) commands) there) ∙ second) in
-    let same : a.whole ≡ b.whole = one_place f commands from a.whole b.whole p rises a.there b.there in
+    let same : a.whole ≡ b.whole =
+    one_passes (λ (c : Worker × Command). list_any (λ (q : ℕ). q == p) (f c)) commands a.whole b.whole
+    (few_times (nat_le from p && nat_lt p (from + n)) (times_run p commands) (runs p)) (stands_for f commands a.whole p a.there)
+    (stands_for f commands b.whole p b.there) in
     let worker : one ≡ other =
     same_worker one other (slice_get commands a.whole) a.passes
     (subst (λ (k : ℕ). option_map_or (of_worker other) (slice_get commands k) false ≡ true) (sym same) b.passes) in
     (worker, a.counts ∙ ap₂ (λ (w k : ℕ). length (filter (of_worker w) (take k commands))) worker same ∙ sym b.counts)
+
+-- ---- where a position is run
+
+-- a position that is run is one of those from the first on
+pub within_runs : (commands : List (Worker × Command)) (from n number place p : ℕ) → AreRunOnce from n commands
+    → numbers_at run_in (commands_for (worker_of number) commands) place ≡ p ∷ [] → p < from + n
+within_runs commands from n number place p runs is =
+    let f : Worker × Command → List ℕ = λ c. position_run c.1.kind in
+    let a : IsPassing (of_worker number) f commands place p =
+    passing_at (of_worker number) f commands place p
+    (sym (numbers_map (λ (c : Worker × Command). c.1) run_in (filter (of_worker number) commands) place) ∙ is) in
+    let counted : 1 ≤ times_run p commands =
+    counted_there (λ (c : Worker × Command). list_any (λ (q : ℕ). q == p) (f c)) commands a.whole (stands_for f commands a.whole p a.there) in
+    ltb-true p (from + n)
+    (and_parts (nat_le from p) (nat_lt p (from + n)) (some_time (nat_le from p && nat_lt p (from + n)) (times_run p commands) (runs p) counted)).1
+
+-- a worker that runs it
+pub record IsRunBy (commands : List (Worker × Command)) (p : ℕ) : Type 0 where
+  pub worker : Worker
+  pub place : ℕ
+  pub runs : numbers_at run_in (commands_for worker commands) place ≡ p ∷ []
+
+-- a command that runs a position runs it alone
+runs_alone : (p : ℕ) (kind : Kind) → list_any (λ (q : ℕ). q == p) (position_run kind) ≡ true → position_run kind ≡ p ∷ []
+runs_alone p (Run position func params reads writes) is =
+    elim (or_cases (position == p) false is) [
+      | inl same ↦ ap (λ (q : ℕ). q ∷ []) (eqb-true position p same)
+      | inr none ↦ absurd (both_ways false refl none)
+    ]
+runs_alone p kind is = absurd (both_ways false refl is)
+
+found_run : (commands : List (Worker × Command)) (p : ℕ) → 1 ≤ times_run p commands → IsRunBy commands p
+found_run [] p some = absurd (omega (arith, some))
+found_run (c ∷ commands) p some = either (test c) refl (λ later. found_run commands p later) where
+  test : Worker × Command → Bool
+  test one = list_any (λ (q : ℕ). q == p) (position_run one.1.kind)
+
+  own : (worker : Worker) → List (Worker × Command)
+  own worker = filter (λ (one : Worker × Command). one.0.0 == worker.0) commands
+
+  behind : (rest : IsRunBy commands p) (b : Bool) → (c.0.0 == rest.worker.0) ≡ b → IsRunBy (c ∷ commands) p
+  behind rest true same =
+      record {
+        worker = rest.worker;
+        place = suc rest.place;
+        runs = ap
+            (λ (b : Bool). numbers_at run_in (map (λ (one : Worker × Command). one.1) (cond b (c ∷ own rest.worker) (own rest.worker))) (suc rest.place)) same
+            ∙ rest.runs;
+      }
+  behind rest false same =
+      record {
+        worker = rest.worker;
+        place = rest.place;
+        runs = ap (λ (b : Bool). numbers_at run_in (map (λ (one : Worker × Command). one.1) (cond b (c ∷ own rest.worker) (own rest.worker))) rest.place) same
+            ∙ rest.runs;
+      }
+
+  either : (b : Bool) → test c ≡ b → (1 ≤ times_run p commands → IsRunBy commands p) → IsRunBy (c ∷ commands) p
+  either true is later =
+      record {
+        worker = c.0;
+        place = 0;
+        runs = ap (λ (b : Bool). numbers_at run_in (map (λ (one : Worker × Command). one.1) (cond b (c ∷ own c.0) (own c.0))) 0) (eq-eqb c.0.0 c.0.0 refl)
+            ∙ runs_alone p c.1.kind is;
+      }
+  either false is later =
+      let counted = count_first test c commands false is in
+      let rest : IsRunBy commands p = later (omega (arith, counted, some)) in behind rest (c.0.0 == rest.worker.0) refl
+
+-- each of so many positions from one on is run by a worker
+pub position_run_by : (commands : List (Worker × Command)) (from n p : ℕ) → AreRunOnce from n commands → from ≤ p → p < from + n → IsRunBy commands p
+position_run_by commands from n p runs low high =
+    found_run commands p
+    (one_time (nat_le from p && nat_lt p (from + n)) (times_run p commands) (runs p)
+    (and_from (nat_le from p) (nat_lt p (from + n)) (le-leb from p low) (lt-ltb p (from + n) high)))

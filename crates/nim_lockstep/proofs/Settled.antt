@@ -1,21 +1,22 @@
 -- How the job of a controller ends that loses no worker: done only where no instance is in flight, never for want of a worker.
 use Rattle.std.proofs.Common.{◌≡◌, ◌≢◌, ℕ, zero, suc, Bool, true, false, List, [], ◌∷◌, length, refl, sym, subst, ◌∙◌, None, Some, arith}
-use Rattle.std.specs.Prelude.{◌==◌, nat_le, if◌then◌else◌}
+use Rattle.std.specs.Prelude.{◌==◌, ℤ, nat_le, if◌then◌else◌}
 use Rattle.std.proofs.lemmas.Bool.{leb-false}
 use Rattle.nim_base.specs.declared.number.Worker.{Worker}
 use Rattle.nim_message.specs.declared.report.FromWorker.{FromWorker}
-use Rattle.nim_message.specs.declared.report.FromWorker.TheVariants.{Value, Ran, NoMemory}
+use Rattle.nim_message.specs.declared.report.FromWorker.TheVariants.{Value, Ran, Through, NoMemory}
 use Rattle.nim_job.specs.declared.ask.Ask.{Ask}
 use Rattle.nim_job.specs.Machine.{ask_of}
 use Rattle.nim_place.specs.Extends.{is_live}
+use Rattle.nim_reuse.specs.Decisions.{is_recorded}
 use Rattle.nim_course.specs.declared.outcome.Outcome.{Outcome}
 use Rattle.nim_course.specs.declared.outcome.Outcome.TheVariants.{Done, NoWorker}
 use Rattle.nim_course.specs.declared.pending.Pending.{Pending}
 use Rattle.nim_course.specs.declared.pending.Pending.TheVariants.{Begin, Idle, Block, Cell, Parts, Ended}
 use Rattle.nim_course.specs.Controller.{Controller, Flight}
 use Rattle.nim_place.specs.Directed.{Directed}
-use Rattle.nim_course.specs.Moves.{AreFree, IsTurned, after_moves, asked, does_wait, done_with}
-use Rattle.nim_course.specs.Reports.{after_report, flight_after, reported, told}
+use Rattle.nim_course.specs.Moves.{AreFree, IsTurned, after_moves, asked, does_wait, done_with, with_block}
+use Rattle.nim_course.specs.Reports.{after_report, flight_after, flight_through, reported, told}
 use Rattle.nim_course.proofs.Standing.{held_parts}
 
 -- how it ends
@@ -49,10 +50,14 @@ none_fly : (flights : List Flight) → nat_le 1 (length flights) ≡ false → f
 none_fly [] is = refl
 none_fly (flight ∷ flights) is = absurd (omega (arith, leb-false 1 (length (flight ∷ flights)) is))
 
+block_settled : (recorded : Bool) (c : Controller) (block : ℕ) (args : List ℤ) → c.outcome ≡ None → EndsSettled (with_block recorded c block args)
+block_settled false c block args none = none_settled (with_block false c block args) none
+block_settled true c block args none = none_settled (with_block true c block args) none
+
 done_settled : (c : Controller) (pending : Pending) → c.outcome ≡ None → does_wait c pending ≡ false → EndsSettled (done_with c pending)
 done_settled c Begin none free = none_settled (done_with c Begin) none
 done_settled c Idle none free = asked_settled c (ask_of c.machine) none
-done_settled c (Block block args) none free = none_settled (done_with c (Block block args)) none
+done_settled c (Block block args) none free = block_settled (is_recorded c.decisions block) c block args none
 done_settled c (Cell row cell) none free = none_settled (done_with c (Cell row cell)) none
 done_settled c (Parts var) none free = none_settled (done_with c (Parts var)) none
 done_settled c Ended none free =
@@ -83,6 +88,10 @@ reported_settled c from (Value epoch ticket object version value) none = either 
 reported_settled c from (Ran epoch position reads) none = either (epoch == c.epoch) where
   either : (b : Bool) → EndsSettled (if b then record c { flight = flight_after from position c.flight } else c)
   either true = none_settled (record c { flight = flight_after from position c.flight }) none
+  either false = none_settled c none
+reported_settled c from (Through epoch instance) none = either (epoch == c.epoch) where
+  either : (b : Bool) → EndsSettled (if b then record c { flight = flight_through from instance c.flight } else c)
+  either true = none_settled (record c { flight = flight_through from instance c.flight }) none
   either false = none_settled c none
 reported_settled c from NoMemory none = other_settled (reported c from NoMemory) Outcome.NoMemory refl (λ is. absurd cc) (λ is. absurd cc)
 reported_settled c from report none = none_settled c none

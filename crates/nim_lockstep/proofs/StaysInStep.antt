@@ -1,16 +1,21 @@
 -- A cluster that is under way is in step, and each that events lead to is under way.
-use Rattle.std.proofs.Common.{◌≡◌, ℕ, zero, suc, ◌<◌, true, List, length, get_or, sym, subst, Some, arith}
-use Rattle.std.specs.Prelude.{◌||◌, All}
+use Rattle.std.proofs.Common.{◌≡◌, ℕ, zero, suc, ◌<◌, Bool, true, false, List, [], length, get_or, ap, sym, subst, Some, arith}
+use Rattle.std.specs.Prelude.{◌||◌, if◌then◌else◌, All}
 use Rattle.std.specs.List.{list_any}
 use Rattle.std.proofs.lemmas.Option.{slice_get-get_or}
+use Rattle.nim_command.specs.Waits.{Group}
 use Rattle.nim_job.specs.Serial.{tasks_of}
 use Rattle.nim_course.specs.declared.outcome.Outcome.TheVariants.{Done}
+use Rattle.nim_course.specs.declared.pending.Pending.TheVariants.{Ended}
 use Rattle.nim_course.specs.Controller.{Flight}
+use Rattle.nim_history.specs.History.{Asked}
 use Rattle.nim_lockstep.specs.Cluster.{ClusterState, unbegun}
 use Rattle.nim_lockstep.specs.InStep.{AreSteps, HasTruth, IsInStep, IsReached, has_run}
 use Rattle.nim_lockstep.specs.Law.{ClustersStayInStep}
 use Rattle.nim_lockstep.proofs.AtHomes.{are_at_homes}
-use Rattle.nim_lockstep.proofs.UnderWay.{IsUnderWay, NodesGoOn, is_awaited_in}
+use Rattle.nim_lockstep.proofs.BegunOnce.{is_begin}
+use Rattle.nim_lockstep.proofs.Places.{IsGivenTo, given_to, leading_on}
+use Rattle.nim_lockstep.proofs.UnderWay.{IsUnderWay, NodesGoOn, awaits_through, is_awaited_by, is_awaited_in, is_from_instance}
 use Rattle.nim_lockstep.proofs.UnderWayGoes.{step_goes, turn_goes, unbegun_goes}
 
 -- what waits on links is true
@@ -18,13 +23,27 @@ all_true : (s : ClusterState) → IsUnderWay s → All (HasTruth s.job) s.nodes
 all_true s under = λ number d below.
     (under.nodes.each number (get_or s.nodes number d) (slice_get-get_or s.nodes number d below)).waiting
 
+-- where no instance is in flight nothing is awaited
+none_awaited : (number : ℕ) (group : Group) (position : ℕ) (ran : Bool) → (is_awaited_by [] number group position || ran) ≡ true → ran ≡ true
+none_awaited number group position ran = either (is_from_instance group.source) where
+  either : (b : Bool)
+      → ((if b then list_any (awaits_through number group.instance) [] else list_any (is_awaited_in position) []) || ran) ≡ true → ran ≡ true
+  either true is = is
+  either false is = is
+
 -- once the job is done each task was run
 all_ran : (s : ClusterState) → IsUnderWay s → s.control.outcome ≡ Some Done → (position : ℕ) → position < length (tasks_of s.job)
     → has_run s.trace position ≡ true
 all_ran s under done position below =
-    let all : s.control.position ≡ length (tasks_of s.job) = under.leads.all_run (under.leads.done done) in
-    subst (λ (flights : List Flight). (list_any (is_awaited_in position) flights || has_run s.trace position) ≡ true) (under.settled done)
-    (under.accounted position (omega (arith, below, all)))
+    let ended : s.control.pending ≡ Ended = under.leads.done done in
+    let all : s.control.position ≡ length (tasks_of s.job) = under.leads.all_run ended in
+    let to : IsGivenTo s.setup.workers s.put position =
+    given_to s.job s.control s.put s.setup.workers position under.course.live under.course.epoch
+    (leading_on s.job s.control s.put s.control.pending (ap is_begin ended) under.leads.leading) (omega (arith, below, all)) in
+    let asked : Asked = to.runs.asked in
+    none_awaited to.number asked.group position (has_run s.trace position)
+    (subst (λ (flights : List Flight). (is_awaited_by flights to.number asked.group position || has_run s.trace position) ≡ true) (under.settled done)
+    (under.accounted to.number to.below to.place asked to.runs.there position to.runs.runs))
 
 pub under_way_in_step : (s : ClusterState) → IsUnderWay s → IsInStep s
 under_way_in_step s under = record {

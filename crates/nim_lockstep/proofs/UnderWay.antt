@@ -1,5 +1,5 @@
 -- A cluster that is under way: what is true of it from event to event, from which it follows that it is in step.
-use Rattle.std.specs.Prelude.{◌≡◌, ◌≢◌, ℕ, ◌-◌, ◌≤◌, ◌<◌, nat_le, Bool, true, false, ◌&&◌, ◌||◌, List, [], ◌∷◌, ◌++◌, length, map, replicate, All, Option, Some, IfSome, IsSomeAnd, slice_get}
+use Rattle.std.specs.Prelude.{◌≡◌, ◌≢◌, ℕ, ◌-◌, ◌≤◌, ◌<◌, ◌==◌, nat_le, if◌then◌else◌, Bool, true, false, ◌&&◌, ◌||◌, List, [], ◌∷◌, ◌++◌, length, map, replicate, All, Option, Some, IfSome, IsSomeAnd, slice_get}
 use Rattle.std.specs.List.{flat_map, list_any}
 use Rattle.std.specs.Option.{is_some, option_map_or}
 use Rattle.nim_base.specs.declared.number.Worker.{Worker}
@@ -16,8 +16,8 @@ use Rattle.nim_course.specs.declared.outcome.Outcome.TheVariants.{Done, NoWorker
 use Rattle.nim_course.specs.declared.pending.Pending.{Pending}
 use Rattle.nim_course.specs.declared.pending.Pending.TheVariants.{Begin}
 use Rattle.nim_course.specs.declared.setup.Setup.{Setup}
-use Rattle.nim_course.specs.Controller.{Controller, Flight}
-use Rattle.nim_place.specs.Directed.{orders_to}
+use Rattle.nim_course.specs.Controller.{Flight}
+use Rattle.nim_place.specs.Directed.{Directed, orders_to}
 use Rattle.nim_course.specs.Leads.{Leads}
 use Rattle.nim_place.specs.TaskRuns.{position_run}
 use Rattle.nim_history.specs.History.{Asked, IsHistory, WorkerState, asked_at, orders_in, state_of}
@@ -129,11 +129,41 @@ is_awaited_in position flight =
     nat_le flight.base position
     && option_map_or (λ (run : Option Worker). is_some run) (slice_get flight.runs (position - flight.base)) false
 
--- each task that was given is awaited or was run
-abbrev pub AreAccounted : Controller → List ran_type → Type 0
-AreAccounted c trace =
-    (position : ℕ) → position < c.position
-    → (list_any (is_awaited_in position) c.flight || has_run trace position) ≡ true
+-- whether a worker is to report that it is through with an instance
+abbrev pub awaits_through : ℕ → ℕ → Flight → Bool
+awaits_through number instance flight =
+    (flight.instance == instance) && list_any (λ (worker : Worker). worker.0 == number) flight.through
+
+-- whether a run is awaited that a worker is asked for in this group: the instance's end, or the run itself
+abbrev pub is_awaited_by : List Flight → ℕ → Group → ℕ → Bool
+is_awaited_by flights number group position =
+    if is_from_instance group.source then list_any (awaits_through number group.instance) flights
+    else list_any (is_awaited_in position) flights
+
+-- the run of this position that a worker is asked for is awaited or was performed
+abbrev pub IsAccounted : List Flight → List ran_type → ℕ → Asked → Type 0
+IsAccounted flights trace number asked =
+    (position : ℕ) → position_run asked.command.kind ≡ position ∷ []
+    → (is_awaited_by flights number asked.group position || has_run trace position) ≡ true
+
+-- each run that so many workers are asked for is awaited or was performed
+abbrev pub AreAccounted : List Flight → ℕ → List Directed → List ran_type → Type 0
+AreAccounted flights workers put trace =
+    (number : ℕ) → number < workers → (place : ℕ) (asked : Asked)
+    → asked_at (session_of (orders_to number put)).groups place ≡ Some asked → IsAccounted flights trace number asked
+
+-- groups that came from instances are of instances before this one, no two of the same
+pub record AreSeparate (instance : ℕ) (groups : List Group) : Type 0 where
+  pub before : (number : ℕ) (group : Group) → slice_get groups number ≡ Some group
+      → is_from_instance group.source ≡ true → group.instance < instance
+  pub apart : (one other : ℕ) (first second : Group) → slice_get groups one ≡ Some first
+      → slice_get groups other ≡ Some second → is_from_instance first.source ≡ true
+      → is_from_instance second.source ≡ true → first.instance ≡ second.instance → one ≡ other
+
+-- so they are at each of so many workers
+abbrev pub AreAllSeparate : ℕ → ℕ → List Directed → Type 0
+AreAllSeparate instance workers put =
+    (number : ℕ) → number < workers → AreSeparate instance (session_of (orders_to number put)).groups
 
 -- A controller is in its first epoch, and all its workers are live.
 pub record IsOnCourse (s : ClusterState) : Type 0 where
@@ -149,7 +179,8 @@ pub record IsUnderWay (s : ClusterState) : Type 0 where
   pub leads : Leads s.job s.control s.put
   pub course : IsOnCourse s
   pub nodes : AreUnderWay s
-  pub accounted : AreAccounted s.control s.trace
+  pub accounted : AreAccounted s.control.flight s.setup.workers s.put s.trace
+  pub separate : AreAllSeparate s.control.instance s.setup.workers s.put
   pub settled : s.control.outcome ≡ Some Done → s.control.flight ≡ []
   pub some : s.control.outcome ≢ Some NoWorker
   pub done : All (IsDone s.nodes) s.trace

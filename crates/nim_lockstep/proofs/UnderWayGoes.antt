@@ -1,5 +1,5 @@
 -- A cluster is under way from event to event.
-use Rattle.std.proofs.Common.{◌≡◌, ℕ, ◌≤◌, Bool, true, false, not, List, [], ◌∷◌, ◌++◌, refl, sym, subst, Option, None, Some, arith}
+use Rattle.std.proofs.Common.{◌≡◌, ℕ, ◌≤◌, Bool, true, false, not, List, [], ◌∷◌, ◌++◌, refl, sym, subst, Option, None, Some}
 use Rattle.std.specs.Prelude.{All, IfSome, slice_get}
 use Rattle.std.specs.Option.{is_some, option_map_or}
 use Rattle.std.proofs.lemmas.Bool.{and_parts, both_ways, cond-false, not-true}
@@ -14,81 +14,38 @@ use Rattle.nim_place.specs.Extends.{worker_of}
 use Rattle.nim_plan.specs.Good.{IsGood}
 use Rattle.nim_course.specs.declared.outcome.Outcome.{Outcome}
 use Rattle.nim_course.specs.declared.setup.Setup.{Setup}
-use Rattle.nim_course.specs.Controller.{Controller, new_controller}
-use Rattle.nim_place.specs.Directed.{Directed, orders_to}
-use Rattle.nim_course.specs.Leads.{Leads}
+use Rattle.nim_course.specs.Controller.{new_controller}
+use Rattle.nim_place.specs.Directed.{orders_to}
 use Rattle.nim_course.proofs.Reports.{report_leads}
 use Rattle.nim_course.proofs.Starts.{start_leads}
 use Rattle.nim_course.proofs.Turns.{turn_leads}
-use Rattle.nim_history.specs.History.{state_of}
+use Rattle.nim_history.specs.History.{Asked, asked_at, state_of}
 use Rattle.nim_lockstep.specs.declared.ran.Ran.{Ran}
 use Rattle.nim_lockstep.specs.Cluster.{Batched, ClusterState, Node, has_ended, unbegun}
 use Rattle.nim_lockstep.specs.Events.{HasTurned, IsPassed, IsStep, at_node, batch_finished, is_enabled, may_come, noted, passed, report_taken}
 use Rattle.nim_lockstep.specs.InStep.{AreOnce, ReadsByOrder}
 use Rattle.nim_lockstep.specs.Nodes.{begun, frame_taken, frames_from, order_taken, runs_by}
-use Rattle.nim_lockstep.proofs.Accounted.{longer_accounted, report_accounted, turn_accounted}
 use Rattle.nim_lockstep.proofs.Apart.{are_apart}
-use Rattle.nim_lockstep.proofs.Course.{KeepsTo, report_keeps, turn_keeps}
-use Rattle.nim_lockstep.proofs.Keeping.{HasOtherNodes, finish_beside, finished_to, node_beside, turn_beside, turned_to}
+use Rattle.nim_lockstep.proofs.Counted.{IsCounted, turn_counted}
+use Rattle.nim_lockstep.proofs.Course.{report_keeps, turn_keeps}
+use Rattle.nim_lockstep.proofs.Keeping.{finish_beside, finished_to, node_beside, turn_beside, turned_to}
 use Rattle.nim_lockstep.proofs.Once.{finish_once}
-use Rattle.nim_lockstep.proofs.Settled.{EndsSettled, none_settled, report_settled, turn_settled}
-use Rattle.nim_lockstep.proofs.UnderWay.{AreAccounted, AreUnderWay, IsBatchRight, IsDone, IsTold, IsUnderWay, NodesGoOn}
-
--- ---- the controller's half
-
--- what a controller and the orders that it gave keep
-record IsPlanned (job : Job) (setup : Setup) (c : Controller) (put : List Directed) : Type 0 where
-  least : 1 ≤ setup.workers
-  most : setup.workers ≤ 16
-  leads : Leads job c put
-  keeps : KeepsTo setup c put
-  settled : EndsSettled c
-
-planned : (s : ClusterState) → IsUnderWay s → IsPlanned s.job s.setup s.control s.put
-planned s under = record {
-  least = under.least;
-  most = under.most;
-  leads = under.leads;
-  keeps = record { live = under.course.live; place = under.course.place; epoch = under.course.epoch; once = under.course.once };
-  settled = record { settled = under.settled; some = under.some };
-}
-
--- both halves
-together : (s : ClusterState) → IsPlanned s.job s.setup s.control s.put → AreUnderWay s → AreAccounted s.control s.trace → All (IsDone s.nodes) s.trace
-    → All (ReadsByOrder s.job) s.trace → AreOnce s.trace → IsUnderWay s
-together s plan nodes accounted done reads once = record {
-  least = plan.least;
-  most = plan.most;
-  leads = plan.leads;
-  course = record { live = plan.keeps.live; place = plan.keeps.place; epoch = plan.keeps.epoch; once = plan.keeps.once };
-  nodes = nodes;
-  accounted = accounted;
-  settled = plan.settled.settled;
-  some = plan.settled.some;
-  done = done;
-  reads = reads;
-  once = once;
-}
-
--- where only the workers change
-beside_planned : (before after : ClusterState) → HasOtherNodes before after → IsPlanned before.job before.setup before.control before.put
-    → IsPlanned after.job after.setup after.control after.put
-beside_planned before after beside plan =
-    subst (λ (job : Job). IsPlanned job after.setup after.control after.put) (sym beside.job)
-    (subst (λ (setup : Setup). IsPlanned before.job setup after.control after.put) (sym beside.setup)
-    (subst (λ (c : Controller). IsPlanned before.job before.setup c after.put) (sym beside.control)
-    (subst (IsPlanned before.job before.setup before.control) (sym beside.put) plan)))
-
--- from a cluster where all but the workers is right
-beside_goes : (before after : ClusterState) → HasOtherNodes before after → IsPlanned before.job before.setup before.control before.put
-    → AreAccounted before.control before.trace → AreOnce before.trace → AreUnderWay after → All (IsDone after.nodes) after.trace
-    → All (ReadsByOrder before.job) after.trace → IsUnderWay after
-beside_goes before after beside plan accounted once nodes done reads =
-    together after (beside_planned before after beside plan) nodes
-    (subst (λ (c : Controller). AreAccounted c after.trace) (sym beside.control) (subst (AreAccounted before.control) (sym beside.trace) accounted)) done
-    (subst (λ (job : Job). All (ReadsByOrder job) after.trace) (sym beside.job) reads) (subst AreOnce (sym beside.trace) once)
+use Rattle.nim_lockstep.proofs.Planned.{beside_goes, counted_by, planned, together}
+use Rattle.nim_lockstep.proofs.Reported.{longer_counted, report_counted}
+use Rattle.nim_lockstep.proofs.Separate.{none_separate}
+use Rattle.nim_lockstep.proofs.Settled.{none_settled, report_settled, turn_settled}
+use Rattle.nim_lockstep.proofs.UnderWay.{AreUnderWay, IsBatchRight, IsDone, IsTold, IsUnderWay, NodesGoOn}
 
 -- ---- the first turn, and the others
+
+-- no worker was asked for anything
+unbegun_counted : (job : Job) (setup : Setup) → IsCounted setup (new_controller job setup) [] []
+unbegun_counted job setup = record {
+  accounted = λ number below place asked there position runs. absurd (none_asked place asked there);
+  separate = λ number below. none_separate 0;
+} where
+  none_asked : (place : ℕ) (asked : Asked) → asked_at [] place ≡ Some asked → ⊥
+  none_asked place asked there = cc
 
 pub unbegun_goes : NodesGoOn → (job : Job) (setup : Setup) → is_whole job ≡ true → 1 ≤ setup.workers → setup.workers ≤ 16
     → IsUnderWay (unbegun job setup)
@@ -101,7 +58,7 @@ unbegun_goes go job setup whole least most =
       keeps = record { live = refl; place = refl; epoch = refl; once = λ number below. refl };
       settled = none_settled (new_controller job setup) refl;
     })
-    (go.starts job setup whole) (λ position below. absurd (omega (arith, below))) (All-nil (IsDone (unbegun job setup).nodes))
+    (go.starts job setup whole) (unbegun_counted job setup) (All-nil (IsDone (unbegun job setup).nodes))
     (All-nil (ReadsByOrder job)) tt
 
 pub turn_goes : NodesGoOn → (before after : ClusterState) → IsUnderWay before → HasTurned before after → IsUnderWay after
@@ -117,8 +74,9 @@ turn_goes go before after under turned =
       keeps = keeps;
       settled = turn_settled before.control turned.control turned.orders plan.settled turned.turned;
     })
-    (turn_accounted before.control turned.control turned.orders before.trace under.accounted turned.turned) under.once
-    (go.turned before after turned under.nodes keeps.once) (go.done_turned before after turned under.done)
+    (turn_counted before.job before.setup before.control turned.control before.put turned.orders before.trace
+    (record { leads = under.leads; keeps = plan.keeps }) turned.turned (counted_by before under))
+    under.once (go.turned before after turned under.nodes keeps.once) (go.done_turned before after turned under.done)
     (subst (All (ReadsByOrder before.job)) (sym beside.trace) under.reads)
 
 -- ---- what an event does before the turn
@@ -132,7 +90,8 @@ record IsHandled (s next : ClusterState) : Type 0 where
 node_goes : (s : ClusterState) (change : Node → Node) (number : ℕ) → IsUnderWay s → IsHandled s (at_node change number s)
     → IsUnderWay (at_node change number s)
 node_goes s change number under handled =
-    beside_goes s (at_node change number s) (node_beside change number s) (planned s under) under.accounted under.once handled.nodes handled.done handled.reads
+    beside_goes s (at_node change number s) (node_beside change number s) (planned s under) (counted_by s under) under.once
+    handled.nodes handled.done handled.reads
 
 -- a batch that is finished
 finish_goes : NodesGoOn → (s : ClusterState) (number : ℕ) (node : Node) (b : Batched) → IsUnderWay s → slice_get s.nodes number ≡ Some node
@@ -140,7 +99,7 @@ finish_goes : NodesGoOn → (s : ClusterState) (number : ℕ) (node : Node) (b :
 finish_goes go s number node b under at right handled =
     let runs : runs_by b ≡ b.runs = cond-false b.stale [] b.runs right.fresh in
     beside_goes (finished_to number node s b) (batch_finished number node s b) (finish_beside number node s b) (planned s under)
-    (longer_accounted s.control s.trace (runs_by b) under.accounted)
+    (longer_counted s.setup s.control s.put s.trace (runs_by b) (counted_by s under))
     (subst (λ (more : List Ran). AreOnce (s.trace ++ more)) (sym runs) (finish_once go s number node b under (are_apart s under.leads under.course) at right))
     handled.nodes handled.done handled.reads
 
@@ -174,7 +133,7 @@ report_goes s number node report rest under none good told handled =
       keeps = report_keeps s.setup s.control s.put from report plan.keeps;
       settled = report_settled s.control from report none;
     })
-    handled.nodes (report_accounted s.control from report (orders_to number s.put) s.trace told under.accounted) handled.done handled.reads under.once
+    handled.nodes (report_counted s.setup s.control s.put number report s.trace told (counted_by s under)) handled.done handled.reads under.once
 
 taken_goes : (s : ClusterState) (number : ℕ) (node : Node) (reports : List FromWorker) → IsUnderWay s → s.control.outcome ≡ None
     → All (IsGood s.job) reports → All (IsTold (orders_to number s.put) s.trace) reports → IsHandled s (report_taken number node reports s)
@@ -224,7 +183,7 @@ noted_goes : (s : ClusterState) (event : Event) (done : Bool) → IsUnderWay s �
 noted_goes s event done under =
     together (noted event done s) (planned s under)
     (record { nodes = under.nodes.nodes; each = under.nodes.each })
-    under.accounted under.done under.reads under.once
+    (counted_by s under) under.done under.reads under.once
 
 enabled_noted : (s : ClusterState) (event given : Event) (done : Bool) → is_enabled s event ≡ true → is_enabled (noted given done s) event ≡ true
 enabled_noted s (Order worker) given done enabled = enabled

@@ -37,13 +37,15 @@ comes_as verb ending status t is h = (h.0, ap (λ (e : Ending). e.status) h.1 �
 
 -- their bytes were written, or the front of them
 all_written : (verb : Verb) (words : List Text) (told : Told) (ending : Ending) (old new : Option (List ℕ)) → ending.status ≡ 0
-    → Appends old new ending.bytes → OfTexts told verb words (EndsAs verb ending) → OfTexts told verb words (λ t. Comes verb 0 t × Appends old new (ending_of verb t).bytes)
+    → Appends old new ending.bytes → OfTexts told verb words (EndsAs verb ending)
+    → OfTexts told verb words (λ t. Comes verb 0 t × Appends old new (ending_of verb t).bytes)
 all_written verb words told ending old new is appends =
     texts_more told verb words (EndsAs verb ending) (λ t. Comes verb 0 t × Appends old new (ending_of verb t).bytes)
     (λ t h. (comes_as verb ending 0 t is h, subst (λ (e : Ending). Appends old new e.bytes) (sym h.1) appends))
 
 front_written : (verb : Verb) (words : List Text) (told : Told) (ending : Ending) (old new : Option (List ℕ)) → ending.status ≡ 0
-    → AppendsFront old new ending.bytes → OfTexts told verb words (EndsAs verb ending) → OfTexts told verb words (λ t. Comes verb 0 t × AppendsFront old new (ending_of verb t).bytes)
+    → AppendsFront old new ending.bytes → OfTexts told verb words (EndsAs verb ending)
+    → OfTexts told verb words (λ t. Comes verb 0 t × AppendsFront old new (ending_of verb t).bytes)
 front_written verb words told ending old new is appends =
     texts_more told verb words (EndsAs verb ending) (λ t. Comes verb 0 t × AppendsFront old new (ending_of verb t).bytes)
     (λ t h. (comes_as verb ending 0 t is h, subst (λ (e : Ending). AppendsFront old new e.bytes) (sym h.1) appends))

@@ -34,7 +34,8 @@ passed job s is step limit =
 
 -- the bytes of an ending were written
 finishes_printed : (ending : Ending) (output : List ℕ) (old new : Bytes) (old_faults new_faults : ℕ) (outcome : Outcome)
-    → ending ≡ record { status = 0; bytes = output } → Prints output old new old_faults new_faults outcome → Finishes ending old new old_faults new_faults outcome
+    → ending ≡ record { status = 0; bytes = output } → Prints output old new old_faults new_faults outcome
+    → Finishes ending old new old_faults new_faults outcome
 finishes_printed ending output old new old_faults new_faults Done is prints =
     (ap (λ (e : Ending). e.status) is, subst (λ (bytes : List ℕ). Appends old new bytes) (sym (ap (λ (e : Ending). e.bytes) is)) prints.0, prints.1)
 finishes_printed ending output old new old_faults new_faults Write is prints =

@@ -18,7 +18,8 @@ file_more (Some files) name P Q more tells = found (bytes_in name files) P Q mor
   found (Some bytes) P Q more tells = more bytes tells
 
 -- what follows of the bytes of all three files holds of the files
-pub texts_more : (told : Told) (verb : Verb) (words : List Text) (P Q : Texts → Type 0) → ((t : Texts) → P t → Q t) → OfTexts told verb words P → OfTexts told verb words Q
+pub texts_more : (told : Told) (verb : Verb) (words : List Text) (P Q : Texts → Type 0) → ((t : Texts) → P t → Q t) → OfTexts told verb words P
+    → OfTexts told verb words Q
 texts_more told verb words P Q more =
     file_more told (Some (driver_name verb words)) _ _
     (λ driver. file_more told (data_given verb words) _ _

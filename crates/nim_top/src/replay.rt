@@ -1,4 +1,4 @@
-ghost use Rattle.std.specs.Prelude.{◌≤◌, IsTrue};
+ghost use Rattle.std.specs.Prelude.{◌≡◌, ◌≤◌, IsTrue, Some as some};
 ghost use Rattle.nim_job.specs.Serial.{serial_of};
 ghost use Rattle.nim_job.specs.Whole.{is_whole};
 ghost use Rattle.nim_top.specs.Answer.{Answers, Ends, Keeps, Tells, outside, status_of};
@@ -92,6 +92,13 @@ fn follow<K: Sink>(
         // No worker is lost yet.
         RunOutcome::NoWorker => unreachable!(),
     };
-    *kept = Some(end.cluster);
+    keep(kept, end.cluster);
     outcome
+}
+
+// Puts a cluster where the caller says, in place of what was there.
+fn keep(kept: &mut Option<Cluster>, cluster: Cluster)
+    ensures { kept.new ≡ some cluster }
+{
+    *kept = Some(cluster);
 }

@@ -1,5 +1,5 @@
 -- the tasks so far
-use Rattle.std.proofs.Common.{◌≡◌, drop, map, take}
+use Rattle.std.proofs.Common.{◌≡◌, [], drop, map, take}
 use Rattle.nim_job.specs.Tasks.{task_of}
 use Rattle.nim_course.specs.Controller.{Controller}
 use Rattle.nim_control.specs.Given.{IsToRun}
@@ -17,6 +17,7 @@ invariant-loop-form l = record {
     instance = l.instance.instance;
     base = l.instance.base;
     runs = runs_at l.initial.sites (take l.form-index (map (task_of l.args) l.forms));
+    through = [];
   };
   stay : SitesStay l.initial.sites l.sites;
 }

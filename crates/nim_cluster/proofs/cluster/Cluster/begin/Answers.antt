@@ -12,7 +12,8 @@ returns-clause-stands c = λ s stands enabled.
     let old = c.args.self.now in
     changed old (with_item old.nodes c.args.worker c.begin.new.self) s c.args.worker c.index_mut.result.now c.begin.new.self
     (begun (worker_of c.args.worker) c.args.most) stands
-    (got old.nodes.items c.args.worker c.index_mut.result.now (omega (arith, c.if-index-len.false, c.len.ensures, old.nodes.ok.0)) c.index_mut.ensures.value) refl
+    (got old.nodes.items c.args.worker c.index_mut.result.now (omega (arith, c.if-index-len.false, c.len.ensures, old.nodes.ok.0)) c.index_mut.ensures.value)
+    refl
     (λ node there is. c.begin.ensures c.args.worker node is (enabled_may s (Begin c.args.worker c.args.most) node enabled there))
 
 pub returns-then-index-len-clause-stands : goal.returns-then-index-len-clause-stands

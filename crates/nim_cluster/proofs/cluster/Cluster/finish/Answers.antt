@@ -16,7 +16,8 @@ pub returns-clause-stands : goal.returns-clause-stands
 returns-clause-stands c = λ s stands enabled.
     let old = c.args.self.now in
     let kept = c.index_mut.result.now in
-    let finished = finishing old (with_item old.nodes c.args.worker c.finish.new.self) c.finish.new.trace s c.args.worker kept c.finish.new.self c.in_ok-outs.outs.items
+    let finished =
+    finishing old (with_item old.nodes c.args.worker c.finish.new.self) c.finish.new.trace s c.args.worker kept c.finish.new.self c.in_ok-outs.outs.items
     stands enabled
     (got old.nodes.items c.args.worker kept (omega (arith, c.if-index-len.false, c.len.ensures, old.nodes.ok.0)) c.index_mut.ensures.value) refl
     (λ node b is out. c.in_ok-outs.ensures c.args.worker node b is out) in

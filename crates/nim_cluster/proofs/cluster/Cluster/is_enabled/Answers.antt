@@ -13,7 +13,8 @@ returns-then-may_take c = λ s stands.
     let found = c.in-Some.ensures.lookup in
     let at : slice_get cluster.nodes.items (number_in c.args.event.now) ≡ Some node =
     subst (λ (n : ℕ). slice_get cluster.nodes.items n ≡ Some node) c.number_in.ensures
-    (subst (λ (all : List Node). slice_get all c.number_in.result ≡ Some node) c.deref.ensures.value (got c.deref.result.now c.number_in.result node found.3.0 found.1)) in
+    (subst (λ (all : List Node). slice_get all c.number_in.result ≡ Some node) c.deref.ensures.value
+    (got c.deref.result.now c.number_in.result node found.3.0 found.1)) in
     c.goes_on.ensures ∙ ap (going_on cluster) c.worker.ensures
     ∙ ap (λ (b : Bool). b && going_on cluster node.core.worker) (sym c.if-may_take.true)
     ∙ enabled_there cluster s c.args.event.now node c.may_take.result stands at c.may_take.ensures
@@ -25,7 +26,8 @@ returns-else-may_take c = λ s stands.
     let found = c.in-Some.ensures.lookup in
     let at : slice_get cluster.nodes.items (number_in c.args.event.now) ≡ Some node =
     subst (λ (n : ℕ). slice_get cluster.nodes.items n ≡ Some node) c.number_in.ensures
-    (subst (λ (all : List Node). slice_get all c.number_in.result ≡ Some node) c.deref.ensures.value (got c.deref.result.now c.number_in.result node found.3.0 found.1)) in
+    (subst (λ (all : List Node). slice_get all c.number_in.result ≡ Some node) c.deref.ensures.value
+    (got c.deref.result.now c.number_in.result node found.3.0 found.1)) in
     c.if-may_take.false ∙ ap (λ (b : Bool). b && going_on cluster node.core.worker) (sym c.if-may_take.false)
     ∙ enabled_there cluster s c.args.event.now node c.may_take.result stands at c.may_take.ensures
 

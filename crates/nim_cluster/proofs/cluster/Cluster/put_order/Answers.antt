@@ -12,7 +12,8 @@ returns-clause-stands c = λ s stands.
     let old = c.args.self.now in
     subst (λ (n : ℕ). OnOk c.put_order.result (Stands (record old { nodes = with_item old.nodes c.from-index.result c.put_order.new.self })
     (at_node (λ (node : Node). record node { orders = node.orders ++ c.args.order ∷ [] }) n s))) c.from-index.ensures
-    (stands_at c.put_order.result old (with_item old.nodes c.from-index.result c.put_order.new.self) s c.from-index.result c.index_mut.result.now c.put_order.new.self
+    (stands_at c.put_order.result old (with_item old.nodes c.from-index.result c.put_order.new.self) s c.from-index.result c.index_mut.result.now
+    c.put_order.new.self
     (λ (node : Node). record node { orders = node.orders ++ c.args.order ∷ [] }) stands
     (omega (arith, c.if-index-len.false, c.len.ensures, old.nodes.ok.0)) c.index_mut.ensures.value refl c.put_order.ensures)
 

@@ -14,4 +14,5 @@ returns-clause-stands c = λ s stands.
 pub returns-then-from-len-clause-stands : goal.returns-then-from-len-clause-stands
 returns-then-from-len-clause-stands c = λ s stands.
     let old = c.args.self.now in
-    unchanged old s c.args.from (λ (node : Node). record node { reports = node.reports ++ c.args.report ∷ [] }) stands (omega (arith, c.if-from-len.true, c.len.ensures, old.nodes.ok.0))
+    unchanged old s c.args.from (λ (node : Node). record node { reports = node.reports ++ c.args.report ∷ [] }) stands
+    (omega (arith, c.if-from-len.true, c.len.ensures, old.nodes.ok.0))

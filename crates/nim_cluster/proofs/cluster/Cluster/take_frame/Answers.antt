@@ -15,4 +15,5 @@ returns-clause-stands c = λ s stands.
 pub returns-then-index-len-clause-stands : goal.returns-then-index-len-clause-stands
 returns-then-index-len-clause-stands c = λ s stands.
     let old = c.args.self.now in
-    unchanged old s c.args.to (λ (node : Node). frame_taken c.args.from (frames_from c.args.from node) node) stands (omega (arith, c.if-index-len.true, c.len.ensures, old.nodes.ok.0))
+    unchanged old s c.args.to (λ (node : Node). frame_taken c.args.from (frames_from c.args.from node) node) stands
+    (omega (arith, c.if-index-len.true, c.len.ensures, old.nodes.ok.0))

@@ -22,7 +22,8 @@ returns-clause-stands c = λ s stands.
     let same = same_got old.nodes.items c.args.worker c.index.result.now kept below c.index.ensures c.index_mut.ensures.value in
     let control : c.on_report.new.self ≡ after_report old.control kept.core.worker c.in-Some.report =
     c.on_report.ensures ∙ ap (λ (w : Worker). after_report old.control w c.in-Some.report) (c.worker-from.ensures ∙ ap (λ (n : Node). n.core.worker) same) in
-    subst (λ (k : Controller). Stands (record old { nodes = with_item old.nodes c.args.worker new; control = k }) (passed s (Report c.args.worker))) (sym control)
+    subst (λ (k : Controller). Stands (record old { nodes = with_item old.nodes c.args.worker new; control = k }) (passed s (Report c.args.worker)))
+    (sym control)
     (reported old (with_item old.nodes c.args.worker new) s c.args.worker kept new c.in-Some.report new.reports.items stands at c.in-Some.ensures.took refl
     (λ node is. reported_node c.args.worker kept new node is c.take_report.ensures.rest))
 

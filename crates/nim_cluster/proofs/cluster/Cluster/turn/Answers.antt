@@ -9,5 +9,6 @@ returns-clause-turned c = λ s stands.
     let old = c.args.self.now in
     let orders = c.in_ok-orders.orders.items in
     let between = turning s c.turn.new.self orders in
-    when_ok c.put_orders.result (c.put_orders.ensures.stands between (stands_turning old c.turn.new.self s orders stands c.in_ok-orders.ensures.turned)) (λ ok after.
+    when_ok c.put_orders.result (c.put_orders.ensures.stands between (stands_turning old c.turn.new.self s orders stands c.in_ok-orders.ensures.turned))
+    (λ ok after.
     (fold order_sent between orders, (turned_so old c.turn.new.self s orders stands c.in_ok-orders.ensures.turned, after)))

@@ -17,6 +17,7 @@ invariant_of-self c =
           fetched_long c.self.inside.sites.versions c.in_ok-self-inside.field-0.items c.args.first c.args.count c.in_ok-self-inside.ensures.fetched,
           c.requires.few,
         );
+        decided = form.decided;
       },
     )
 
