@@ -3,3 +3,4 @@ mod files;
 mod jobs;
 mod laws;
 mod plane;
+mod reuse;

@@ -1,6 +1,7 @@
 use nim_base::{NoMemory, Seq, Value};
 use nim_check::{printed_is_loaded, read_driver};
 use nim_course::{controllers_lead, prints_what_is_told};
+use nim_edit::{built_is_in_form, moved_stays_good};
 use nim_funcs::{
     add_is_sum, group_gathers_all_rows, keep_counts_all_rows, merge_joins_groups, order_is_free,
     split_keeps_all_rows,
@@ -14,10 +15,12 @@ use nim_order::{
     never_stuck, orders_cover, versions_are_local,
 };
 use nim_parse::parse;
-use nim_place::{map_starts, orders_extend};
+use nim_place::{Placement, map_starts, orders_extend};
 use nim_plan::legal_by_steps;
 use nim_printed::{job_is_read, job_stands, tree_is_read, words_are_read};
-use nim_template::maps_stay_before;
+use nim_reuse::{decisions_stand, instances_go_on, later_instances_are_short};
+use nim_template::{Recorder, build_halves, maps_stay_before};
+use nim_worker::lent_batches_stand;
 use sqlite_items::Items;
 use std::alloc::Global;
 use std::test::Fail;
@@ -77,6 +80,24 @@ fn laws_of_orders(_rt: HostRuntime) -> Result<(), Fail> {
 }
 
 #[test]
+fn laws_of_moves(rt: HostRuntime) -> Result<(), Fail> {
+    let recorded = Recorder::new(rt.alloc(), 7).finish();
+    let (place, live) = (Placement::Cyclic, [true, true]);
+    let built = build_halves(rt.alloc(), &recorded, &place, 2, &live)?;
+    built_is_in_form(&built, &recorded, &place, 2, &live);
+    moved_stays_good(&built, &recorded, &place, 2, &live);
+    Ok(())
+}
+
+#[test]
+fn laws_of_reuse(_rt: HostRuntime) -> Result<(), Fail> {
+    instances_go_on();
+    decisions_stand();
+    later_instances_are_short();
+    Ok(())
+}
+
+#[test]
 fn laws_of_controllers(_rt: HostRuntime) -> Result<(), Fail> {
     controllers_lead();
     prints_what_is_told();
@@ -88,6 +109,7 @@ fn laws_of_histories(_rt: HostRuntime) -> Result<(), Fail> {
     histories_are_true();
     history_goes_on();
     commands_in_turn();
+    lent_batches_stand();
     Ok(())
 }
 
