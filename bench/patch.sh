@@ -9,7 +9,7 @@ work=$(mktemp -d)
 trap 'rm -rf "$work"' EXIT
 mkdir -p "$work/crates/bench_patch/src"
 cp HANDLES "$work"
-for crate in nim_base nim_command nim_message nim_order nim_job nim_plan nim_place nim_patch; do
+for crate in nim_base nim_command nim_message nim_order nim_job nim_plan nim_place nim_template nim_patch; do
     cp -r "crates/$crate" "$work/crates"
     rm -rf "$work/crates/$crate/must-fail"
     grep "^$crate:" crates.txt >>"$work/crates.txt"
