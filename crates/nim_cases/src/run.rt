@@ -20,16 +20,17 @@ pub fn run(
     let entries = files_of(alloc, given)?;
     let mut files = MemFiles::new(entries, Vec::from_slice(alloc, faults.files.as_slice())?);
     let (mut out, mut err) = (faults.out.sink(alloc)?, faults.err.sink(alloc)?);
-    let mut kept = None;
-    let status = command(
+    let mut ran = Vec::new(alloc);
+    let (status, compared) = performed(
         alloc,
+        given.sections,
         words.as_slice(),
         &mut files,
         &mut out,
         &mut err,
-        &mut kept,
-    )
-    .0;
+        &mut ran,
+    );
+    compared?;
     let before = found.len();
     if status != wanted.status {
         let wanted = wanted.status;
@@ -41,14 +42,31 @@ pub fn run(
     ] {
         compare(alloc, stream, wanted, got, found)?;
     }
-    if let Some(cluster) = kept {
-        compare_runs(alloc, given.sections, &cluster, found)?;
-    }
+    found.append(&mut ran)?;
     if let (Some(section), true) = (given.about, found.len() != before) {
         let (line, name) = (section.line, section.name.as_str());
         found.push(format!(in alloc; "  in the run of line {line}, {name}")?)?;
     }
     Ok(())
+}
+
+// Performs the command, and adds where what ran differs from what is wanted. The cluster is let go of in one place.
+fn performed(
+    alloc: Global,
+    sections: &[Section],
+    words: &[String],
+    files: &mut MemFiles,
+    out: &mut MemSink,
+    err: &mut MemSink,
+    ran: &mut Vec<String>,
+) -> (u8, Result<(), FileFault>) {
+    let mut kept = None;
+    let status = command(alloc, words, files, out, err, &mut kept).0;
+    let compared = match &kept {
+        Some(cluster) => compare_runs(alloc, sections, cluster, ran),
+        None => Ok(()),
+    };
+    (status, compared)
 }
 
 // Compares what ran, where the case says it: in order by `trace`, by positions by `reads`.
