@@ -16,7 +16,7 @@ pub use fitting::fit;
 pub use memory::{Copied, NoMemory};
 pub use name::Name;
 pub use number::{Epoch, Instance, Object, Position, Shape, Slot, Version, Worker};
-pub use seq::Seq;
+pub use seq::{Seq, copies};
 pub use short::Short;
 pub use task::{Func, Param, Task, TaskForm};
 pub use text::value_text;

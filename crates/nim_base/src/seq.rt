@@ -1,4 +1,4 @@
-ghost use Rattle.std.specs.Prelude.{◌≡◌, [], ◌∷◌, ◌++◌, ◌<◌, length, slice_get, IfOk, OnOk, OnErr};
+ghost use Rattle.std.specs.Prelude.{◌≡◌, [], ◌∷◌, ◌++◌, ◌<◌, length, slice_get, slice_set, IfOk, OnOk, OnErr};
 
 use crate::{Copied, NoMemory};
 use std::alloc::Global;
@@ -75,14 +75,30 @@ impl<T: Drop> Seq<T> {
         self.items.push(item)?;
         Ok(())
     }
+
+    /// Puts an item at a place, in place of the one there; past the end nothing changes. Takes no memory.
+    pub fn set(&mut self, place: usize, item: T)
+        ensures { self.new ≡ slice_set self.old place item }
+    {
+        if place < self.items.len() {
+            self.items[place] = item;
+        }
+    }
 }
 
 impl<T: Copied> Copied for Seq<T> {
     fn copy(&self) -> Result<Seq<T>, NoMemory> {
-        let mut other = Seq::new(*self.items.allocator());
-        for item in self.as_slice() {
-            other.push(item.copy()?)?;
-        }
-        Ok(other)
+        copies(self.alloc(), self.as_slice())
     }
+}
+
+/// Equal items, in order; their room is made at once.
+pub fn copies<T: Copied>(alloc: Global, items: &[T]) -> Result<Seq<T>, NoMemory>
+    ensures { IfOk result (λ other. other ≡ items.now) }
+{
+    let mut other = Vec::with_capacity(alloc, items.len())?;
+    for item in items {
+        other.push(item.copy()?)?;
+    }
+    Ok(Seq::from_vec(other))
 }

@@ -32,10 +32,11 @@ is_last_writer past slot place = is_last (λ (f : Footprint). f.writes) 0 past s
 abbrev pub is_reader_since : List Footprint → Slot → ℕ → Bool
 is_reader_since past slot place = is_last (λ (f : Footprint). f.reads) 0 past slot place
 
--- the place of the last writer of a slot that is kept, if one is, and those of the readers since, maybe more than once
+-- the place of the last writer of a slot that is kept, if one is
 abbrev pub writer_of : LastUses → Slot → Option ℕ
 writer_of uses slot = get nat_eq uses.writers slot.0
 
+-- those of the readers since, maybe more than once
 abbrev pub readers_of : LastUses → Slot → List ℕ
 readers_of uses slot = unwrap_or (get nat_eq uses.readers slot.0) []
 

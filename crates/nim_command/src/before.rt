@@ -62,7 +62,7 @@ impl Waits for Entry {
 pub fn entries_by_rule(alloc: Global, entries: Vec<Entry>) -> Result<Vec<Entry>, NoMemory>
     ensures { IfOk result (λ all. all.items ≡ ruled.entries_by_rule [] entries.items) }
 {
-    let mut done = Vec::new(alloc);
+    let mut done = Vec::with_capacity(alloc, entries.len())?;
     let mut uses = LastUses::new(alloc);
     for entry in entries {
         let before = before_set(alloc, &uses, done.as_slice(), &entry)?;
@@ -87,7 +87,7 @@ pub(crate) fn commands_by_rule(
 ) -> Result<Vec<Command>, NoMemory>
     ensures { IfOk result (λ all. all.items ≡ ruled.commands_by_rule [] commands.items) }
 {
-    let mut done = Vec::new(alloc);
+    let mut done = Vec::with_capacity(alloc, commands.len())?;
     let mut uses = LastUses::new(alloc);
     for command in commands {
         let before = before_set(alloc, &uses, done.as_slice(), &command)?;

@@ -16,7 +16,7 @@ loop-command-preserved c =
     let done = c.loop-command.done.items in
     let before =
     c.in_ok-before.ensures ∙ ap (λ (all : List Command). before_of (map footprint_of all) (footprint_of c.in-Some.command)) c.as_slice.ensures.value in
-    let count : c.len.result ≡ length done = search rules in
+    let count : c.len-in-loop-command.result ≡ length done = search rules in
     record {
       ruled =
           command_ruled done c.push.new.self.items c.loop-command.yielded c.in-Some.command c.command_with.result

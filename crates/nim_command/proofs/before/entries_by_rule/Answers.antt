@@ -17,7 +17,7 @@ loop-entry-preserved c =
     let done = c.loop-entry.done.items in
     let before =
     c.in_ok-before.ensures ∙ ap (λ (all : List Entry). before_of (map entry_footprint all) (entry_footprint c.in-Some.entry)) c.as_slice.ensures.value in
-    let count : c.len.result ≡ length done = search rules in
+    let count : c.len-in-loop-entry.result ≡ length done = search rules in
     record {
       ruled =
           entry_ruled done c.push.new.self.items c.loop-entry.yielded c.in-Some.entry c.entry_with.result
