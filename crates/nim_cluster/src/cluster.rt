@@ -11,7 +11,7 @@ ghost use Rattle.nim_cluster.specs.Steps as spec;
 use crate::node::Node;
 use nim_base::{NoMemory, Worker};
 use nim_control::ControllerCore;
-use nim_course::{Outcome, Setup};
+use nim_course::{Outcome, Setup, Summary};
 use nim_job::Job;
 use nim_lockstep::{Given, Ran};
 use nim_schedule::Event;
@@ -79,6 +79,13 @@ impl Cluster {
         ensures { (s : ClusterState) → Stands self.now s → result.now ≡ s.control.machine.driver.output }
     {
         self.control.output()
+    }
+
+    /// What its controller counted so far.
+    pub fn summary(&self) -> &Summary
+        ensures { (s : ClusterState) → Stands self.now s → result.now ≡ s.control.summary }
+    {
+        self.control.summary()
     }
 
     /// The Runs that were performed, in the order in which their batches were finished.

@@ -13,7 +13,8 @@ use Rattle.nim_course.specs.declared.fetched.Fetched.{Fetched}
 use Rattle.nim_place.specs.Directed.{Directed}
 use Rattle.nim_course.specs.Controller.{Controller}
 use Rattle.nim_course.specs.Moves.{fetching}
-use Rattle.nim_course.specs.OrdersGiven.{counted_on, fetch_at, fetch_commands, fetched_of, single_for}
+use Rattle.nim_course.specs.OrdersGiven.{fetch_at, fetch_commands, fetched_of, single_for}
+use Rattle.nim_course.specs.Summaries.{counted_on}
 use Rattle.nim_control.specs.Given.{objects_from}
 
 -- ---- fetches

@@ -11,10 +11,12 @@ use Rattle.nim_job.specs.Machine.{Machine, after_ask, answered, ask_of}
 use Rattle.nim_job.specs.Tasks.{block_forms_of, block_tasks_of, task_of}
 use Rattle.nim_reuse.specs.Decisions.{Decisions, is_recorded}
 use Rattle.nim_course.specs.declared.pending.Pending.{Pending}
+use Rattle.nim_course.specs.declared.summary.Summary.{Summary}
 use Rattle.nim_course.specs.Controller.{Controller, Flight, is_in_flight}
 use Rattle.nim_place.specs.Directed.{Directed}
-use Rattle.nim_course.specs.Moves.{asked, done_with, fetching, moved, objects_in, orders_asked, orders_of, orders_with, with_block, with_instance}
-use Rattle.nim_course.specs.OrdersGiven.{counted_on, fetch_orders, flight_of}
+use Rattle.nim_course.specs.Moves.{asked, done_with, fetching, objects_in, orders_asked, orders_of, orders_with, with_block, with_instance}
+use Rattle.nim_course.specs.OrdersGiven.{fetch_orders, flight_of}
+use Rattle.nim_course.specs.Summaries.{counted_on}
 use Rattle.nim_control.specs.Given.{IsGiven, awaiting, objects_from}
 use Rattle.nim_control.specs.Sites.{Sites, sites_of}
 
@@ -40,10 +42,10 @@ output_asked seen now next m var first count is asks after objects fetched =
 
 -- ---- a block
 
-pub block_given : (seen now : Controller) (block : ℕ) (args : List ℤ) (before after : List Directed) (new : Sites) (decided : Decisions) (flight : Flight)
-    → seen ≡ now → seen.pending ≡ Pending.Block block args
-    → IsGiven (is_recorded seen.decisions block) seen block args before after new decided flight → after ≡ before ++ orders_of now
-block_given seen now block args before after new decided flight is pending given =
+pub block_given : (seen now : Controller) (block : ℕ) (args : List ℤ) (before after : List Directed) (new : Sites) (decided : Decisions)
+    (counts : Summary) (flight : Flight) → seen ≡ now → seen.pending ≡ Pending.Block block args
+    → IsGiven (is_recorded seen.decisions block) seen block args before after new decided counts flight → after ≡ before ++ orders_of now
+block_given seen now block args before after new decided counts flight is pending given =
     given.orders ∙ ap (λ (p : Pending). before ++ orders_with seen p) (sym pending) ∙ ap (λ (c : Controller). before ++ orders_of c) is
 
 -- what is in flight of an instance that was given
@@ -58,8 +60,8 @@ flights_are c tasks flight now pushed is =
     ∙ ap (λ (fs : List Flight). c.flight ++ fs) (open_flight c tasks)
 
 -- a controller with what an instance changes
-abbrev pub with_given : Controller → Machine → Sites → Decisions → ℕ → ℕ → List Flight → Controller
-with_given c m sites decisions position instance flight = record c {
+abbrev pub with_given : Controller → Machine → Sites → Decisions → ℕ → ℕ → List Flight → Summary → Controller
+with_given c m sites decisions position instance flight summary = record c {
   place = sites.place;
   live = sites.live;
   machine = m;
@@ -69,33 +71,37 @@ with_given c m sites decisions position instance flight = record c {
   instance = instance;
   pending = Pending.Idle;
   flight = flight;
+  summary = summary;
 }
 
 -- it is what the controller comes to
 with_all : (recorded : Bool) (c : Controller) (block : ℕ) (args : List ℤ)
     → with_given c (answered c.machine (pos 0)) (record (sites_of c) { versions = (with_block recorded c block args).versions })
     (with_block recorded c block args).decisions (counted_from c.position (length (block_forms_of c.job block))) (counted_on c.instance 1)
-    (with_block recorded c block args).flight ≡ with_block recorded c block args
+    (with_block recorded c block args).flight (with_block recorded c block args).summary ≡ with_block recorded c block args
 with_all true c block args = refl
 with_all false c block args =
     ap (λ (count : ℕ). record (with_instance c block (block_tasks_of c.job block args)) { position = counted_from c.position count })
     (sym (length-map (block_forms_of c.job block) (task_of args)))
 
 pub block_done : (seen now : Controller) (block : ℕ) (args : List ℤ) (forms : List TaskForm) (before after : List Directed) (new : Sites)
-    (decided : Decisions) (flight : Flight) (m : Machine) (position instance : ℕ) (flights : List Flight)
+    (decided : Decisions) (summary : Summary) (flight : Flight) (m : Machine) (position instance : ℕ) (flights : List Flight)
     → seen ≡ now → seen.pending ≡ Pending.Block block args → forms ≡ block_forms_of seen.job block
-    → IsGiven (is_recorded seen.decisions block) seen block args before after new decided flight → m ≡ answered seen.machine (pos 0)
+    → IsGiven (is_recorded seen.decisions block) seen block args before after new decided summary flight → m ≡ answered seen.machine (pos 0)
     → position ≡ counted_from seen.position (length forms) → instance ≡ counted_on seen.instance 1
-    → flights ≡ seen.flight ++ (if is_in_flight flight then flight ∷ [] else []) → with_given seen m new decided position instance flights ≡ moved now
-block_done seen now block args forms before after new decided flight m position instance flights is pending made are told counts begins flies =
+    → flights ≡ seen.flight ++ (if is_in_flight flight then flight ∷ [] else [])
+    → with_given seen m new decided position instance flights summary ≡ done_with now now.pending
+block_done seen now block args forms before after new decided summary flight m position instance flights is pending made are told counts begins flies =
     let recorded : Bool = is_recorded seen.decisions block in
     let next : Controller = with_block recorded seen block args in
     let sites : Sites = record (sites_of seen) { versions = next.versions } in
-    ap₂ (λ (n : Machine) (s : Sites). with_given seen n s decided position instance flights) told are.has_sites
-    ∙ ap₂ (λ (d : Decisions) (fs : List Flight). with_given seen (answered seen.machine (pos 0)) sites d position instance fs) are.has_decisions
+    ap₂ (λ (n : Machine) (s : Sites). with_given seen n s decided position instance flights summary) told are.has_sites
+    ∙ ap₂ (λ (d : Decisions) (fs : List Flight). with_given seen (answered seen.machine (pos 0)) sites d position instance fs summary) are.has_decisions
     (flies ∙ are.has_flight)
-    ∙ ap₂ (λ (p i : ℕ). with_given seen (answered seen.machine (pos 0)) sites next.decisions p i next.flight)
+    ∙ ap₂ (λ (p i : ℕ). with_given seen (answered seen.machine (pos 0)) sites next.decisions p i next.flight summary)
     (counts ∙ ap (λ (fs : List TaskForm). counted_from seen.position (length fs)) made) begins
+    ∙ ap (with_given seen (answered seen.machine (pos 0)) sites next.decisions (counted_from seen.position (length (block_forms_of seen.job block)))
+    (counted_on seen.instance 1) next.flight) are.has_counts
     ∙ with_all recorded seen block args
     ∙ ap (done_with seen) (sym pending)
-    ∙ ap moved is
+    ∙ ap (λ (c : Controller). done_with c c.pending) is

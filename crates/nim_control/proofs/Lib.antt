@@ -1,5 +1,6 @@
 pub mod Alone
 pub mod Asking
+pub mod Checkpoints
 pub mod Fetches
 pub mod Flights
 pub mod Forms
@@ -7,6 +8,7 @@ pub mod Given
 pub mod Instances
 pub mod Kept
 pub mod Moving
+pub mod Parts
 pub mod Reused
 pub mod Taken
 pub mod Tasks

@@ -23,8 +23,10 @@ use Rattle.nim_reuse.specs.declared.instance.InstanceAt.{InstanceAt}
 use Rattle.nim_reuse.specs.declared.reused.Reused.{Reused}
 use Rattle.nim_reuse.specs.Decisions.{Decisions, after_recording, decided_of, is_recorded, no_decisions}
 use Rattle.nim_reuse.specs.Reuse.{CanReuse, decisions_at, orders_at, record_of, reused_at, template_at, versions_at}
+use Rattle.nim_course.specs.declared.summary.Summary.{Summary}
 use Rattle.nim_course.specs.Controller.{Controller, Flight, is_in_flight}
 use Rattle.nim_course.specs.OrdersGiven.{after_instance, flight_of, instance_at, instance_orders, reused_flight}
+use Rattle.nim_course.specs.Summaries.{reused_counted, single_counted}
 use Rattle.nim_control.specs.Form.{AreUsable}
 use Rattle.nim_control.specs.Given.{AreTasks, IsGiven, IsToGive, IsToRun, awaiting}
 use Rattle.nim_control.specs.Sites.{Sites, SitesStay, sites_of}
@@ -187,8 +189,9 @@ decisions_seen (Ok x) place live flags versions now at decisions next same is kn
 
 -- what is said of the instance, the sites and the decisions is said of the controller's
 of_next : {X : Type 0} (f : InstanceAt → Sites → Decisions → X) (c : Controller) (at : InstanceAt) (forms : List TaskForm) (sites : Sites)
-    (decisions : Decisions) → IsToGive c at forms sites decisions → f at sites decisions ≡ f (instance_at c at.block) (sites_of c) c.decisions
-of_next f c at forms sites decisions is =
+    (decisions : Decisions) (summary : Summary) → IsToGive c at forms sites decisions summary
+    → f at sites decisions ≡ f (instance_at c at.block) (sites_of c) c.decisions
+of_next f c at forms sites decisions summary is =
     ap (λ (a : InstanceAt). f a sites decisions) is.is_next
     ∙ ap₂ (λ (s : Sites) (d : Decisions). f (instance_at c at.block) s d) is.has_sites is.has_decisions
 
@@ -205,32 +208,38 @@ whole_flight c block (worker ∷ workers) =
 
 -- an instance that was asked for as a whole
 pub again_given : (c : Controller) (at : InstanceAt) (forms : List TaskForm) (args : List ℤ) (before after : List Directed) (old new : Sites)
-    (decided next : Decisions) (awaited : List Worker) (flight : Flight)
+    (decided next : Decisions) (counts later : Summary) (reused : Reused) (flight : Flight)
     → after ≡ before ++ orders_at old.place old.live at args old.versions decided
     → new ≡ record old { versions = versions_at old.place old.live at old.versions decided }
     → next ≡ decisions_at old.place old.live at old.versions decided
-    → awaited ≡ (reused_at old.place old.live at old.versions decided).awaited → flight ≡ flight_by at awaited → IsToGive c at forms old decided
-    → IsGiven true c at.block args before after new next flight
-again_given c at forms args before after old new decided next awaited flight gave left knows awaits flies is = record {
-  orders =
-      gave
-      ∙ of_next (λ (a : InstanceAt) (s : Sites) (d : Decisions). before ++ orders_at s.place s.live a args s.versions d) c at forms old decided is;
-  has_sites =
-      left
-      ∙ of_next (λ (a : InstanceAt) (s : Sites) (d : Decisions). record s { versions = versions_at s.place s.live a s.versions d }) c at forms old decided is;
-  has_decisions =
-      knows ∙ of_next (λ (a : InstanceAt) (s : Sites) (d : Decisions). decisions_at s.place s.live a s.versions d) c at forms old decided is;
-  has_flight =
-      ap (λ (f : Flight). c.flight ++ (if is_in_flight f then f ∷ [] else [])) (flies ∙ ap (λ (a : InstanceAt). flight_by a awaited) is.is_next)
-      ∙ ap (λ (fs : List Flight). c.flight ++ fs) (whole_flight c at.block awaited)
-      ∙ ap (λ (ws : List Worker). c.flight ++ reused_flight c ws)
-      (awaits ∙ of_next (λ (a : InstanceAt) (s : Sites) (d : Decisions). (reused_at s.place s.live a s.versions d).awaited) c at forms old decided is);
-}
+    → reused ≡ reused_at old.place old.live at old.versions decided → later ≡ reused_counted reused.is_new reused.patched counts
+    → flight ≡ flight_by at reused.awaited → IsToGive c at forms old decided counts → IsGiven true c at.block args before after new next later flight
+again_given c at forms args before after old new decided next counts later reused flight gave left knows uses counted flies is =
+    let used : reused ≡ reused_at c.place c.live (instance_at c at.block) c.versions c.decisions =
+    uses
+    ∙ of_next (λ (a : InstanceAt) (s : Sites) (d : Decisions). reused_at s.place s.live a s.versions d) c at forms old decided counts is in
+    record {
+      orders =
+          gave
+          ∙ of_next (λ (a : InstanceAt) (s : Sites) (d : Decisions). before ++ orders_at s.place s.live a args s.versions d) c at forms old decided counts
+          is;
+      has_sites =
+          left
+          ∙ of_next (λ (a : InstanceAt) (s : Sites) (d : Decisions). record s { versions = versions_at s.place s.live a s.versions d }) c at forms old decided
+          counts is;
+      has_decisions =
+          knows ∙ of_next (λ (a : InstanceAt) (s : Sites) (d : Decisions). decisions_at s.place s.live a s.versions d) c at forms old decided counts is;
+      has_counts = counted ∙ ap₂ (λ (r : Reused) (s : Summary). reused_counted r.is_new r.patched s) used is.has_counts;
+      has_flight =
+          ap (λ (f : Flight). c.flight ++ (if is_in_flight f then f ∷ [] else [])) (flies ∙ ap (λ (a : InstanceAt). flight_by a reused.awaited) is.is_next)
+          ∙ ap (λ (fs : List Flight). c.flight ++ fs) (whole_flight c at.block reused.awaited)
+          ∙ ap (λ (r : Reused). c.flight ++ reused_flight c r.awaited) used;
+    }
 
 -- a controller that is to give it is to run its tasks
-pub to_run : (c : Controller) (at : InstanceAt) (forms : List TaskForm) (sites : Sites) (decisions : Decisions) → IsToGive c at forms sites decisions
-    → IsToRun c at sites
-to_run c at forms sites decisions is = record {
+pub to_run : (c : Controller) (at : InstanceAt) (forms : List TaskForm) (sites : Sites) (decisions : Decisions) (summary : Summary)
+    → IsToGive c at forms sites decisions summary → IsToRun c at sites
+to_run c at forms sites decisions summary is = record {
   has = record {
     place = ap (λ (s : Sites). s.place) (sym is.has_sites);
     live = ap (λ (s : Sites). s.live) (sym is.has_sites);
@@ -243,11 +252,11 @@ to_run c at forms sites decisions is = record {
 
 -- an instance that was given task by task, and its block recorded
 pub first_given : (c : Controller) (at : InstanceAt) (forms copied : List TaskForm) (args : List ℤ) (before after : List Directed) (old new : Sites)
-    (decided next : Decisions) (flight : Flight)
+    (decided next : Decisions) (counts later : Summary) (flight : Flight)
     → AreTasks c 0 (map (task_of args) forms) before old after new → flight ≡ awaiting c (map (task_of args) forms) → copied ≡ forms
-    → next ≡ after_recording (record { block = at.block; forms = copied }) decided → IsToGive c at forms old decided
-    → IsGiven false c at.block args before after new next flight
-first_given c at forms copied args before after old new decided next flight are flies same knows is = record {
+    → next ≡ after_recording (record { block = at.block; forms = copied }) decided → later ≡ single_counted counts
+    → IsToGive c at forms old decided counts → IsGiven false c at.block args before after new next later flight
+first_given c at forms copied args before after old new decided next counts later flight are flies same knows counted is = record {
   orders =
       are.orders
       ∙ ap₂ (λ (s : Sites) (fs : List TaskForm). before ++ instance_orders c 0 s.versions (map (task_of args) fs)) is.has_sites is.has_forms;
@@ -257,6 +266,7 @@ first_given c at forms copied args before after old new decided next flight are 
   has_decisions =
       knows
       ∙ ap₂ (λ (fs : List TaskForm) (d : Decisions). after_recording (record { block = at.block; forms = fs }) d) (same ∙ is.has_forms) is.has_decisions;
+  has_counts = counted ∙ ap single_counted is.has_counts;
   has_flight =
       flights_are c (map (task_of args) forms) flight (c.flight ++ (if is_in_flight flight then flight ∷ [] else [])) refl flies
       ∙ ap (λ (fs : List TaskForm). c.flight ++ flight_of c (map (task_of args) fs)) is.has_forms;
@@ -294,10 +304,11 @@ refused_usable old new decided next block stay all knows =
 
 -- told by whether the block was recorded
 pub given_by : {E : Type 0} (result : Result Flight E) (flag recorded : Bool) (at : InstanceAt) (forms : List TaskForm) (args : List ℤ)
-    (before after : List Directed) (old new : Sites) (decided next : Decisions) → flag ≡ recorded
-    → IfOk result (λ (f : Flight). (c : Controller) (fs : List TaskForm) → IsToGive c at fs old decided
-    → IsGiven flag c at.block args before after new next f)
-    → IfOk result (λ (f : Flight). (c : Controller) → IsToGive c at forms old decided → IsGiven recorded c at.block args before after new next f)
-given_by (Err e) flag recorded at forms args before after old new decided next same given = tt
-given_by (Ok f) flag recorded at forms args before after old new decided next same given = λ c is.
-    subst (λ (b : Bool). IsGiven b c at.block args before after new next f) same (given c forms is)
+    (before after : List Directed) (old new : Sites) (decided next : Decisions) (counts later : Summary) → flag ≡ recorded
+    → IfOk result (λ (f : Flight). (c : Controller) (fs : List TaskForm) → IsToGive c at fs old decided counts
+    → IsGiven flag c at.block args before after new next later f)
+    → IfOk result (λ (f : Flight). (c : Controller) → IsToGive c at forms old decided counts
+    → IsGiven recorded c at.block args before after new next later f)
+given_by (Err e) flag recorded at forms args before after old new decided next counts later same given = tt
+given_by (Ok f) flag recorded at forms args before after old new decided next counts later same given = λ c is.
+    subst (λ (b : Bool). IsGiven b c at.block args before after new next later f) same (given c forms is)

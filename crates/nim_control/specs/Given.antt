@@ -11,6 +11,7 @@ use Rattle.nim_place.specs.Directed.{Directed}
 use Rattle.nim_place.specs.Versions.{after_commands}
 use Rattle.nim_reuse.specs.declared.instance.InstanceAt.{InstanceAt}
 use Rattle.nim_reuse.specs.Decisions.{Decisions}
+use Rattle.nim_course.specs.declared.summary.Summary.{Summary}
 use Rattle.nim_course.specs.Controller.{Controller, Flight, is_in_flight}
 use Rattle.nim_course.specs.Moves.{orders_of_block, with_block}
 use Rattle.nim_course.specs.OrdersGiven.{after_instance, awaited_of, instance_at, instance_orders, single_for}
@@ -40,21 +41,23 @@ abbrev pub awaiting : Controller → List Task → Flight
 awaiting c tasks =
     record { instance = c.instance; base = c.position; runs = map (awaited_of c) tasks; through = [] }
 
--- a controller is to give this instance of a block of these forms, with these sites and decisions
+-- a controller is to give this instance of a block of these forms, with these sites, decisions and counts
 pub record IsToGive (c : Controller) (at : InstanceAt) (forms : List TaskForm) (sites : Sites) (decisions : Decisions)
-    : Type 0 where
+    (summary : Summary) : Type 0 where
   pub is_next : at ≡ instance_at c at.block
   pub has_forms : forms ≡ block_forms_of c.job at.block
   pub has_sites : sites ≡ sites_of c
   pub has_decisions : decisions ≡ c.decisions
+  pub has_counts : summary ≡ c.summary
 
 -- An instance of a block was given, by whether the block was recorded: its orders, where the versions lie then, what is
--- decided, and what is in flight.
+-- decided, what is counted, and what is in flight.
 pub record IsGiven (recorded : Bool) (c : Controller) (block : ℕ) (args : List ℤ) (before after : List Directed)
-    (sites : Sites) (decisions : Decisions) (flight : Flight) : Type 0 where
+    (sites : Sites) (decisions : Decisions) (summary : Summary) (flight : Flight) : Type 0 where
   pub orders : after ≡ before ++ orders_of_block recorded c block args
   pub has_sites : sites ≡ record (sites_of c) { versions = (with_block recorded c block args).versions }
   pub has_decisions : decisions ≡ (with_block recorded c block args).decisions
+  pub has_counts : summary ≡ (with_block recorded c block args).summary
   pub has_flight : c.flight ++ (if is_in_flight flight then flight ∷ [] else [])
       ≡ (with_block recorded c block args).flight
 

@@ -1,3 +1,4 @@
+pub mod Checkpoints
 pub mod Form
 pub mod Given
 pub mod Keeps

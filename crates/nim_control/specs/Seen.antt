@@ -21,4 +21,5 @@ seen c = record {
   flight = c.flight.items;
   due = c.due;
   outcome = c.outcome;
+  summary = c.summary;
 }

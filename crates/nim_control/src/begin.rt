@@ -161,7 +161,7 @@ fn first_kind(alloc: Global, var: &Var, part: u32, object: Object) -> Result<Kin
 }
 
 /// The number of a part's first cell, all cells of a variable counted row by row.
-fn first_cell(shape: Shape, part: u32) -> i64
+pub(crate) fn first_cell(shape: Shape, part: u32) -> i64
     requires cells { shape.rows * shape.width ≤ 65536 }
     requires part { part < 64 }
     ensures { result ≡ pos (first_cell shape part) }

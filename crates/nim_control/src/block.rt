@@ -12,7 +12,8 @@ ghost use Rattle.nim_control.specs.Sites.{SitesStay};
 use crate::flight::InFlight;
 use crate::instance::give_tasks;
 use crate::sites::SiteMap;
-use nim_base::{Copied, NoMemory, Seq, TaskForm, Worker};
+use nim_base::{NoMemory, TaskForm, Worker, copies};
+use nim_course::Summary;
 use nim_message::ToWorker;
 use nim_reuse::{DecisionMap, InstanceAt};
 use nim_template::ControllerTemplate;
@@ -25,6 +26,7 @@ pub(crate) fn give_block(
     orders: &mut Vec<(Worker, ToWorker)>,
     sites: &mut SiteMap,
     decisions: &mut DecisionMap,
+    summary: &mut Summary,
     at: InstanceAt,
     forms: &[TaskForm],
     args: &[i64],
@@ -32,16 +34,16 @@ pub(crate) fn give_block(
     requires few { length forms.now ≤ 1024 }
     requires fit { IsTrue (list_all (is_task sites.old.versions.objects) (map (task_of args.now) forms.now)) }
     requires decided { AreUsable sites.old.versions.objects sites.old.live decisions.old }
-    ensures given { IfOk result (λ flight. (c : Controller) → IsToGive c at forms.now sites.old decisions.old
+    ensures given { IfOk result (λ flight. (c : Controller) → IsToGive c at forms.now sites.old decisions.old summary.old
         → IsGiven (is_recorded decisions.old at.block) c at.block args.now
-        orders.old.items orders.new.items sites.new decisions.new flight) }
+        orders.old.items orders.new.items sites.new decisions.new summary.new flight) }
     ensures decided { AreUsable sites.new.versions.objects sites.new.live decisions.new }
     ensures stay { SitesStay sites.old sites.new }
 {
     if decisions.is_recorded(at.block) {
-        give_again(alloc, orders, sites, decisions, at, args)
+        give_again(alloc, orders, sites, decisions, summary, at, args)
     } else {
-        give_first(alloc, orders, sites, decisions, at, forms, args)
+        give_first(alloc, orders, sites, decisions, summary, at, forms, args)
     }
 }
 
@@ -51,19 +53,21 @@ fn give_again(
     orders: &mut Vec<(Worker, ToWorker)>,
     sites: &mut SiteMap,
     decisions: &mut DecisionMap,
+    summary: &mut Summary,
     at: InstanceAt,
     args: &[i64],
 ) -> Result<InFlight, NoMemory>
     requires block { at.block < length decisions.old.blocks }
     requires decided { AreUsable sites.old.versions.objects sites.old.live decisions.old }
     ensures given { IfOk result (λ flight. (c : Controller) (forms : List task_form)
-        → IsToGive c at forms sites.old decisions.old
+        → IsToGive c at forms sites.old decisions.old summary.old
         → IsGiven true c at.block args.now
-        orders.old.items orders.new.items sites.new decisions.new flight) }
+        orders.old.items orders.new.items sites.new decisions.new summary.new flight) }
     ensures decided { AreUsable sites.new.versions.objects sites.new.live decisions.new }
     ensures stay { SitesStay sites.old sites.new }
 {
     let reused = sites.reuse(alloc, orders, decisions, &at, args)?;
+    summary.count_reused(reused.is_new, reused.patched);
     Ok(InFlight::whole(alloc, at.instance, at.base, reused.awaited))
 }
 
@@ -73,6 +77,7 @@ fn give_first(
     orders: &mut Vec<(Worker, ToWorker)>,
     sites: &mut SiteMap,
     decisions: &mut DecisionMap,
+    summary: &mut Summary,
     at: InstanceAt,
     forms: &[TaskForm],
     args: &[i64],
@@ -80,28 +85,18 @@ fn give_first(
     requires few { length forms.now ≤ 1024 }
     requires fit { IsTrue (list_all (is_task sites.old.versions.objects) (map (task_of args.now) forms.now)) }
     requires decided { AreUsable sites.old.versions.objects sites.old.live decisions.old }
-    ensures given { IfOk result (λ flight. (c : Controller) → IsToGive c at forms.now sites.old decisions.old
+    ensures given { IfOk result (λ flight. (c : Controller) → IsToGive c at forms.now sites.old decisions.old summary.old
         → IsGiven false c at.block args.now
-        orders.old.items orders.new.items sites.new decisions.new flight) }
+        orders.old.items orders.new.items sites.new decisions.new summary.new flight) }
     ensures decided { AreUsable sites.new.versions.objects sites.new.live decisions.new }
     ensures stay { SitesStay sites.old sites.new }
 {
     let flight = give_tasks(alloc, orders, sites, at, forms, args)?;
-    let recorded = copied(alloc, forms)?;
+    let recorded = copies(alloc, forms)?;
     decisions.record(ControllerTemplate {
         block: at.block,
         forms: recorded,
     });
+    summary.count_single();
     Ok(flight)
-}
-
-/// Forms once more.
-fn copied(alloc: Global, forms: &[TaskForm]) -> Result<Seq<TaskForm>, NoMemory>
-    ensures { IfOk result (λ other. other ≡ forms.now) }
-{
-    let mut other = Seq::new(alloc);
-    for form in forms {
-        other.push(form.copy()?)?;
-    }
-    Ok(other)
 }

@@ -8,10 +8,12 @@ ghost use Rattle.nim_place.specs.Extends.{is_live};
 ghost use Rattle.nim_course.specs.Controller.{new_controller};
 ghost use Rattle.nim_course.specs.Moves.{IsMoved, IsTurned, asked, done_with, fetching, is_held_up, is_open, moved};
 ghost use Rattle.nim_course.specs.Moves.{objects_in, orders_asked, orders_of, orders_with};
-ghost use Rattle.nim_course.specs.OrdersGiven.{counted_on, fetch_orders};
+ghost use Rattle.nim_course.specs.OrdersGiven.{fetch_orders};
+ghost use Rattle.nim_course.specs.Summaries.{counted_on};
 ghost use Rattle.nim_course.specs.Reports.{after_report, reported};
 ghost use Rattle.nim_course.specs.Waits.{waiting_of};
 ghost use Rattle.nim_course.specs.Waits as waits;
+ghost use Rattle.nim_control.specs.Checkpoints.{IsCheckpointAt};
 ghost use Rattle.nim_control.specs.Form.{IsBlock, IsInForm};
 ghost use Rattle.nim_control.specs.Given.{objects_from};
 ghost use Rattle.nim_control.specs.Keeps.{HasFailed, Keeps};
@@ -19,6 +21,8 @@ ghost use Rattle.nim_control.specs.Keeps.{HasFailed, Keeps};
 use crate::begin::{push_firsts, push_resets};
 use crate::block::give_block;
 use crate::blocks::{all_forms, forms_of, objects};
+use crate::checkpoint::{Checkpoint, first_checkpoint};
+use crate::counted::count_orders;
 use crate::fetch::fetch_objects;
 use crate::flight::InFlight;
 use crate::sites::SiteMap;
@@ -26,7 +30,7 @@ use crate::told::{
     cell_told, first_open, is_any_open, on_ran, on_through, push_open, tell_at, texts,
 };
 use nim_base::{Epoch, Instance, NoMemory, Position, Seq, TaskForm, Worker};
-use nim_course::{Fetched, Outcome, Pending, Setup, Waiting};
+use nim_course::{Fetched, Outcome, Pending, Setup, Summary, Waiting};
 use nim_job::{Ask, DriverMachine, Job, first_object};
 use nim_message::{FromWorker, ToWorker};
 use nim_reuse::{DecisionMap, InstanceAt};
@@ -62,6 +66,8 @@ pub struct ControllerCore {
     flight: Vec<InFlight>,
     due: bool,
     outcome: Option<Outcome>,
+    summary: Summary,
+    checkpoint: Checkpoint,
 }
 
 impl Model for ControllerCore {
@@ -69,6 +75,7 @@ impl Model for ControllerCore {
     ghost use Rattle.std.specs.Coded.{codes};
     ghost use Rattle.nim_job.specs.contracts.stmt.Stmt as stmt;
     ghost use Rattle.nim_course.specs.Controller.{Controller};
+    ghost use Rattle.nim_control.specs.Checkpoints.{IsCheckpointAt};
     ghost use Rattle.nim_control.specs.Form.{IsInForm, forms_in};
 
     ghost Value = { Controller };
@@ -79,7 +86,8 @@ impl Model for ControllerCore {
 
     ghost view = { seen };
 
-    ghost invariant = { λ c. (c.forms.items ≡ forms_in c.job) × IsInForm (seen c) };
+    ghost invariant = { λ c. ((c.forms.items ≡ forms_in c.job) × IsCheckpointAt c.job 0 c.checkpoint)
+        × IsInForm (seen c) };
 }
 
 impl ControllerCore {
@@ -94,6 +102,8 @@ impl ControllerCore {
         let sites = SiteMap::new(alloc, setup, objects(job.vars.as_slice()))?;
         let decisions = DecisionMap::new(alloc, job.blocks.len())?;
         let machine = DriverMachine::new(alloc, &job)?;
+        let summary = Summary::new(alloc, setup.workers)?;
+        let checkpoint = first_checkpoint(alloc, &job, &machine)?;
         Ok(ControllerCore {
             alloc,
             job,
@@ -111,6 +121,8 @@ impl ControllerCore {
             flight: Vec::new(alloc),
             due: true,
             outcome: None,
+            summary,
+            checkpoint,
         })
     }
 
@@ -180,6 +192,20 @@ impl ControllerCore {
         self.machine.output()
     }
 
+    /// What it counted so far.
+    pub fn summary(&self) -> &Summary
+        ensures { result.now ≡ self.now.summary }
+    {
+        &self.summary
+    }
+
+    /// The last state that the job may go back to: so far its start, since no checkpoint is committed yet.
+    pub fn checkpoint(&self) -> &Checkpoint
+        ensures { IsCheckpointAt self.now.job 0 result.now }
+    {
+        &self.checkpoint
+    }
+
     /// Whether a worker is live.
     pub fn is_live(&self, worker: Worker) -> bool
         ensures { result ≡ is_live self.now.live worker }
@@ -225,11 +251,26 @@ impl ControllerCore {
         }
     }
 
-    /// One move.
+    /// One move, its orders counted.
     fn advance(&mut self, orders: &mut Vec<(Worker, ToWorker)>) -> Result<(), NoMemory>
         requires { is_held_up self.old ≡ false }
         ensures orders { OnOk result (orders.new.items ≡ orders.old.items ++ orders_of self.old) }
         ensures moved { OnOk result (self.new ≡ moved self.old) }
+        ensures keeps { Keeps self.old self.new }
+    {
+        let before = orders.len();
+        self.do_pending(orders)?;
+        let (_, given) = orders.as_slice().split_at(before);
+        count_orders(&mut self.summary, &self.decisions, given);
+        Ok(())
+    }
+
+    /// Does what is pending.
+    fn do_pending(&mut self, orders: &mut Vec<(Worker, ToWorker)>) -> Result<(), NoMemory>
+        requires { is_held_up self.old ≡ false }
+        ensures orders { OnOk result (orders.new.items ≡ orders.old.items ++ orders_of self.old) }
+        ensures least { OnOk result (length orders.old.items ≤ length orders.new.items) }
+        ensures done { OnOk result (self.new ≡ done_with self.old self.old.pending) }
         ensures keeps { Keeps self.old self.new }
     {
         match self.pending {
@@ -339,7 +380,7 @@ impl ControllerCore {
     fn give(&mut self, orders: &mut Vec<(Worker, ToWorker)>) -> Result<(), NoMemory>
         ensures orders { IsBlock self.old.pending →
             OnOk result (orders.new.items ≡ orders.old.items ++ orders_of self.old) }
-        ensures given { IsBlock self.old.pending → OnOk result (self.new ≡ moved self.old) }
+        ensures given { IsBlock self.old.pending → OnOk result (self.new ≡ done_with self.old self.old.pending) }
         ensures keeps { Keeps self.old self.new }
     {
         if let Pending::Block { block, args } = &self.pending {
@@ -349,6 +390,7 @@ impl ControllerCore {
                 orders,
                 &mut self.sites,
                 &mut self.decisions,
+                &mut self.summary,
                 InstanceAt {
                     epoch: self.epoch,
                     instance: self.instance,

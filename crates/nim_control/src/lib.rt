@@ -4,7 +4,9 @@
 mod begin;
 mod block;
 mod blocks;
+mod checkpoint;
 mod controller;
+mod counted;
 mod fetch;
 mod flight;
 mod instance;
@@ -12,4 +14,5 @@ mod orders;
 mod sites;
 mod told;
 
+pub use checkpoint::Checkpoint;
 pub use controller::ControllerCore;

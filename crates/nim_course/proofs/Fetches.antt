@@ -18,7 +18,8 @@ use Rattle.nim_place.proofs.Held.{holder_lives, slot_held}
 use Rattle.nim_place.proofs.Moves.{holder_facts}
 use Rattle.nim_place.specs.Directed.{Directed, by_number}
 use Rattle.nim_reuse.specs.Decisions.{Decisions}
-use Rattle.nim_course.specs.OrdersGiven.{counted_on, fetch_at, fetch_commands, single_for}
+use Rattle.nim_course.specs.OrdersGiven.{fetch_at, fetch_commands, single_for}
+use Rattle.nim_course.specs.Summaries.{counted_on}
 use Rattle.nim_course.proofs.Alone.{AreLed, ComeTo, MayBeAlone, alone_comes, decided_alone}
 use Rattle.nim_course.proofs.Runs.{AreQuiet, homes_more, once_quiet}
 

@@ -16,11 +16,13 @@ use Rattle.nim_place.specs.Extends.{HaveNone}
 use Rattle.nim_place.specs.Versions.{Versions}
 use Rattle.nim_reuse.specs.Decisions.{Decisions, after_recording}
 use Rattle.nim_course.specs.declared.pending.Pending.{Pending}
+use Rattle.nim_course.specs.declared.summary.Summary.{Summary}
 use Rattle.nim_course.specs.Controller.{Controller, Flight}
 use Rattle.nim_place.specs.Directed.{Directed, by_number}
 use Rattle.nim_course.specs.Leads.{AreLeading, AreLeadingFor, HasAsked, IsFetchedAt, IsOpenAt, Leads, StandsFor, begun_by, does_fetch, is_key_from}
 use Rattle.nim_course.specs.Moves.{with_instance}
-use Rattle.nim_course.specs.OrdersGiven.{after_instance, counted_on, flight_of, instance_orders, recorded_of}
+use Rattle.nim_course.specs.OrdersGiven.{after_instance, flight_of, instance_orders, recorded_of}
+use Rattle.nim_course.specs.Summaries.{counted_on, single_counted}
 use Rattle.nim_course.proofs.Alone.{AreLed}
 use Rattle.nim_course.proofs.Asking.{AreNext, asks_count, goes_on, position_there, run_goes, run_next}
 use Rattle.nim_course.proofs.Blocks.{block_few, forms_few, forms_fit, steps_few}
@@ -140,8 +142,8 @@ numbers_counted c given block args on asked few =
     }
 
 -- the controller that gave an instance
-abbrev pub behind_block : Controller → Versions → Decisions → ℕ → List Flight → Controller
-behind_block c versions decisions position flight = record c {
+abbrev pub behind_block : Controller → Versions → Decisions → ℕ → List Flight → Summary → Controller
+behind_block c versions decisions position flight summary = record c {
   machine = answered c.machine (pos 0);
   versions = versions;
   decisions = decisions;
@@ -149,6 +151,7 @@ behind_block c versions decisions position flight = record c {
   instance = counted_on c.instance 1;
   pending = Pending.Idle;
   flight = flight;
+  summary = summary;
 }
 
 -- so many instances were begun as the block was asked for
@@ -158,14 +161,14 @@ few_begun c given block args is on = subst (λ (pending : Pending). begun_by c p
 
 -- it leads on where the orders lead behind the block's tasks
 pub behind_leads : (c : Controller) (given orders : List Directed) (block : ℕ) (args : List ℤ) (versions : Versions) (decisions : Decisions)
-    (position : ℕ) (flight : List Flight) → c.outcome ≡ None → c.pending ≡ Pending.Block block args → GoesOn c given
+    (position : ℕ) (flight : List Flight) (summary : Summary) → c.outcome ≡ None → c.pending ≡ Pending.Block block args → GoesOn c given
     → position ≡ c.position + length (block_tasks_of c.job block args) → counted_on c.instance 1 ≡ c.instance + 1
     → AreLed c.job c.place c.live c.epoch position (is_key_from c.epoch (counted_on c.instance 1)) orders versions decisions
-    → Leads c.job (behind_block c versions decisions position flight) orders
-behind_leads c given orders block args versions decisions position flight none is on behind next led =
+    → Leads c.job (behind_block c versions decisions position flight summary) orders
+behind_leads c given orders block args versions decisions position flight summary none is on behind next led =
     let asked : HasAsked c.job (Ask.Run block args) c.machine c.position = subst (StandsFor c.job c) is on.driver in
     let empty : c.fetched ≡ [] = on.unfetched (ap does_fetch is) in
-    goes_leads (behind_block c versions decisions position flight) orders none (record {
+    goes_leads (behind_block c versions decisions position flight summary) orders none (record {
       whole = on.whole;
       driver = subst (IsOpenAt c.job (answered c.machine (pos 0))) (sym behind)
           (run_goes c.job asked.before (answered c.machine (pos 0)) c.position block args (pos 0) on.whole asked.opened asked.asks
@@ -192,5 +195,6 @@ instance_leads c given block args none is on =
     let counted = numbers_counted c given block args on asked (few_begun c given block args is on) in
     let led = instance_led c given tasks behind (counted_on c.instance 1) on (tasks_ready c given block args on asked)
     (subst (AreLeadingFor c.job c given) is on.leading) counted.position counted.instance in
-    behind_leads c given orders block args after (after_recording (recorded_of c block) c.decisions) behind (c.flight ++ flight_of c tasks) none is on
-    counted.position counted.instance (with_record c behind (is_key_from c.epoch (counted_on c.instance 1)) orders after block on.whole led)
+    behind_leads c given orders block args after (after_recording (recorded_of c block) c.decisions) behind (c.flight ++ flight_of c tasks)
+    (single_counted c.summary) none is on counted.position counted.instance
+    (with_record c behind (is_key_from c.epoch (counted_on c.instance 1)) orders after block on.whole led)

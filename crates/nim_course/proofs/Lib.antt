@@ -12,6 +12,15 @@ pub mod Instances
 pub mod Kept
 pub mod Lists
 pub mod Printed
+pub mod PutAgain
+pub mod PutBlocks
+pub mod PutCounts
+pub mod PutDecisions
+pub mod PutFirst
+pub mod PutMoves
+pub mod PutTasks
+pub mod PutTurns
+pub mod Puts
 pub mod Reports
 pub mod Reused
 pub mod Runs

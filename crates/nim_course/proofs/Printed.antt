@@ -191,7 +191,8 @@ moves_tell values c zero free tells = tells
 moves_tell values c (suc count) free tells =
     let now : Controller = after_moves count c in
     let parts = held_parts now.outcome (does_wait now now.pending) free.1 in
-    move_tells values now now.pending parts.1 (moves_tell values c count free.0 tells)
+    let next : Tells values (done_with now now.pending) = move_tells values now now.pending parts.1 (moves_tell values c count free.0 tells) in
+    record { printed = next.printed; fetched = next.fetched }
 
 turn_tells : (values : List Grid) (before after : Controller) (orders : List Directed) → IsTurned before orders after → Tells values before → Tells values after
 turn_tells values before after orders turned tells =

@@ -89,7 +89,7 @@ value_leads : (job : Job) (c : Controller) (given : List Directed) (ticket : ℕ
     → value ≡ version_value job object version → Leads job (record c { fetched = told c ticket object version value }) given
 value_leads job c given ticket object version value leads good =
     let now = value_told job c ticket object version value leads.fetched good in
-    told_leads job c given (told c ticket object version value) c.flight c.due now.objects
+    told_leads job c given (told c ticket object version value) c.flight now.objects
     (All-from_recursion (IsFetchedAt job c.position) (told c ticket object version value) now.all) now.empty leads
 
 -- ---- no memory
@@ -105,7 +105,7 @@ memory_leads c given leads =
       unfetched = leads.unfetched;
       few = leads.few;
       right = leads.right;
-      leading = leading_still c.job c c.fetched c.flight c.due (Some Outcome.NoMemory) given c.pending leads.leading;
+      leading = leading_still c.job c c.fetched c.flight c.due c.summary (Some Outcome.NoMemory) given c.pending leads.leading;
       instances = subst (λ (n : ℕ). n ≤ c.machine.driver.count) (sym (begun_still c next c.pending refl)) leads.instances;
       all_run = leads.all_run;
       done = λ done. absurd cc;
@@ -120,13 +120,13 @@ live_leads job c given from (Value epoch ticket object version value) leads good
     (λ now. value_leads job c given ticket object version value leads good.1) (λ other. leads)
 live_leads job c given from (Ran epoch position reads) leads good =
     cond_both (epoch == c.epoch) (record c { flight = flight_after from position c.flight }) c (λ (next : Controller). Leads job next given)
-    (λ now. told_leads job c given c.fetched (flight_after from position c.flight) c.due refl leads.fetched (λ empty. empty) leads) (λ other. leads)
+    (λ now. told_leads job c given c.fetched (flight_after from position c.flight) refl leads.fetched (λ empty. empty) leads) (λ other. leads)
 live_leads job c given from NoMemory leads good =
     subst (λ (j : Job). Leads j (record c { outcome = Some Outcome.NoMemory }) given) leads.is_job
     (memory_leads c given (subst (λ (j : Job). Leads j c given) (sym leads.is_job) leads))
 live_leads job c given from (Through epoch instance) leads good =
     cond_both (epoch == c.epoch) (record c { flight = flight_through from instance c.flight }) c (λ (next : Controller). Leads job next given)
-    (λ now. told_leads job c given c.fetched (flight_through from instance c.flight) c.due refl leads.fetched (λ empty. empty) leads) (λ other. leads)
+    (λ now. told_leads job c given c.fetched (flight_through from instance c.flight) refl leads.fetched (λ empty. empty) leads) (λ other. leads)
 live_leads job c given from (PeerDown peer) leads good = leads
 
 pub report_leads : (job : Job) (c : Controller) (given : List Directed) (from : Worker) (report : FromWorker) → Leads job c given → IsGood job report

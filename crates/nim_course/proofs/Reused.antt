@@ -26,6 +26,7 @@ use Rattle.nim_place.proofs.Directed.{to_append}
 use Rattle.nim_template.specs.Again.{IsBefore}
 use Rattle.nim_template.specs.Given.{AreTasksAt}
 use Rattle.nim_reuse.specs.declared.instance.InstanceAt.{InstanceAt}
+use Rattle.nim_reuse.specs.declared.reused.Reused.{Reused}
 use Rattle.nim_reuse.specs.Decisions.{is_recorded}
 use Rattle.nim_reuse.specs.GoesOn.{HasGoneOn, MayGoOn, is_key_at}
 use Rattle.nim_reuse.specs.Reuse.{commands_at, decisions_at, reused_at, template_at, versions_at}
@@ -33,7 +34,8 @@ use Rattle.nim_course.specs.declared.pending.Pending.{Pending}
 use Rattle.nim_course.specs.Controller.{Controller}
 use Rattle.nim_course.specs.Leads.{AreLeading, AreLeadingFor, HasAsked, Leads, StandsFor, is_key_from}
 use Rattle.nim_course.specs.Moves.{with_reused}
-use Rattle.nim_course.specs.OrdersGiven.{counted_on, instance_at, reused_flight, reused_orders}
+use Rattle.nim_course.specs.OrdersGiven.{instance_at, reused_flight, reused_orders}
+use Rattle.nim_course.specs.Summaries.{counted_on, reused_counted}
 use Rattle.nim_course.proofs.Alone.{AreLed, none_weaker, right_more}
 use Rattle.nim_course.proofs.Asking.{AreNext, position_there}
 use Rattle.nim_course.proofs.Blocks.{steps_few}
@@ -162,6 +164,7 @@ pub reused_leads : (c : Controller) (given : List Directed) (block : ℕ) (args 
     → is_recorded c.decisions block ≡ true → GoesOn c given → Leads c.job (with_reused c block) (given ++ reused_orders c block args)
 reused_leads c given block args none is recorded on =
     let at : InstanceAt = instance_at c block in
+    let reused : Reused = reused_at c.place c.live at c.versions c.decisions in
     let asked : HasAsked c.job (Ask.Run block args) c.machine c.position = subst (StandsFor c.job c) is on.driver in
     let counted = numbers_counted c given block args on asked (few_begun c given block args is on) in
     let many : length (block_tasks_of c.job block args) ≡ length (block_forms_of c.job block) = length-map (block_forms_of c.job block) (task_of args) in
@@ -173,6 +176,6 @@ reused_leads c given block args none is recorded on =
     (may_go c given block args on leading asked recorded) in
     behind_leads c given (given ++ reused_orders c block args) block args (versions_at c.place c.live at c.versions c.decisions)
     (decisions_at c.place c.live at c.versions c.decisions) (counted_from c.position (length (block_forms_of c.job block)))
-    (c.flight ++ reused_flight c (reused_at c.place c.live at c.versions c.decisions).awaited) none is on behind counted.instance
+    (c.flight ++ reused_flight c reused.awaited) (reused_counted reused.is_new reused.patched c.summary) none is on behind counted.instance
     (reused_led c given block args (counted_from c.position (length (block_forms_of c.job block))) (counted_on c.instance 1) on
     (tasks_ready c given block args on asked) leading gone (behind ∙ ap (λ (n : ℕ). c.position + n) many) counted.instance)

@@ -9,10 +9,11 @@ use Rattle.nim_course.specs.Controller.{Controller}
 use Rattle.nim_place.specs.Directed.{Directed}
 use Rattle.nim_course.specs.Leads.{Leads}
 use Rattle.nim_course.specs.Moves.{AreFree, IsTurned, after_moves, does_wait, done_with, is_held_up, moved, orders_in, orders_of, orders_of_block, orders_with, with_block}
+use Rattle.nim_course.specs.Summaries.{orders_counted}
 use Rattle.nim_course.proofs.Asked.{asked_leads}
 use Rattle.nim_course.proofs.Begun.{begun_leads}
 use Rattle.nim_course.proofs.Instances.{instance_leads}
-use Rattle.nim_course.proofs.Kept.{due_leads}
+use Rattle.nim_course.proofs.Kept.{counted_leads, due_leads}
 use Rattle.nim_course.proofs.Reused.{reused_leads}
 use Rattle.nim_course.proofs.Standing.{GoesOn, held_parts, leads_goes}
 use Rattle.nim_course.proofs.Values.{cell_leads, ended_leads, parts_lead}
@@ -42,7 +43,9 @@ with_leads c given Ended none is free on = plain c (done_with c Ended) given (en
 own_leads : (c : Controller) (given : List Directed) → Leads c.job c given → is_held_up c ≡ false → Leads c.job (moved c) (given ++ orders_of c)
 own_leads c given leads free =
     let parts = held_parts c.outcome (does_wait c c.pending) free in
-    with_leads c given c.pending parts.0 refl parts.1 (leads_goes c given parts.0 leads)
+    let next : Controller = done_with c c.pending in
+    counted_leads c.job next (given ++ orders_of c) (orders_counted next.decisions (orders_of c) next.summary)
+    (with_leads c given c.pending parts.0 refl parts.1 (leads_goes c given parts.0 leads))
 
 -- the law of one move
 pub move_leads : (job : Job) (c : Controller) (given : List Directed) → Leads job c given → is_held_up c ≡ false
@@ -53,7 +56,7 @@ move_leads job c given leads free =
 
 -- ---- one after another
 
-moves_lead : (job : Job) (c : Controller) (given : List Directed) (count : ℕ) → Leads job c given → AreFree count c
+pub moves_lead : (job : Job) (c : Controller) (given : List Directed) (count : ℕ) → Leads job c given → AreFree count c
     → Leads job (after_moves count c) (given ++ orders_in count c)
 moves_lead job c given zero leads free = subst (Leads job c) (sym (append-nil given)) leads
 moves_lead job c given (suc count) leads free =

@@ -13,6 +13,8 @@ use Rattle.nim_course.specs.declared.fetched.Fetched.{Fetched}
 use Rattle.nim_course.specs.declared.outcome.Outcome.{Outcome}
 use Rattle.nim_course.specs.declared.pending.Pending.{Pending}
 use Rattle.nim_course.specs.declared.setup.Setup.{Setup}
+use Rattle.nim_course.specs.declared.summary.Summary.{Summary}
+use Rattle.nim_course.specs.Summaries.{new_summary}
 
 -- An instance in flight: its number; the position of its task 0; of each task that was scheduled by itself the worker
 -- that is to report it, or nothing once it was reported; and where the instance was asked for as a whole, the workers
@@ -31,7 +33,8 @@ is_in_flight flight =
 -- A controller: its job, the rule of placement and a flag for each live worker; where its driver's machine stands;
 -- which versions lie where; what it decided of its blocks; the epoch; how many tasks, and in this epoch how many
 -- instances and tickets, were given; what it has to do before the driver goes on; what was fetched last, the first of
--- it under this ticket; the instances in flight, oldest first; whether a turn is due; and the outcome, once it came.
+-- it under this ticket; the instances in flight, oldest first; whether a turn is due; the outcome, once it came; and
+-- what it counted.
 pub record Controller : Type 0 where
   pub job : Job
   pub place : Placement
@@ -49,6 +52,7 @@ pub record Controller : Type 0 where
   pub flight : List Flight
   pub due : Bool
   pub outcome : Option Outcome
+  pub summary : Summary
 
 -- A controller that was just made: all workers are live, and nothing was given.
 abbrev pub new_controller : Job → Setup → Controller
@@ -69,4 +73,5 @@ new_controller job setup = record {
   flight = [];
   due = true;
   outcome = None;
+  summary = new_summary setup.workers;
 }

@@ -4,5 +4,8 @@ pub mod Leads
 pub mod Moves
 pub mod OrdersGiven
 pub mod Printed
+pub mod PutLists
 pub mod Reports
+pub mod Summaries
+pub mod SummaryText
 pub mod Waits

@@ -14,6 +14,7 @@ use Rattle.nim_job.specs.Tasks.{block_forms_of, block_tasks_of}
 use Rattle.nim_place.specs.Directed.{Directed}
 use Rattle.nim_place.specs.Versions.{after_commands}
 use Rattle.nim_reuse.specs.declared.instance.InstanceAt.{InstanceAt}
+use Rattle.nim_reuse.specs.declared.reused.Reused.{Reused}
 use Rattle.nim_reuse.specs.Decisions.{after_recording, is_recorded}
 use Rattle.nim_reuse.specs.Reuse.{decisions_at, reused_at, versions_at}
 use Rattle.nim_course.specs.declared.fetched.Fetched.{Fetched}
@@ -21,7 +22,8 @@ use Rattle.nim_course.specs.declared.outcome.Outcome.{Outcome}
 use Rattle.nim_course.specs.declared.pending.Pending.{Pending}
 use Rattle.nim_course.specs.declared.pending.Pending.TheVariants.{Begin, Idle, Block, Cell, Parts, Ended}
 use Rattle.nim_course.specs.Controller.{Controller}
-use Rattle.nim_course.specs.OrdersGiven.{after_instance, counted_on, epoch_orders, fetch_orders, fetched_of, first_commands, flight_of, instance_at, instance_orders, recorded_of, reused_flight, reused_orders}
+use Rattle.nim_course.specs.OrdersGiven.{after_instance, epoch_orders, fetch_orders, fetched_of, first_commands, flight_of, instance_at, instance_orders, recorded_of, reused_flight, reused_orders}
+use Rattle.nim_course.specs.Summaries.{counted_on, orders_counted, reused_counted, single_counted}
 
 -- ---- what holds a controller up
 
@@ -61,12 +63,14 @@ with_instance c block tasks = record c {
   instance = counted_on c.instance 1;
   pending = Idle;
   flight = c.flight ++ flight_of c tasks;
+  summary = single_counted c.summary;
 }
 
 -- an instance of a block that was recorded was asked for as a whole
 abbrev pub with_reused : Controller → ℕ → Controller
 with_reused c block =
     let at : InstanceAt = instance_at c block in
+    let reused : Reused = reused_at c.place c.live at c.versions c.decisions in
     record c {
       machine = answered c.machine (pos 0);
       versions = versions_at c.place c.live at c.versions c.decisions;
@@ -74,7 +78,8 @@ with_reused c block =
       position = counted_from c.position (length (block_forms_of c.job block));
       instance = counted_on c.instance 1;
       pending = Idle;
-      flight = c.flight ++ reused_flight c (reused_at c.place c.live at c.versions c.decisions).awaited;
+      flight = c.flight ++ reused_flight c reused.awaited;
+      summary = reused_counted reused.is_new reused.patched c.summary;
     }
 
 -- An instance of a block was given: task by task where the block wasn't recorded.
@@ -129,10 +134,6 @@ done_with c (Parts var) =
     record c { machine = appended c.machine (text_told c var); pending = Idle; fetched = [] }
 done_with c Ended = record c { outcome = Some Outcome.Done }
 
--- one move
-abbrev pub moved : Controller → Controller
-moved c = done_with c c.pending
-
 -- the orders that an ask leads to
 abbrev pub orders_asked : Controller → Ask → List Directed
 orders_asked c (Ask.Get object row cell) = fetch_orders c (object ∷ [])
@@ -154,6 +155,14 @@ orders_with c _ = []
 -- the orders that are given with the next one
 abbrev pub orders_of : Controller → List Directed
 orders_of c = orders_with c c.pending
+
+-- orders were counted
+abbrev pub with_counted : List Directed → Controller → Controller
+with_counted orders c = record c { summary = orders_counted c.decisions orders c.summary }
+
+-- one move, its orders counted
+abbrev pub moved : Controller → Controller
+moved c = with_counted (orders_of c) (done_with c c.pending)
 
 -- ---- a turn
 

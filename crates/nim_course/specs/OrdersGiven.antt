@@ -1,5 +1,5 @@
 -- The orders that a controller gives: those that begin an epoch, those of an instance's tasks, and those that fetch.
-use Rattle.std.specs.Prelude.{ℕ, ◌+◌, min, ℤ, pos, false, true, List, [], ◌∷◌, ◌++◌, length, map, slice_index_or, Option, None, Some}
+use Rattle.std.specs.Prelude.{ℕ, ◌+◌, ℤ, pos, false, true, List, [], ◌∷◌, ◌++◌, length, map, slice_index_or, Option, None, Some}
 use Rattle.std.specs.List.{range_with_len}
 use Rattle.std.specs.Option.{option_map_or}
 use Rattle.nim_base.specs.declared.number.Object.{Object}
@@ -27,15 +27,12 @@ use Rattle.nim_reuse.specs.declared.instance.InstanceAt.{InstanceAt}
 use Rattle.nim_reuse.specs.Reuse.{orders_at}
 use Rattle.nim_course.specs.declared.fetched.Fetched.{Fetched}
 use Rattle.nim_course.specs.Controller.{Controller, Flight}
+use Rattle.nim_course.specs.Summaries.{counted_on}
 use Rattle.nim_place.specs.Directed.{Directed, directed}
 
 -- the greatest number of 32 bits, an instance that no `do` has
 abbrev pub no_instance : ℕ
 no_instance = 4294967295
-
--- a number of 32 bits that counts on; the greatest one stays
-abbrev pub counted_on : ℕ → ℕ → ℕ
-counted_on number by = min (number + by) 4294967295
 
 -- one command alone, numbered 0
 abbrev pub command_of : Kind → Command

@@ -7,7 +7,7 @@ use Rattle.nim_course.specs.declared.pending.Pending.{Pending}
 use Rattle.nim_course.specs.declared.pending.Pending.TheVariants.{Block, Cell, Parts, Ended}
 use Rattle.nim_course.specs.Controller.{Controller, Flight}
 use Rattle.nim_course.specs.Moves.{is_open}
-use Rattle.nim_course.specs.OrdersGiven.{counted_on}
+use Rattle.nim_course.specs.Summaries.{counted_on}
 
 -- the number of the oldest instance in flight, 0 where there is none
 abbrev pub oldest : List Flight → ℕ

@@ -7,9 +7,12 @@ mod laws;
 mod outcome;
 mod pending;
 mod setup;
+mod summary;
+mod summary_text;
 
 pub use fetched::Fetched;
-pub use laws::{controllers_lead, prints_what_is_told};
+pub use laws::{controllers_lead, controllers_put, prints_what_is_told};
 pub use outcome::{Outcome, Waiting};
 pub use pending::Pending;
 pub use setup::Setup;
+pub use summary::{EditLine, Rollback, Summary, WorkerLine};

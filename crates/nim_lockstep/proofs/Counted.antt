@@ -20,16 +20,18 @@ use Rattle.nim_course.specs.declared.setup.Setup.{Setup}
 use Rattle.nim_course.specs.Controller.{Controller}
 use Rattle.nim_course.specs.Leads.{HasAsked, Leads, StandsFor, begun_by}
 use Rattle.nim_course.specs.Moves.{IsTurned, AreFree, after_moves, asked, does_wait, done_with, is_held_up, moved, orders_asked, orders_in, orders_of, orders_of_block, orders_with, with_block}
-use Rattle.nim_course.specs.OrdersGiven.{counted_on, epoch_orders, first_commands, instance_orders, reused_orders, single_for}
+use Rattle.nim_course.specs.OrdersGiven.{epoch_orders, first_commands, instance_orders, reused_orders, single_for}
+use Rattle.nim_course.specs.Summaries.{counted_on}
 use Rattle.nim_course.proofs.Asking.{asks_count, goes_on}
 use Rattle.nim_course.proofs.Blocks.{steps_few}
+use Rattle.nim_course.proofs.Kept.{counted_leads}
 use Rattle.nim_course.proofs.Standing.{held_parts}
 use Rattle.nim_course.proofs.Turns.{move_leads}
 use Rattle.nim_lockstep.specs.declared.ran.Ran.{Ran}
 use Rattle.nim_lockstep.proofs.Accounted.{LeadsOnCourse, instance_accounted, reused_accounted, still_accounted}
 use Rattle.nim_lockstep.proofs.Apart.{all_live}
 use Rattle.nim_lockstep.proofs.BegunOnce.{epoch_to, is_begin}
-use Rattle.nim_lockstep.proofs.Course.{done_begun, move_keeps}
+use Rattle.nim_lockstep.proofs.Course.{KeepsTo, done_begun, move_keeps}
 use Rattle.nim_lockstep.proofs.Gives.{IsLast, IsQuiet, reused_grow, singles_grow}
 use Rattle.nim_lockstep.proofs.Groups.{Gives, Grows, orders_give}
 use Rattle.nim_lockstep.proofs.Separate.{IsOther, next_separate, none_separate, others_separate, separate_later}
@@ -170,9 +172,16 @@ move_up : (job : Job) (setup : Setup) (c : Controller) (given : List Directed) (
     → IsUpTo job setup c given trace → IsUpTo job setup (moved c) (given ++ orders_of c) trace
 move_up job setup c given trace free up =
     let parts = held_parts c.outcome (does_wait c c.pending) free in
-    let later : LeadsOnCourse job setup (moved c) (given ++ orders_of c) =
-    record { leads = move_leads job c given up.on.leads free; keeps = move_keeps setup c given up.on.keeps } in
-    record { on = later; counted = done_counted job setup c given c.pending trace refl parts.0 up.on later up.counted }
+    let next : Controller = done_with c c.pending in
+    let all : List Directed = given ++ orders_of c in
+    let leads : Leads job (moved c) all = move_leads job c given up.on.leads free in
+    let keeps : KeepsTo setup (moved c) all = move_keeps setup c given up.on.keeps in
+    let before : LeadsOnCourse job setup next all = record {
+      leads = counted_leads job (moved c) all next.summary leads;
+      keeps = record { live = keeps.live; place = keeps.place; epoch = keeps.epoch; once = keeps.once };
+    } in
+    let counted = done_counted job setup c given c.pending trace refl parts.0 up.on before up.counted in
+    record { on = record { leads = leads; keeps = keeps }; counted = record { accounted = counted.accounted; separate = counted.separate } }
 
 moves_up : (job : Job) (setup : Setup) (c : Controller) (given : List Directed) (trace : List Ran) (count : ℕ) → AreFree count c
     → IsUpTo job setup c given trace → IsUpTo job setup (after_moves count c) (given ++ orders_in count c) trace

@@ -94,7 +94,7 @@ pub record KeepsTo (setup : Setup) (c : Controller) (given : List Directed) : Ty
 
 pub move_keeps : (setup : Setup) (c : Controller) (given : List Directed) → KeepsTo setup c given → KeepsTo setup (moved c) (given ++ orders_of c)
 move_keeps setup c given keeps =
-    let alike : KeepsCourse c (moved c) = done_alike c c.pending in
+    let alike : KeepsCourse c (done_with c c.pending) = done_alike c c.pending in
     record {
       live = alike.live ∙ keeps.live;
       place = alike.place ∙ keeps.place;

@@ -35,5 +35,13 @@ mod NodesGoOn
 mod Keeping
 mod Planned
 mod UnderWayGoes
+mod PutSoFar
 mod StaysInStep
 mod GoesOn
+mod FewLists
+mod FewRan
+mod FewOuts
+mod FewNodes
+mod FewSent
+mod FewEvents
+mod Few

@@ -67,7 +67,9 @@ moves_settled : (c : Controller) (count : ℕ) → AreFree count c → EndsSettl
 moves_settled c zero free settled = settled
 moves_settled c (suc count) free settled =
     let now : Controller = after_moves count c in
-    let parts = held_parts now.outcome (does_wait now now.pending) free.1 in done_settled now now.pending parts.0 parts.1
+    let parts = held_parts now.outcome (does_wait now now.pending) free.1 in
+    let next = done_settled now now.pending parts.0 parts.1 in
+    record { settled = next.settled; some = next.some }
 
 due_settled : (c : Controller) → EndsSettled c → EndsSettled (record c { due = false })
 due_settled c settled = record { settled = settled.settled; some = settled.some }

@@ -1,22 +1,26 @@
 -- A cluster that is under way is in step, and each that events lead to is under way.
-use Rattle.std.proofs.Common.{◌≡◌, ℕ, zero, suc, ◌<◌, Bool, true, false, List, [], length, get_or, ap, sym, subst, Some, arith}
+use Rattle.std.proofs.Common.{◌≡◌, ℕ, zero, suc, ◌<◌, Bool, true, false, List, [], length, get_or, ap, sym, subst, ◌∙◌, Some, arith}
 use Rattle.std.specs.Prelude.{◌||◌, if◌then◌else◌, All}
 use Rattle.std.specs.List.{list_any}
 use Rattle.std.proofs.lemmas.Option.{slice_get-get_or}
 use Rattle.nim_command.specs.Waits.{Group}
+use Rattle.nim_schedule.specs.declared.event.Event.{Event}
 use Rattle.nim_job.specs.Serial.{tasks_of}
 use Rattle.nim_course.specs.declared.outcome.Outcome.TheVariants.{Done}
 use Rattle.nim_course.specs.declared.pending.Pending.TheVariants.{Ended}
 use Rattle.nim_course.specs.Controller.{Flight}
+use Rattle.nim_course.proofs.Puts.{controllers_put}
 use Rattle.nim_history.specs.History.{Asked}
 use Rattle.nim_lockstep.specs.Cluster.{ClusterState, unbegun}
+use Rattle.nim_lockstep.specs.Events.{HasTurned, IsStep}
 use Rattle.nim_lockstep.specs.InStep.{AreSteps, HasTruth, IsInStep, IsReached, has_run}
 use Rattle.nim_lockstep.specs.Law.{ClustersStayInStep}
 use Rattle.nim_lockstep.proofs.AtHomes.{are_at_homes}
 use Rattle.nim_lockstep.proofs.BegunOnce.{is_begin}
 use Rattle.nim_lockstep.proofs.Places.{IsGivenTo, given_to, leading_on}
 use Rattle.nim_lockstep.proofs.UnderWay.{IsUnderWay, NodesGoOn, awaits_through, is_awaited_by, is_awaited_in, is_from_instance}
-use Rattle.nim_lockstep.proofs.UnderWayGoes.{step_goes, turn_goes, unbegun_goes}
+use Rattle.nim_lockstep.proofs.PutSoFar.{IsPut, step_is_put, turn_is_put}
+use Rattle.nim_lockstep.proofs.UnderWayGoes.{given_goes, step_goes, turn_goes, unbegun_goes}
 
 -- what waits on links is true
 all_true : (s : ClusterState) → IsUnderWay s → All (HasTruth s.job) s.nodes
@@ -45,10 +49,11 @@ all_ran s under done position below =
     (subst (λ (flights : List Flight). (is_awaited_by flights to.number asked.group position || has_run s.trace position) ≡ true) (under.settled done)
     (under.accounted to.number to.below to.place asked to.runs.there position to.runs.runs))
 
-pub under_way_in_step : (s : ClusterState) → IsUnderWay s → IsInStep s
-under_way_in_step s under = record {
+under_way_in_step : (s : ClusterState) → IsUnderWay s → IsPut s → IsInStep s
+under_way_in_step s under put = record {
   right = under.leads.right;
   homes = are_at_homes s under.leads under.course;
+  put = put;
   waiting = all_true s under;
   reads = under.reads;
   once = under.once;
@@ -57,16 +62,34 @@ under_way_in_step s under = record {
   some = under.some;
 }
 
-steps_go : NodesGoOn → (count : ℕ) (before after : ClusterState) → IsUnderWay before → AreSteps count before after → IsUnderWay after
-steps_go go zero before after under is = subst IsUnderWay (sym is) under
-steps_go go (suc count) before after under (between, (steps, (event, (done, step)))) =
-    step_goes go between event done after (steps_go go count before between under steps) step
+-- ---- from event to event
 
-reached_under_way : NodesGoOn → (s : ClusterState) → IsReached s → IsUnderWay s
-reached_under_way go s reached =
-    steps_go go reached.count reached.first s
-    (turn_goes go (unbegun s.job s.setup) reached.first (unbegun_goes go s.job s.setup reached.whole reached.least reached.most) reached.new)
-    reached.steps
+-- a cluster is under way, and what its controller gave is put
+record GoesOn (s : ClusterState) : Type 0 where
+  under : IsUnderWay s
+  put : IsPut s
+
+turn_on : NodesGoOn → (before after : ClusterState) → GoesOn before → HasTurned before after → GoesOn after
+turn_on go before after on turned =
+    record { under = turn_goes go before after on.under turned; put = turn_is_put before after on.under.leads turned on.put }
+
+step_on : NodesGoOn → (before : ClusterState) (event : Event) (done : Bool) (after : ClusterState) → GoesOn before → IsStep before event done after
+    → GoesOn after
+step_on go before event done after on step = record {
+  under = step_goes go before event done after on.under step;
+  put = step_is_put before event done after (λ is. (given_goes go before event on.under (sym step.enabled ∙ is)).leads) step on.put;
+}
+
+steps_on : NodesGoOn → (count : ℕ) (before after : ClusterState) → GoesOn before → AreSteps count before after → GoesOn after
+steps_on go zero before after on is = subst GoesOn (sym is) on
+steps_on go (suc count) before after on (between, (steps, (event, (done, step)))) =
+    step_on go between event done after (steps_on go count before between on steps) step
+
+reached_on : NodesGoOn → (s : ClusterState) → IsReached s → GoesOn s
+reached_on go s reached =
+    let first : GoesOn (unbegun s.job s.setup) =
+    record { under = unbegun_goes go s.job s.setup reached.whole reached.least reached.most; put = controllers_put.starts s.job s.setup } in
+    steps_on go reached.count reached.first s (turn_on go (unbegun s.job s.setup) reached.first first reached.new) reached.steps
 
 pub stay_in_step : NodesGoOn → ClustersStayInStep
-stay_in_step go s reached = under_way_in_step s (reached_under_way go s reached)
+stay_in_step go s reached = let on = reached_on go s reached in under_way_in_step s on.under on.put

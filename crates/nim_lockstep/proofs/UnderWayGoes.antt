@@ -179,13 +179,13 @@ event_goes go s event under enabled =
 -- ---- a step
 
 -- that an event was given changes nothing else
-noted_goes : (s : ClusterState) (event : Event) (done : Bool) → IsUnderWay s → IsUnderWay (noted event done s)
+pub noted_goes : (s : ClusterState) (event : Event) (done : Bool) → IsUnderWay s → IsUnderWay (noted event done s)
 noted_goes s event done under =
     together (noted event done s) (planned s under)
     (record { nodes = under.nodes.nodes; each = under.nodes.each })
     (counted_by s under) under.done under.reads under.once
 
-enabled_noted : (s : ClusterState) (event given : Event) (done : Bool) → is_enabled s event ≡ true → is_enabled (noted given done s) event ≡ true
+pub enabled_noted : (s : ClusterState) (event given : Event) (done : Bool) → is_enabled s event ≡ true → is_enabled (noted given done s) event ≡ true
 enabled_noted s (Order worker) given done enabled = enabled
 enabled_noted s (Report worker) given done enabled = enabled
 enabled_noted s (Data from to) given done enabled = enabled
@@ -204,10 +204,14 @@ passed_goes go s (Finish worker) after under is = subst IsUnderWay (sym is) unde
 passed_goes go s (Lose worker) after under is = subst IsUnderWay (sym is) under
 passed_goes go s (Propose block task to) after under is = subst IsUnderWay (sym is) under
 
+-- behind what an event does before the turn, where it is enabled
+pub given_goes : NodesGoOn → (before : ClusterState) (event : Event) → IsUnderWay before → is_enabled before event ≡ true
+    → IsUnderWay (passed (noted event true before) event)
+given_goes go before event under enabled =
+    event_goes go (noted event true before) event (noted_goes before event true under) (enabled_noted before event event true enabled)
+
 pub step_goes : NodesGoOn → (before : ClusterState) (event : Event) (done : Bool) (after : ClusterState) → IsUnderWay before
     → IsStep before event done after → IsUnderWay after
 step_goes go before event true after under step =
-    let given : ClusterState = noted event true before in
-    passed_goes go given event after
-    (event_goes go given event (noted_goes before event true under) (enabled_noted before event event true (sym step.enabled))) (step.passed refl)
+    passed_goes go (noted event true before) event after (given_goes go before event under (sym step.enabled)) (step.passed refl)
 step_goes go before event false after under step = subst IsUnderWay (sym (step.passed_over refl)) (noted_goes before event false under)

@@ -16,6 +16,7 @@ use Rattle.nim_course.specs.declared.outcome.Outcome.TheVariants.{Done, NoWorker
 use Rattle.nim_course.specs.Controller.{Controller}
 use Rattle.nim_place.specs.Directed.{Directed, orders_to}
 use Rattle.nim_course.specs.Leads.{AreRight, EndsBy}
+use Rattle.nim_course.specs.PutLists.{ArePut}
 use Rattle.nim_place.specs.TaskRuns.{RunsAtHome}
 use Rattle.nim_lockstep.specs.declared.ran.Ran.{Ran}
 use Rattle.nim_lockstep.specs.Cluster.{ClusterState, Node}
@@ -77,6 +78,8 @@ pub record IsInStep (s : ClusterState) : Type 0 where
   -- the orders to each live worker may be given for the job, what they ask for is covered, and all lists are paired
   pub right : AreRight s.job s.control.live s.put
   pub homes : AreAtHomes s.job s.control s.put
+  -- they are those of the controller's moves, each gave what it should, and the summary counts that
+  pub put : ArePut s.control s.put
   -- what waits on links is true of the job
   pub waiting : All (HasTruth s.job) s.nodes
   -- each task that was run read the versions that program order names, and none was run twice in an epoch

@@ -1,3 +1,4 @@
+ghost use Rattle.nim_lockstep.specs.Few.{EventsAreFew};
 ghost use Rattle.nim_lockstep.specs.Law.{ClustersStayInStep, EventsGoOn};
 
 /// Whatever events a cluster is given, in whatever order: the orders to each worker may be given for the job and what
@@ -12,4 +13,10 @@ pub fn clusters_stay_in_step()
 /// and how it is run stay.
 pub fn events_go_on()
     ensures { EventsGoOn }
+{}
+
+/// However events come, no more of them are done than the orders, the commands that they ask for and the workers come
+/// to: each uses up a message, a released command or a batch.
+pub fn events_are_few()
+    ensures { EventsAreFew }
 {}

@@ -8,5 +8,5 @@ mod laws;
 mod ran;
 
 pub use given::Given;
-pub use laws::{clusters_stay_in_step, events_go_on};
+pub use laws::{clusters_stay_in_step, events_are_few, events_go_on};
 pub use ran::Ran;

@@ -1,9 +1,11 @@
 -- What a controller decided of its blocks in an epoch.
 use Rattle.std.specs.Prelude.{ℕ, Bool, true, false, List, [], replicate, slice_index_or, slice_set}
 use Rattle.nim_template.specs.declared.template.ControllerTemplate.{ControllerTemplate}
+use Rattle.nim_template.specs.Instance.{half_of}
 use Rattle.nim_reuse.specs.declared.decided.Decided.{Decided}
 use Rattle.nim_reuse.specs.declared.decided.Decided.TheVariants.{Open, Recorded, Installed}
 use Rattle.nim_patch.specs.Uses.{Use}
+use Rattle.nim_reuse.specs.HalfTasks.{tasks_in}
 
 -- What was decided of each block, by its number; the block of the last instance; and the patches that are kept.
 pub record Decisions : Type 0 where
@@ -39,3 +41,12 @@ after_recording recorded decisions = record decisions {
   blocks = slice_set decisions.blocks recorded.block (Recorded recorded);
   previous = recorded.block;
 }
+
+-- how many tasks the worker with a number runs in an instance of a block, by what was decided of it
+abbrev pub tasks_decided : Decided → ℕ → ℕ
+tasks_decided (Installed template) number = tasks_in (half_of template number)
+tasks_decided _ number = 0
+
+-- How many tasks the worker with a number runs in an instance of a block whose template is installed.
+abbrev pub half_tasks : Decisions → ℕ → ℕ → ℕ
+half_tasks decisions block number = tasks_decided (decided_of decisions block) number

@@ -1,4 +1,5 @@
 pub mod Decisions
+pub mod HalfTasks
 pub mod Received
 pub mod Reuse
 pub mod GoesOn

@@ -67,6 +67,16 @@ impl DecisionMap {
         }
     }
 
+    /// How many tasks a worker runs in an instance of a block, once its template is installed; 0 before. Takes no memory.
+    pub fn tasks(&self, block: u8, worker: Worker) -> u64
+        ensures { result ≡ spec.half_tasks self.now block worker.0 }
+    {
+        match self.blocks.get(usize::from(block)) {
+            Some(Decided::Installed(ready)) => ready.tasks(worker),
+            _ => 0,
+        }
+    }
+
     /// Takes in the record of a block whose first instance was just scheduled. Takes no memory.
     pub fn record(&mut self, recorded: ControllerTemplate)
         ensures { self.new ≡ spec.after_recording recorded self.old }

@@ -13,8 +13,8 @@ ghost use Rattle.nim_template.specs.Given as templates;
 ghost use Rattle.nim_template.specs.Instance.{half_of};
 
 use crate::{InstanceAt, Patched, Ready};
-use nim_base::{Copied, Epoch, NoMemory, Object, Seq, Version, Worker};
-use nim_command::{Entry, PatchPart, WorkerTemplate};
+use nim_base::{Epoch, NoMemory, Object, Seq, Version, Worker, copies};
+use nim_command::{PatchPart, WorkerTemplate};
 use nim_message::ToWorker;
 use nim_patch::PatchCopy;
 use nim_place::VersionMap;
@@ -76,20 +76,9 @@ fn push_install(
     let order = ToWorker::InstallTemplate {
         epoch,
         block: template.block,
-        entries: copied(alloc, half.entries())?,
+        entries: copies(alloc, half.entries())?,
     };
     Ok(orders.push((worker, order))?)
-}
-
-/// A half's entries once more.
-fn copied(alloc: Global, entries: &[Entry]) -> Result<Seq<Entry>, NoMemory>
-    ensures { IfOk result (λ other. other ≡ entries.now) }
-{
-    let mut other = Seq::new(alloc);
-    for entry in entries {
-        other.push(entry.copy()?)?;
-    }
-    Ok(other)
 }
 
 /// Gives the orders of a patch: its parts, if it was made, and its run.

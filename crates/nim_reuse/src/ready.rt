@@ -1,4 +1,5 @@
 ghost use Rattle.std.specs.Prelude.{◌≡◌, ◌≤◌, ◌∷◌, ◌++◌, [], if◌then◌else◌, length, IfOk, OnOk};
+ghost use Rattle.nim_reuse.specs.HalfTasks as counts;
 ghost use Rattle.nim_reuse.specs.Received as spec;
 ghost use Rattle.nim_reuse.specs.Reuse.{awaited_of, has_entries};
 ghost use Rattle.nim_template.specs.Instance.{half_of};
@@ -9,18 +10,20 @@ use std::alloc::Global;
 use std::marker::Model;
 
 /// A template that is installed, with what an instance of it needs, so that none walks its entries: a flag for each
-/// precondition, and for each half the objects that it receives as its block began with them. Contracts see the
-/// template.
+/// precondition, and for each half the objects that it receives as its block began with them and how many tasks it runs.
+/// Contracts see the template.
 #[derive(Drop)]
 pub struct Ready {
     pub(crate) template: WorkerTemplate,
     pub(crate) flags: Vec<bool>,
     pub(crate) received: Vec<Vec<Object>>,
+    pub(crate) tasks: Vec<u64>,
 }
 
 impl Model for Ready {
     ghost use Rattle.std.specs.Prelude.{◌≡◌, ◌≤◌, length, map};
     ghost use Rattle.nim_command.specs.declared.template.WorkerTemplate.{WorkerTemplate as template_type};
+    ghost use Rattle.nim_reuse.specs.HalfTasks.{tasks_in};
     ghost use Rattle.nim_reuse.specs.Received.{received_in};
 
     ghost Value = { template_type };
@@ -29,6 +32,7 @@ impl Model for Ready {
 
     ghost invariant = { λ r. (length r.flags.items ≡ length r.template.preconditions)
         × (map (λ objects. objects.items) r.received.items ≡ map received_in r.template.halves)
+        × (r.tasks.items ≡ map tasks_in r.template.halves)
         × (length r.template.preconditions ≤ 8192) };
 }
 
@@ -40,13 +44,16 @@ impl Ready {
     {
         let flags = vec![in alloc; false; template.preconditions.len()]?;
         let mut received = Vec::new(alloc);
+        let mut tasks = Vec::new(alloc);
         for half in template.halves.as_slice() {
             received.push(received_in(alloc, half.entries())?)?;
+            tasks.push(tasks_in(half.entries()))?;
         }
         Ok(Ready {
             template,
             flags,
             received,
+            tasks,
         })
     }
 
@@ -98,6 +105,29 @@ impl Ready {
             None => &[],
         }
     }
+
+    /// How many tasks a worker's half runs.
+    pub(crate) fn tasks(&self, worker: Worker) -> u64
+        ensures { result ≡ counts.tasks_in (half_of self.now worker.0) }
+    {
+        match self.tasks.get(usize::from(worker.0)) {
+            Some(tasks) => *tasks,
+            None => 0,
+        }
+    }
+}
+
+/// How many tasks a half runs.
+fn tasks_in(half: &[Entry]) -> u64
+    ensures { result ≡ counts.tasks_in half.now }
+{
+    let mut tasks = 0;
+    for entry in half {
+        if matches!(entry.kind, EntryKind::Run { .. }) {
+            tasks += 1;
+        }
+    }
+    tasks
 }
 
 /// The objects that a half receives as its block began with them.

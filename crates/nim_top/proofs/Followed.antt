@@ -11,9 +11,9 @@ use Rattle.nim_course.specs.declared.outcome.Outcome.TheVariants as came
 use Rattle.nim_course.specs.Leads.{EndsBy}
 use Rattle.nim_lockstep.specs.Cluster.{ClusterState}
 use Rattle.nim_lockstep.specs.InStep.{IsInStep}
-use Rattle.nim_top.specs.Parts.{Finishes, Prints}
+use Rattle.nim_top.specs.Parts.{Finishes, MayPrint}
 use Rattle.nim_top.specs.declared.status.Outcome.{Outcome}
-use Rattle.nim_top.specs.declared.status.Outcome.TheVariants.{Done, Limit, Stalled, Write}
+use Rattle.nim_top.specs.declared.status.Outcome.TheVariants.{Done, Limit, Memory, Stalled, Write}
 
 abbrev Bytes : Type 0
 Bytes = Option (List ℕ)
@@ -32,23 +32,23 @@ passed job s is step limit =
     subst (λ (j : Job). serial_of j ≡ record { status = 4; bytes = [] }) is
     (subst (λ (o : Option course.Outcome). IfSome o (EndsBy s.job s.control)) limit step.ends)
 
--- the bytes of an ending were written
+-- the bytes of an ending were written, or memory was refused before
 finishes_printed : (ending : Ending) (output : List ℕ) (old new : Bytes) (old_faults new_faults : ℕ) (outcome : Outcome)
-    → ending ≡ record { status = 0; bytes = output } → Prints output old new old_faults new_faults outcome
+    → ending ≡ record { status = 0; bytes = output } → MayPrint output old new old_faults new_faults outcome
     → Finishes ending old new old_faults new_faults outcome
 finishes_printed ending output old new old_faults new_faults Done is prints =
     (ap (λ (e : Ending). e.status) is, subst (λ (bytes : List ℕ). Appends old new bytes) (sym (ap (λ (e : Ending). e.bytes) is)) prints.0, prints.1)
 finishes_printed ending output old new old_faults new_faults Write is prints =
     (ap (λ (e : Ending). e.status) is, subst (λ (bytes : List ℕ). AppendsFront old new bytes) (sym (ap (λ (e : Ending). e.bytes) is)) prints.0, prints.1)
+finishes_printed ending output old new old_faults new_faults Memory is prints = prints
 finishes_printed ending output old new old_faults new_faults outcome is prints = absurd prints
 
 -- a job is done, and what its cluster printed was written
-pub finishes_done : (job : Job) (s : ClusterState) (output : List ℕ) (old new : Bytes) (old_faults new_faults : ℕ) (outcome : Outcome)
-    → s.job ≡ job → IsInStep s → s.control.outcome ≡ Some came.Done → output ≡ s.control.machine.driver.output
-    → Prints output old new old_faults new_faults outcome → Finishes (serial_of job) old new old_faults new_faults outcome
-finishes_done job s output old new old_faults new_faults outcome is step done same prints =
+pub finishes_done : (job : Job) (s : ClusterState) (old new : Bytes) (old_faults new_faults : ℕ) (outcome : Outcome)
+    → s.job ≡ job → IsInStep s → s.control.outcome ≡ Some came.Done
+    → MayPrint s.control.machine.driver.output old new old_faults new_faults outcome → Finishes (serial_of job) old new old_faults new_faults outcome
+finishes_done job s old new old_faults new_faults outcome is step done =
     finishes_printed (serial_of job) s.control.machine.driver.output old new old_faults new_faults outcome (printed job s is step done)
-    (subst (λ (bytes : List ℕ). Prints bytes old new old_faults new_faults outcome) same prints)
 
 -- a job passes its limits
 pub finishes_limit : (job : Job) (s : ClusterState) (old : Bytes) (faults : ℕ) → s.job ≡ job → IsInStep s → s.control.outcome ≡ Some came.Limit

@@ -3,3 +3,5 @@ pub mod NamedFiles
 pub mod Ended
 pub mod Followed
 pub mod Kept
+pub mod Left
+pub mod Summed

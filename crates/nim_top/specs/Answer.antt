@@ -9,6 +9,7 @@ use Rattle.nim_job.specs.Serial.{Ending, serial_of}
 use Rattle.nim_course.specs.declared.outcome.Outcome as course
 use Rattle.nim_course.specs.declared.outcome.Outcome.TheVariants as came
 use Rattle.nim_course.specs.declared.setup.Setup.{Setup}
+use Rattle.nim_course.specs.SummaryText.{text_of_summary}
 use Rattle.nim_lockstep.specs.Cluster.{ClusterState}
 use Rattle.nim_lockstep.specs.InStep.{IsInStep}
 use Rattle.nim_lockstep.specs.Schedules.{IsRunBy}
@@ -16,7 +17,7 @@ use Rattle.nim_cluster.specs.declared.cluster.Cluster.{Cluster}
 use Rattle.nim_cluster.specs.Stands.{Stands}
 use Rattle.clap.specs.Words.{Text}
 use Rattle.nim_top.specs.Texts.{FileRefusal, OfTexts, Texts, refusal_line, refusal_of}
-use Rattle.nim_top.specs.Words.{is_accepted, setup_of}
+use Rattle.nim_top.specs.Words.{is_accepted, setup_of, sums_up}
 use Rattle.nim_top.specs.declared.status.Outcome.{Outcome}
 use Rattle.nim_top.specs.declared.status.Outcome.TheVariants as outcome
 use Rattle.nim_top.specs.declared.verb.Verb.{Verb}
@@ -139,15 +140,25 @@ text_of outcome.Read = status_text 6
 text_of outcome.Write = status_text 7
 text_of outcome.Stalled = status_text 9
 
+-- whether the summary is told of that, where it is asked for: all is done
+abbrev pub is_told : Bool → Outcome → Bool
+is_told asked outcome.Done = asked
+is_told asked _ = false
+
+-- whether the summary is told, by the words
+abbrev pub is_summed : Verb → List Text → Outcome → Bool
+is_summed verb words way = is_told (sums_up verb words) way
+
 -- this text was told, or the front of it where a fault came
 abbrev pub Tells : Option (List ℕ) → Option (List ℕ) → ℕ → ℕ → List ℕ → Type 0
 Tells old new old_faults new_faults text =
     Appends old new text ⊎ (Rose old_faults new_faults × AppendsFront old new text)
 
--- A top call: it ended in one of the ways, with that status, and told it.
+-- A top call: it ended in one of the ways, with that status, and told it, but where it tells the summary.
 abbrev pub Answers : Verb → List Text → Outside → Outside → (List ℕ → Type 0) → ℕ → Type 0
 Answers verb words old new IsTold status =
-    (way : Outcome) × (status ≡ status_of way) × Ends verb words old new way × IsTold (text_of way)
+    (way : Outcome) × (status ≡ status_of way) × Ends verb words old new way
+    × (is_summed verb words way ≡ false → IsTold (text_of way))
 
 -- ---- what a run leaves behind
 
@@ -178,3 +189,10 @@ KeepsIf false told words status old new = new ≡ old
 -- `replay` keeps its cluster, and where no job was run what was kept before.
 abbrev pub Keeps : Option (List (List ℕ × List ℕ)) → List Text → ℕ → Option Cluster → Option Cluster → Type 0
 Keeps told words status old new = KeepsIf (has_run status) told words status old new
+
+-- Where all is done and the words ask for it, the summary of the cluster that is kept is told.
+abbrev pub TellsSummary : List Text → (List ℕ → Type 0) → ℕ → Option Cluster → Type 0
+TellsSummary words IsTold status kept =
+    status ≡ 0 → sums_up Replay words ≡ true
+    → IsSomeAnd kept (λ (cluster : Cluster). (s : ClusterState)
+    × (Stands cluster s × IsTold (text_of_summary s.control.summary)))

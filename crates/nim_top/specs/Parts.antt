@@ -18,18 +18,20 @@ use Rattle.nim_job.specs.declared.job.Job.{Job}
 use Rattle.nim_job.specs.Serial.{Ending}
 use Rattle.nim_place.specs.declared.placement.Placement.{Placement}
 use Rattle.nim_course.specs.declared.setup.Setup.{Setup}
+use Rattle.nim_course.specs.SummaryText.{text_of_summary}
 use Rattle.nim_lockstep.specs.Cluster.{ClusterState}
 use Rattle.nim_lockstep.specs.InStep.{IsInStep}
 use Rattle.nim_lockstep.specs.Schedules.{IsRunBy}
 use Rattle.nim_cluster.specs.declared.cluster.Cluster.{Cluster}
 use Rattle.nim_cluster.specs.Stands.{Stands}
 use Rattle.clap.specs.Words.{Text}
-use Rattle.nim_top.specs.Answer.{came_to, has_run}
+use Rattle.nim_top.specs.Answer.{came_to, has_run, is_told, text_of}
 use Rattle.nim_top.specs.Texts.{Texts, file_of, refusal_line, refusal_of}
 use Rattle.nim_top.specs.Words.{is_accepted, mixed_by, number_word}
 use Rattle.nim_top.specs.declared.fault.InputFault.{InputFault}
 use Rattle.nim_top.specs.declared.fault.InputFault.TheVariants as fault
 use Rattle.nim_top.specs.declared.read.Plan.{Plan}
+use Rattle.nim_top.specs.declared.replayed.Replayed.{Replayed}
 use Rattle.nim_top.specs.declared.status.InputFile.TheVariants.{Schedule}
 use Rattle.nim_top.specs.declared.status.Outcome.{Outcome}
 use Rattle.nim_top.specs.declared.status.Outcome.TheVariants as outcome
@@ -108,6 +110,11 @@ Prints bytes old new old_faults new_faults outcome.Done = Appends old new bytes 
 Prints bytes old new old_faults new_faults outcome.Write = AppendsFront old new bytes × Rose old_faults new_faults
 Prints bytes old new old_faults new_faults _ = ⊥
 
+-- the same, or memory was refused before
+abbrev pub MayPrint : List ℕ → Option (List ℕ) → Option (List ℕ) → ℕ → ℕ → Outcome → Type 0
+MayPrint bytes old new old_faults new_faults outcome.Memory = Appends old new [] × (new_faults ≡ old_faults)
+MayPrint bytes old new old_faults new_faults outcome = Prints bytes old new old_faults new_faults outcome
+
 -- a job was run that ends so: its bytes were written, or the front of them where a fault came; or it passes its limits;
 -- or nothing is told of it
 abbrev pub Finishes : Ending → Option (List ℕ) → Option (List ℕ) → ℕ → ℕ → Outcome → Type 0
@@ -137,3 +144,29 @@ LeavesIf false plan setup status old new = new ≡ old
 -- what is kept, by the status: a plan was followed where the job has run
 abbrev pub Leaves : Plan → Setup → ℕ → Option Cluster → Option Cluster → Type 0
 Leaves plan setup status old new = LeavesIf (has_run status) plan setup status old new
+
+-- ---- what is told of a run
+
+-- the summary, where there is one, or how it ended
+abbrev pub told_by : Option (Vec ℕ Global) → Outcome → List ℕ
+told_by (Some text) outcome = text.items
+told_by None outcome = text_of outcome
+
+-- what is told of a replay
+abbrev pub told_of : Replayed → List ℕ
+told_of replayed = told_by replayed.summary replayed.outcome
+
+-- the text is the summary of what a cluster has come to, where it is told; else there is none
+abbrev pub SumsUpState : Bool → Option (Vec ℕ Global) → ClusterState → Type 0
+SumsUpState true text s = IsSomeAnd text (λ (t : Vec ℕ Global). t.items ≡ text_of_summary s.control.summary)
+SumsUpState false text s = text ≡ None
+
+-- the same of the cluster that is kept
+abbrev pub SumsUpIf : Bool → Option (Vec ℕ Global) → Option Cluster → Type 0
+SumsUpIf true text kept =
+    IsSomeAnd kept (λ (cluster : Cluster). (s : ClusterState) × (Stands cluster s × SumsUpState true text s))
+SumsUpIf false text kept = text ≡ None
+
+-- a replay has a summary where it is asked for and all is done
+abbrev pub SumsUp : Bool → Replayed → Option Cluster → Type 0
+SumsUp asked replayed kept = SumsUpIf (is_told asked replayed.outcome) replayed.summary kept

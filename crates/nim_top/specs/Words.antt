@@ -9,6 +9,7 @@ use Rattle.std.specs.Str.{bytes_eq}
 use Rattle.std.specs.declared.alloc.Global.{Global}
 use Rattle.clap.specs.Words.{App, Kinds, Row, Rule, Text, fault_of, first_of, matches_of, new_app, new_rule, with_rule}
 use Rattle.clap.specs.Simple.{on_top}
+use Rattle.clap.specs.declared.builder.action.ArgAction.TheVariants.{SetTrue}
 use Rattle.nim_lex.specs.Numbers.{number_of}
 use Rattle.nim_schedule.specs.Words.{is_short}
 use Rattle.nim_place.specs.declared.placement.Placement.{Placement}
@@ -31,6 +32,10 @@ word_of word = option_map (λ name. name.now) word
 abbrev pub option_rule : Text → Rule
 option_rule name = record (new_rule name) { long = Some name }
 
+-- a flag: `--name` alone, at most once
+abbrev pub flag_rule : Text → Rule
+flag_rule name = record (new_rule name) { long = Some name; action = Some SetTrue }
+
 -- the one word that no option takes; after `--` each word is such a one
 abbrev pub positional_rule : Text → Rule
 positional_rule name = record (new_rule name) { required = true }
@@ -45,15 +50,17 @@ bare_app =
 abbrev pub check_app : App
 check_app = with_rule (with_rule bare_app (option_rule (codes "data"))) (positional_rule (codes "driver"))
 
--- `replay` takes these, and how the job is run
+-- `replay` takes these, how the job is run, and whether its summary is told
 abbrev pub replay_app : App
 replay_app =
     with_rule
     (with_rule
     (with_rule
+    (with_rule
     (with_rule (with_rule bare_app (option_rule (codes "data"))) (option_rule (codes "workers")))
     (option_rule (codes "place")))
     (option_rule (codes "schedule")))
+    (flag_rule (codes "summary")))
     (positional_rule (codes "driver"))
 
 -- the words that a command takes
@@ -157,6 +164,22 @@ setup_said verb words =
 -- how a job is run by words in form; else on four workers, cyclic
 abbrev pub setup_of : Verb → List Text → Setup
 setup_of verb words = unwrap_or (setup_said verb words) (setup_with 4 Cyclic)
+
+-- ---- whether the summary is told
+
+-- what clap says of a flag: that the words have it
+abbrev pub is_set : Option Text → Bool
+is_set None = false
+is_set (Some said) = bytes_eq said (codes "true")
+
+-- whether a command asks for the summary, by what clap says of the flag; `check` has none
+abbrev pub sums_up_by : Verb → Option Text → Bool
+sums_up_by Check flag = false
+sums_up_by Replay flag = is_set flag
+
+-- whether the words ask for the summary of the cluster
+abbrev pub sums_up : Verb → List Text → Bool
+sums_up verb words = sums_up_by verb (given_as (codes "summary") verb words)
 
 -- ---- which words are accepted
 

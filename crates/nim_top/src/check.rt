@@ -26,7 +26,7 @@ pub fn top_check<L: Files, K: Sink>(
         (Tells (K.written err.old) (K.written err.new) (K.faults err.old) (K.faults err.new)) result.0 }
 {
     let outcome = check(alloc, words, files, out);
-    tell(&outcome, err);
+    tell(outcome.text().as_bytes(), err);
     outcome.status()
 }
 

@@ -6,6 +6,7 @@ mod fault;
 mod load;
 mod read;
 mod replay;
+mod replayed;
 mod setup;
 mod status;
 mod tell;

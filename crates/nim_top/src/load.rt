@@ -1,7 +1,7 @@
 ghost use Rattle.std.specs.Prelude.{◌≡◌, IfErr, IfOk, true};
 ghost use Rattle.nim_top.specs.Parts.{IsUnloaded, IsUnread};
 ghost use Rattle.nim_top.specs.Texts.{AreOf, IsOf, OfFile, OfTexts};
-ghost use Rattle.nim_top.specs.Words.{is_accepted, setup_of, texts_of, word_of};
+ghost use Rattle.nim_top.specs.Words.{is_accepted, setup_of, sums_up, texts_of, word_of};
 
 use crate::status::Outcome;
 use crate::verb::Verb;
@@ -26,10 +26,11 @@ pub enum FileText {
     TooLong,
 }
 
-/// How a job is run, and what was read of a driver, its data and a schedule.
+/// How a job is run, whether its summary is told, and what was read of a driver, its data and a schedule.
 #[derive(Debug, Drop)]
 pub struct Inputs {
     pub setup: Setup,
+    pub summary: bool,
     pub driver: FileText,
     pub data_file: FileText,
     pub schedule: FileText,
@@ -45,6 +46,7 @@ pub fn load<L: Files>(
 ) -> Result<Inputs, Outcome>
     ensures accepted { IfOk result (λ inputs. is_accepted verb (texts_of words.now) ≡ true) }
     ensures setup { IfOk result (λ inputs. inputs.setup ≡ setup_of verb (texts_of words.now)) }
+    ensures summary { IfOk result (λ inputs. inputs.summary ≡ sums_up verb (texts_of words.now)) }
     ensures inputs { IfOk result (λ inputs. OfTexts (L.told files.old) verb (texts_of words.now) (AreOf inputs)) }
     ensures quiet { IfOk result (λ inputs. L.faults files.new ≡ L.faults files.old) }
     ensures unloaded { IfErr result (IsUnloaded verb (texts_of words.now) (L.faults files.old) (L.faults files.new)) }
@@ -59,6 +61,7 @@ pub fn load<L: Files>(
     let schedule = load_one(alloc, files, request.schedule, SCHEDULE_LIMIT)?;
     Ok(Inputs {
         setup: request.setup,
+        summary: request.summary,
         driver,
         data_file,
         schedule,

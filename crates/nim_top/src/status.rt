@@ -1,5 +1,5 @@
 ghost use Rattle.std.specs.Prelude.{◌≡◌};
-ghost use Rattle.nim_top.specs.Answer.{status_of, status_text, text_of};
+ghost use Rattle.nim_top.specs.Answer.{has_run, status_of, status_text, text_of};
 
 /// How a command ended: the status that the program ends with.
 #[derive(Clone, Copy, Debug, PartialEq, Eq)]
@@ -82,6 +82,16 @@ impl Outcome {
             Outcome::Read => Status::READ,
             Outcome::Write => Status::WRITE,
             Outcome::Stalled => Status::STALLED,
+        }
+    }
+
+    /// Whether a job was run, whose cluster is kept.
+    pub fn has_run(&self) -> bool
+        ensures { result ≡ has_run (status_of self.now) }
+    {
+        match self {
+            Outcome::Done | Outcome::Limit | Outcome::Write | Outcome::Stalled => true,
+            Outcome::Words | Outcome::Refused(_) | Outcome::Memory | Outcome::Read => false,
         }
     }
 

@@ -1,4 +1,4 @@
-ghost use Rattle.nim_top.specs.Answer.{Tells, text_of};
+ghost use Rattle.nim_top.specs.Answer.{Tells};
 ghost use Rattle.nim_top.specs.Parts.{Prints};
 
 use crate::status::Outcome;
@@ -14,10 +14,9 @@ pub fn print<K: Sink>(output: &[u8], out: &mut K) -> Outcome
     }
 }
 
-/// Tells how a command ended.
-pub fn tell<K: Sink>(outcome: &Outcome, err: &mut K)
-    ensures { Tells (K.written err.old) (K.written err.new) (K.faults err.old) (K.faults err.new)
-        (text_of outcome.now) }
+/// Tells this text, or the front of it where a fault comes.
+pub fn tell<K: Sink>(text: &[u8], err: &mut K)
+    ensures { Tells (K.written err.old) (K.written err.new) (K.faults err.old) (K.faults err.new) text.now }
 {
-    let _ = write_all(err, outcome.text().as_bytes());
+    let _ = write_all(err, text);
 }

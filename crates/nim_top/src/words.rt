@@ -1,21 +1,23 @@
 ghost use Rattle.std.specs.Prelude.{◌≡◌, ◌≢◌, [], true, false, codes, IfOk, IsErrOf, OnOk};
 ghost use Rattle.clap.specs.Words.{app_of, first_of, rule_of};
-ghost use Rattle.nim_top.specs.Words.{app_for, bare_app, check_app, data_given, driver_name, faults, found, is_accepted, is_file_name, is_optional, option_rule, positional_rule, replay_app, schedule_given, setup_of, texts_of, word_of};
+ghost use Rattle.nim_top.specs.Words.{app_for, bare_app, check_app, data_given, driver_name, faults, flag_rule, found, is_accepted, is_file_name, is_optional, is_set, option_rule, positional_rule, replay_app, schedule_given, setup_of, sums_up, sums_up_by, texts_of, word_of};
 
 use crate::setup::setup;
 use crate::verb::Verb;
 use clap::error::ErrorKind;
-use clap::{Arg, Command};
+use clap::{Arg, ArgAction, Command};
 use nim_course::Setup;
 use std::alloc::{AllocError, Global};
 
-/// What the words of a command say: the names of the files that it reads, and how a job is run.
+/// What the words of a command say: the names of the files that it reads, how a job is run, and whether its summary is
+/// told.
 #[derive(Clone, Copy)]
 pub struct Request<'a> {
     pub driver: &'a str,
     pub data_file: Option<&'a str>,
     pub schedule: Option<&'a str>,
     pub setup: Setup,
+    pub summary: bool,
 }
 
 /// Why the words say nothing.
@@ -45,6 +47,7 @@ pub fn given<'a>(alloc: Global, verb: Verb, words: &'a [String]) -> Result<Reque
     ensures data { IfOk result (λ request. word_of request.data_file ≡ data_given verb (texts_of words.now)) }
     ensures schedule { IfOk result (λ request. word_of request.schedule ≡ schedule_given verb (texts_of words.now)) }
     ensures setup { IfOk result (λ request. request.setup ≡ setup_of verb (texts_of words.now)) }
+    ensures summary { IfOk result (λ request. request.summary ≡ sums_up verb (texts_of words.now)) }
 {
     let Some((first, rest)) = words.split_first() else {
         return Err(WordsFault::Refused);
@@ -62,6 +65,7 @@ pub fn given<'a>(alloc: Global, verb: Verb, words: &'a [String]) -> Result<Reque
             data_file: found.data_file,
             schedule: found.schedule,
             setup,
+            summary: sums_up(verb, found.summary),
         })
     } else {
         Err(WordsFault::Refused)
@@ -88,6 +92,26 @@ fn is_optional(word: Option<&str>) -> bool
     }
 }
 
+// Whether a command asks for the summary, by what clap says of the flag.
+fn sums_up(verb: Verb, flag: Option<&str>) -> bool
+    ensures { result ≡ sums_up_by verb (word_of flag.entry) }
+{
+    match verb {
+        Verb::Check => false,
+        Verb::Replay => is_set(flag),
+    }
+}
+
+// Whether the words have a flag: clap gives it a value of its own, `true` or `false`.
+fn is_set(flag: Option<&str>) -> bool
+    ensures { result ≡ is_set (word_of flag.entry) }
+{
+    match flag {
+        Some(said) => said == "true",
+        None => false,
+    }
+}
+
 // What clap finds behind the command, before it is tested.
 #[derive(Clone, Copy)]
 struct Found<'a> {
@@ -96,6 +120,7 @@ struct Found<'a> {
     schedule: Option<&'a str>,
     workers: Option<&'a str>,
     place: Option<&'a str>,
+    summary: Option<&'a str>,
 }
 
 // Takes the words behind the command apart.
@@ -113,6 +138,8 @@ fn parse<'a>(alloc: Global, verb: Verb, rest: &'a [String]) -> Result<Found<'a>,
         ≡ first_of (codes "workers") (found verb (texts_of rest.now))) }
     ensures place { IfOk result (λ words. word_of words.place
         ≡ first_of (codes "place") (found verb (texts_of rest.now))) }
+    ensures summary { IfOk result (λ words. word_of words.summary
+        ≡ first_of (codes "summary") (found verb (texts_of rest.now))) }
 {
     match command(alloc, verb)?.try_get_matches_from(rest) {
         Ok(found) => Ok(Found {
@@ -121,6 +148,7 @@ fn parse<'a>(alloc: Global, verb: Verb, rest: &'a [String]) -> Result<Found<'a>,
             schedule: found.get_str("schedule"),
             workers: found.get_str("workers"),
             place: found.get_str("place"),
+            summary: found.get_str("summary"),
         }),
         Err(fault) if fault.kind() == ErrorKind::OutOfMemory => Err(WordsFault::NoMemory),
         Err(_) => Err(WordsFault::Refused),
@@ -146,7 +174,7 @@ fn check_command<'a>(alloc: Global) -> Result<Command<'a>, AllocError>
         .arg(positional(alloc, "driver"))
 }
 
-// These, and how the job is run.
+// These, how the job is run, and whether its summary is told.
 fn replay_command<'a>(alloc: Global) -> Result<Command<'a>, AllocError>
     ensures { IfOk result (λ command. app_of command ≡ replay_app) }
 {
@@ -155,6 +183,7 @@ fn replay_command<'a>(alloc: Global) -> Result<Command<'a>, AllocError>
         .arg(option(alloc, "workers"))?
         .arg(option(alloc, "place"))?
         .arg(option(alloc, "schedule"))?
+        .arg(flag(alloc, "summary"))?
         .arg(positional(alloc, "driver"))
 }
 
@@ -174,6 +203,14 @@ fn option<'a>(alloc: Global, name: &'a str) -> Arg<'a>
     ensures local { result.global ≡ false }
 {
     Arg::new(alloc, name).long(name)
+}
+
+// An option without a value.
+fn flag<'a>(alloc: Global, name: &'a str) -> Arg<'a>
+    ensures rule { rule_of result ≡ flag_rule name.entry.now }
+    ensures local { result.global ≡ false }
+{
+    Arg::new(alloc, name).long(name).action(ArgAction::SetTrue)
 }
 
 // A word that has to be there.

@@ -1,6 +1,6 @@
 use nim_base::{NoMemory, Seq, Value};
 use nim_check::{printed_is_loaded, read_driver};
-use nim_course::{controllers_lead, prints_what_is_told};
+use nim_course::{controllers_lead, controllers_put, prints_what_is_told};
 use nim_edit::{built_is_in_form, moved_stays_good};
 use nim_funcs::{
     add_is_sum, group_gathers_all_rows, keep_counts_all_rows, merge_joins_groups, order_is_free,
@@ -9,7 +9,7 @@ use nim_funcs::{
 use nim_history::{commands_in_turn, histories_are_true, history_goes_on};
 use nim_job::{Job, division_is_total, is_checked, is_whole, machine_follows, versions_are_read};
 use nim_lex::tokens;
-use nim_lockstep::{clusters_stay_in_step, events_go_on};
+use nim_lockstep::{clusters_stay_in_step, events_are_few, events_go_on};
 use nim_order::{
     any_order, any_step, before_sets_cover, front_stays, held_at_ends, longer_list_stands,
     never_stuck, orders_cover, versions_are_local,
@@ -100,6 +100,7 @@ fn laws_of_reuse(_rt: HostRuntime) -> Result<(), Fail> {
 #[test]
 fn laws_of_controllers(_rt: HostRuntime) -> Result<(), Fail> {
     controllers_lead();
+    controllers_put();
     prints_what_is_told();
     Ok(())
 }
@@ -117,6 +118,7 @@ fn laws_of_histories(_rt: HostRuntime) -> Result<(), Fail> {
 fn laws_of_clusters(_rt: HostRuntime) -> Result<(), Fail> {
     clusters_stay_in_step();
     events_go_on();
+    events_are_few();
     Ok(())
 }
 

@@ -11,10 +11,10 @@ returns-in_err-recorded-clause-decided c =
 
 pub returns-clause-given : goal.returns-clause-given
 returns-clause-given c = λ d is.
-    let runs = to_run d c.args.at c.args.forms.now c.args.sites.now c.args.decisions.now is in
+    let runs = to_run d c.args.at c.args.forms.now c.args.sites.now c.args.decisions.now c.args.summary.now is in
     first_given d c.args.at c.args.forms.now c.in_ok-recorded.recorded c.args.args.now c.args.orders.now.items c.give_tasks.new.orders.items
-    c.args.sites.now c.give_tasks.new.sites c.args.decisions.now c.record.new.self c.in_ok-flight.flight (c.in_ok-flight.ensures.given d runs)
-    (c.in_ok-flight.ensures.flight d runs) c.in_ok-recorded.ensures c.record.ensures is
+    c.args.sites.now c.give_tasks.new.sites c.args.decisions.now c.record.new.self c.args.summary.now c.count_single.new.self c.in_ok-flight.flight
+    (c.in_ok-flight.ensures.given d runs) (c.in_ok-flight.ensures.flight d runs) c.in_ok-recorded.ensures c.record.ensures c.count_single.ensures is
 
 pub returns-clause-decided : goal.returns-clause-decided
 returns-clause-decided c =

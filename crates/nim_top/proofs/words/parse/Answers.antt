@@ -41,6 +41,12 @@ returns-in-Ok-clause-place c =
     value_found c.get_str-in-Ok-4.result (found_of c.in-Ok.found) (codes "place") (app_of c.in_ok-command.field-0) c.args.verb (texts_of c.args.rest.now)
     c.get_str-in-Ok-4.ensures (c.in-Ok.ensures.matches (ap is_simple app ∙ simple_for c.args.verb)).0 app
 
+pub returns-in-Ok-clause-summary : goal.returns-in-Ok-clause-summary
+returns-in-Ok-clause-summary c =
+    let app = c.in_ok-command.ensures in
+    value_found c.get_str-in-Ok-5.result (found_of c.in-Ok.found) (codes "summary") (app_of c.in_ok-command.field-0) c.args.verb (texts_of c.args.rest.now)
+    c.get_str-in-Ok-5.ensures (c.in-Ok.ensures.matches (ap is_simple app ∙ simple_for c.args.verb)).0 app
+
 pub returns-clause-refused : goal.returns-clause-refused
 unfolding faults
 returns-clause-refused c = λ is none.

@@ -14,35 +14,39 @@ pub give_block-requires-clause-few : goal.give_block-requires-clause-few
 give_block-requires-clause-few c =
     let is = c.forms_of-forms.ensures ∙ ap (λ (all : List (List TaskForm)). slice_index_or all c.in-Block.block []) c.as_slice.ensures.value in
     let forms = forms_fit c.self.inside.job c.self.inside.forms.items c.in-Block.block c.as_slice-in-Block.result.now c.forms_of-forms.result.now
-    c.self.invariant.1.whole c.self.invariant.0 is in
+    c.self.invariant.1.whole c.self.invariant.0.0 is in
     forms.few
 
 pub give_block-requires-clause-fit : goal.give_block-requires-clause-fit
 give_block-requires-clause-fit c =
     let is = c.forms_of-forms.ensures ∙ ap (λ (all : List (List TaskForm)). slice_index_or all c.in-Block.block []) c.as_slice.ensures.value in
     let forms = forms_fit c.self.inside.job c.self.inside.forms.items c.in-Block.block c.as_slice-in-Block.result.now c.forms_of-forms.result.now
-    c.self.invariant.1.whole c.self.invariant.0 is in
+    c.self.invariant.1.whole c.self.invariant.0.0 is in
     ap (λ (n : ℕ). list_all (is_task n) (map (task_of c.as_slice-in-Block.result.now) c.forms_of-forms.result.now)) c.self.invariant.1.objects ∙ forms.fit
 
 pub returns-in_ok-push_open-clause-orders : goal.returns-in_ok-push_open-clause-orders
 returns-in_ok-push_open-clause-orders c = λ waits.
     let is = c.forms_of-forms.ensures ∙ ap (λ (all : List (List TaskForm)). slice_index_or all c.in-Block.block []) c.as_slice.ensures.value in
     let made : c.forms_of-forms.result.now ≡ block_forms_of c.self.inside.job c.in-Block.block =
-    is ∙ forms_at c.self.inside.job c.self.inside.forms.items c.in-Block.block c.self.invariant.0 in
+    is ∙ forms_at c.self.inside.job c.self.inside.forms.items c.in-Block.block c.self.invariant.0.0 in
     block_given (the_view c.self.inside) c.args.self.now c.in-Block.block c.as_slice-in-Block.result.now c.args.orders.now.items
-    c.give_block.new.orders.items c.give_block.new.sites c.give_block.new.decisions c.in_ok-flight.flight c.self.view_is
+    c.give_block.new.orders.items c.give_block.new.sites c.give_block.new.decisions c.give_block.new.summary c.in_ok-flight.flight
+    c.self.view_is
     (c.in-Block.is ∙ ap (λ (args : List ℤ). Pending.Block c.in-Block.block args) (sym c.as_slice-in-Block.ensures))
-    (c.in_ok-flight.ensures.given (the_view c.self.inside) (record { is_next = refl; has_forms = made; has_sites = refl; has_decisions = refl }))
+    (c.in_ok-flight.ensures.given (the_view c.self.inside)
+    (record { is_next = refl; has_forms = made; has_sites = refl; has_decisions = refl; has_counts = refl }))
 
 pub returns-in_ok-push_open-clause-given : goal.returns-in_ok-push_open-clause-given
 returns-in_ok-push_open-clause-given c = λ waits.
     let is = c.forms_of-forms.ensures ∙ ap (λ (all : List (List TaskForm)). slice_index_or all c.in-Block.block []) c.as_slice.ensures.value in
     let made : c.forms_of-forms.result.now ≡ block_forms_of c.self.inside.job c.in-Block.block =
-    is ∙ forms_at c.self.inside.job c.self.inside.forms.items c.in-Block.block c.self.invariant.0 in
+    is ∙ forms_at c.self.inside.job c.self.inside.forms.items c.in-Block.block c.self.invariant.0.0 in
     let done = block_done (the_view c.self.inside) c.args.self.now c.in-Block.block c.as_slice-in-Block.result.now c.forms_of-forms.result.now
-    c.args.orders.now.items c.give_block.new.orders.items c.give_block.new.sites c.give_block.new.decisions c.in_ok-flight.flight c.answer.new.self
+    c.args.orders.now.items c.give_block.new.orders.items c.give_block.new.sites c.give_block.new.decisions c.give_block.new.summary c.in_ok-flight.flight
+    c.answer.new.self
     c.saturating_add-self-inside.result c.saturating_add-self-inside-in-Block.result c.push_open.new.flights.items c.self.view_is
     (c.in-Block.is ∙ ap (λ (args : List ℤ). Pending.Block c.in-Block.block args) (sym c.as_slice-in-Block.ensures)) made
-    (c.in_ok-flight.ensures.given (the_view c.self.inside) (record { is_next = refl; has_forms = made; has_sites = refl; has_decisions = refl }))
+    (c.in_ok-flight.ensures.given (the_view c.self.inside)
+    (record { is_next = refl; has_forms = made; has_sites = refl; has_decisions = refl; has_counts = refl }))
     c.answer.ensures c.saturating_add-self-inside.ensures c.saturating_add-self-inside-in-Block.ensures c.in_ok-push_open.ensures in
     search (rules, done)
