@@ -121,3 +121,7 @@ number_bytes n =
 -- the length of an order's frame, the length number with it
 abbrev pub order_length_of : ToWorker → ℕ
 order_length_of order = capped (number_bytes (capped (order_body order)) + order_body order)
+
+-- the same of a report
+abbrev pub report_length_of : FromWorker → ℕ
+report_length_of report = capped (number_bytes (capped (report_body report)) + report_body report)

@@ -15,6 +15,14 @@ pub fn order_length(order: &ToWorker) -> u64
     number_bytes(body).saturating_add(body)
 }
 
+/// The same of a report. Its meaning is `report_length_of` of `specs/Lengths.antt`.
+pub fn report_length(report: &FromWorker) -> u64
+    ensures { result ≡ spec.report_length_of report.now }
+{
+    let body = report_body(report);
+    number_bytes(body).saturating_add(body)
+}
+
 /// The bytes of a message's body.
 pub(crate) fn body_length(message: &Message) -> u64
     ensures { result ≡ capped (spec.body_of message.now) }

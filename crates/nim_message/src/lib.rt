@@ -9,7 +9,7 @@ mod ranges;
 mod report;
 
 pub use frame::Data;
-pub use lengths::order_length;
+pub use lengths::{order_length, report_length};
 pub use message::Message;
 pub use order::ToWorker;
 pub use ranges::in_range;

@@ -2,5 +2,6 @@ mod copies;
 mod files;
 mod jobs;
 mod laws;
+mod lengths;
 mod plane;
 mod reuse;
