@@ -12,9 +12,9 @@ use Rattle.std.proofs.lemmas.Fmt.{digits_decimal, digits_value-decimal, decimal_
 use Rattle.std.proofs.lemmas.Str.Parse.{IsNumeralModel, numerals_by_fold}
 use Rattle.std.proofs.lemmas.List.{take_at, drop_at}
 use Rattle.nim_base.proofs.ReadsBack.{IsSmall}
-use Rattle.nim_lex.specs.Bytes.{is_blank, is_newline}
+use Rattle.nim_lex.specs.Bytes.{is_blank, is_newline, is_word_byte}
 use Rattle.nim_lex.specs.Numbers.{in_range, number_of, signed}
-use Rattle.nim_data.specs.Lines.{behind, bounded, cell, is_bare, is_numeral, is_word_byte, unblanked, whole, word}
+use Rattle.nim_data.specs.Lines.{behind, bounded, cell, is_bare, is_numeral, unblanked, whole, word}
 use Rattle.nim_job.proofs.Lists.{list_all_weaker}
 
 -- ---- words

@@ -22,6 +22,7 @@ pub use edit::{Edit, PatchPart, Spec};
 pub use entry::{Entry, EntryKind};
 pub use expansion::patch_commands;
 pub use half::Half;
+pub use numbers::entry_number;
 pub use rank::Rank;
 pub use slots::{object_of, reads, writes};
 pub use template::WorkerTemplate;

@@ -6,8 +6,9 @@ use nim_base::{Object, Slot};
 /// From this many on, slots are scratch slots of the same objects.
 pub(crate) const SLOTS: u16 = 512;
 
-/// The number of a task's entry, by its phase and the index of its read or write.
-pub(crate) fn entry_number(task: u16, phase: u32, index: usize) -> u32
+/// The number of a task's entry, by its phase and the index of its read or write. It is `entry_number` of
+/// `specs/Numbers.antt`.
+pub fn entry_number(task: u16, phase: u32, index: usize) -> u32
     requires { phase < 8 }
     ensures { result ≡ spec.entry_number task phase index }
 {

@@ -2,13 +2,9 @@
 use Rattle.std.specs.Prelude.{ℕ, zero, suc, ◌==◌, nat_le, nat_lt, ◌&&◌, not, Bool, true, false, if◌then◌else◌, List, [], ◌∷◌, ◌++◌, length, take, drop, slice_index, ℤ, Option, None, Some}
 use Rattle.std.specs.List.{list_all, prefix_len}
 use Rattle.std.specs.Char.{is_ascii_alphabetic, is_ascii_digit}
-use Rattle.nim_lex.specs.Bytes.{is_blank, is_name_byte}
+use Rattle.nim_lex.specs.Bytes.{is_blank, is_name_byte, is_word_byte}
 use Rattle.nim_lex.specs.Numbers.{in_range, number_of, signed}
 use Rattle.nim_data.specs.declared.lines.Heading.{Heading}
-
--- a byte that isn't a space, a tab or a carriage return
-abbrev pub is_word_byte : ℕ → Bool
-is_word_byte b = not (is_blank b)
 
 -- a text from its first word on
 abbrev pub unblanked : List ℕ → List ℕ

@@ -1,15 +1,14 @@
 //! The lines of a data file, as `specs/Lines.antt` says them.
 
-ghost use Rattle.std.specs.Prelude.{◌≡◌, ◌^◌, ◌-◌, ◌+◌, ◌≤◌, length, min, slice_index, IfOk, OnOk, None, Some, ◌++◌, ◌∷◌, []};
-ghost use Rattle.std.specs.Char.{is_ascii_alphabetic, is_ascii_digit};
-ghost use Rattle.std.specs.List.{list_all, prefix_len};
-ghost use Rattle.nim_lex.specs.Bytes.{is_blank, is_name_byte};
+ghost use Rattle.std.specs.Prelude.{◌≡◌, ◌-◌, ◌+◌, ◌≤◌, length, slice_index, IfOk, OnOk, None, Some, ◌++◌, ◌∷◌, []};
+ghost use Rattle.std.specs.Char.{is_ascii_alphabetic};
+ghost use Rattle.nim_lex.specs.Bytes.{is_blank};
 ghost use Rattle.nim_data.specs.Lines as spec;
 ghost use Rattle.nim_data.specs.Fault.{Fills, Gives};
 
 use crate::fault::Unread;
 use nim_base::{NoMemory, Seq};
-use nim_lex::{is_blank, is_name_byte, number, signed};
+use nim_lex::{are_digits, are_name_bytes, blanks_len, is_blank, number, signed, word_len};
 use std::alloc::Global;
 
 /// A header, `NAME PART ROWS WIDTH`.
@@ -89,20 +88,6 @@ fn add(cells: &mut Vec<i64>, cell: i64) -> Result<(), NoMemory>
     Ok(())
 }
 
-fn blanks_len(text: &[u8]) -> usize
-    ensures len { result ≡ prefix_len is_blank text.now }
-    ensures within { result ≤ length text.now }
-{
-    text.iter().take_while(|b| is_blank(**b)).count()
-}
-
-fn word_len(text: &[u8]) -> usize
-    ensures len { result ≡ prefix_len spec.is_word_byte text.now }
-    ensures within { result ≤ length text.now }
-{
-    text.iter().take_while(|b| !is_blank(**b)).count()
-}
-
 /// The first word of a text, empty where there is none, and the text behind it.
 #[tactic(auto, unfolding(crate::specs::Lines::word, crate::specs::Lines::behind))]
 fn next_word(text: &[u8]) -> (&[u8], &[u8])
@@ -111,12 +96,6 @@ fn next_word(text: &[u8]) -> (&[u8], &[u8])
 {
     let (_, text) = text.split_at(blanks_len(text));
     text.split_at(word_len(text))
-}
-
-fn are_digits(word: &[u8]) -> bool
-    ensures { result ≡ list_all is_ascii_digit word.now }
-{
-    word.iter().all(|b| b.is_ascii_digit())
 }
 
 fn is_numeral(word: &[u8]) -> bool
@@ -162,12 +141,6 @@ fn cell(word: &[u8]) -> Result<i64, Unread>
         [b'-', digits @ ..] => whole(true, digits),
         _ => whole(false, word),
     }
-}
-
-fn are_name_bytes(word: &[u8]) -> bool
-    ensures { result ≡ list_all is_name_byte word.now }
-{
-    word.iter().all(|b| is_name_byte(*b))
 }
 
 fn begins_with_letter(word: &[u8]) -> bool

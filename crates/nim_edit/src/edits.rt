@@ -7,6 +7,7 @@ ghost use Rattle.nim_place.specs.Schedule.{is_one_of};
 use crate::mask::mask_of;
 use nim_base::{Copied, NoMemory, Object, Seq, TaskForm, Worker};
 use nim_command::{Edit, Spec, WorkerTemplate};
+use nim_place::is_one_of;
 use std::alloc::Global;
 
 /// The edits that move a task to a worker that isn't its owner, each with the worker that gets it.
@@ -127,11 +128,4 @@ fn offset_behind(past: &[TaskForm], object: Object) -> u16
         }
     }
     offset
-}
-
-/// Whether an object is one of these.
-fn is_one_of(objects: &[Object], object: Object) -> bool
-    ensures { result ≡ is_one_of objects.now object }
-{
-    objects.iter().any(|one| one.0 == object.0)
 }

@@ -1,19 +1,9 @@
 ghost use Rattle.std.specs.Prelude.{◌≡◌, ◌++◌, ◌<◌, ◌≤◌, length, IfOk, OnOk};
-ghost use Rattle.nim_base.specs.Functions.{left_of, param_of, quotient, row_above, row_below, row_by, stencil_cell, stencil_of};
+ghost use Rattle.nim_base.specs.Functions.{left_of, param_of, row_above, row_below, row_by, stencil_cell, stencil_of};
 
 use crate::rows::{cell_or_zero, row_of, width_of};
-use nim_base::{NoMemory, Value};
+use nim_base::{NoMemory, Value, divided};
 use std::alloc::Global;
-
-/// A quotient that leaves no negative remainder, 0 where the divisor is 0.
-fn divided(dividend: i64, divisor: i64) -> i64
-    ensures { result ≡ quotient dividend divisor }
-{
-    match divisor {
-        0 => 0,
-        _ => dividend.wrapping_div_euclid(divisor),
-    }
-}
 
 /// The row above: over the first row lies the last row of another value.
 fn line_above<'a>(above: &'a Value, middle: &'a Value, row: usize) -> &'a [i64]

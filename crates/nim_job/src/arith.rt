@@ -4,7 +4,7 @@ ghost use Rattle.nim_job.specs.Arith.{arith_of, compared, remainder};
 ghost use Rattle.nim_job.specs.Driver.{atom_of, is_met, let_value};
 
 use crate::{Arith, Atom, Cmp, Cond};
-use nim_base::{NoMemory, Seq};
+use nim_base::{NoMemory, Seq, divided};
 use std::alloc::Global;
 
 /// What an atom stands for.
@@ -73,16 +73,6 @@ fn calculate(sign: Arith, left: i64, right: i64) -> i64
         Arith::Times => left.wrapping_mul(right),
         Arith::Divide => divided(left, right),
         Arith::Remainder => left_over(left, right),
-    }
-}
-
-/// The quotient that leaves no negative remainder, 0 where the divisor is 0.
-fn divided(dividend: i64, divisor: i64) -> i64
-    ensures { result ≡ quotient dividend divisor }
-{
-    match divisor {
-        0 => 0,
-        _ => dividend.wrapping_div_euclid(divisor),
     }
 }
 

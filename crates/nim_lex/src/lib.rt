@@ -9,6 +9,7 @@ mod lines;
 mod numbers;
 mod scan;
 mod token;
+mod words;
 
 pub use bytes::{is_blank, is_name_byte};
 pub use fault::{LexFault, Refusal};
@@ -16,3 +17,4 @@ pub use lines::{end_line, line_len};
 pub use numbers::{number, signed};
 pub use scan::tokens;
 pub use token::{Token, TokenKind};
+pub use words::{are_digits, are_name_bytes, blanks_len, word_len};

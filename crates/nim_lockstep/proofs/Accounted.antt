@@ -23,12 +23,12 @@ use Rattle.nim_course.specs.Controller.{Controller, Flight}
 use Rattle.nim_course.specs.Leads.{Leads}
 use Rattle.nim_course.specs.Moves.{with_instance, with_reused}
 use Rattle.nim_course.specs.OrdersGiven.{flight_of, instance_orders, reused_flight, reused_orders}
+use Rattle.nim_course.specs.PutLists.{is_begin}
 use Rattle.nim_history.specs.History.{Asked, asked_at}
 use Rattle.nim_history.proofs.InTurn.{asked_still}
 use Rattle.nim_lockstep.specs.declared.ran.Ran.{Ran}
 use Rattle.nim_lockstep.specs.InStep.{has_run}
 use Rattle.nim_lockstep.proofs.Apart.{all_live, apart_for}
-use Rattle.nim_lockstep.proofs.BegunOnce.{is_begin}
 use Rattle.nim_lockstep.proofs.Course.{KeepsTo}
 use Rattle.nim_lockstep.proofs.Flights.{more_awaited, reused_awaited, single_awaited}
 use Rattle.nim_lockstep.proofs.Gives.{IsLast, IsQuiet, RunsNone, reused_grow, singles_grow}

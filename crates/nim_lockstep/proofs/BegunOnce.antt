@@ -26,17 +26,13 @@ use Rattle.nim_course.specs.declared.pending.Pending.TheVariants.{Begin, Idle, B
 use Rattle.nim_course.specs.Controller.{Controller}
 use Rattle.nim_course.specs.Moves.{orders_asked, orders_of_block, orders_with}
 use Rattle.nim_course.specs.OrdersGiven.{epoch_orders, first_commands, instance_orders, single_for}
+use Rattle.nim_course.specs.PutLists.{is_begin}
 use Rattle.nim_history.specs.InTurn.{is_reset}
 use Rattle.nim_lockstep.proofs.Reused.{before_each, copies_for, order_last, orders_before, reused_to, template_for}
 use Rattle.nim_lockstep.proofs.Singles.{asked_each, each_to, instance_each, singles_each}
 use Rattle.nim_lockstep.proofs.UnderWay.{BeginOnce}
 
 -- ---- orders that begin an epoch once
-
--- whether the epoch is to be begun
-abbrev pub is_begin : Pending → Bool
-is_begin Begin = true
-is_begin pending = false
 
 -- the first of these orders is a Reset, and no other is
 abbrev pub HasBegun : List ToWorker → Type 0

@@ -21,6 +21,7 @@ use Rattle.nim_course.specs.Controller.{Controller}
 use Rattle.nim_course.specs.Leads.{HasAsked, Leads, StandsFor, begun_by}
 use Rattle.nim_course.specs.Moves.{IsTurned, AreFree, after_moves, asked, does_wait, done_with, is_held_up, moved, orders_asked, orders_in, orders_of, orders_of_block, orders_with, with_block}
 use Rattle.nim_course.specs.OrdersGiven.{epoch_orders, first_commands, instance_orders, reused_orders, single_for}
+use Rattle.nim_course.specs.PutLists.{is_begin}
 use Rattle.nim_course.specs.Summaries.{counted_on}
 use Rattle.nim_course.proofs.Asking.{asks_count, goes_on}
 use Rattle.nim_course.proofs.Blocks.{steps_few}
@@ -30,7 +31,7 @@ use Rattle.nim_course.proofs.Turns.{move_leads}
 use Rattle.nim_lockstep.specs.declared.ran.Ran.{Ran}
 use Rattle.nim_lockstep.proofs.Accounted.{LeadsOnCourse, instance_accounted, reused_accounted, still_accounted}
 use Rattle.nim_lockstep.proofs.Apart.{all_live}
-use Rattle.nim_lockstep.proofs.BegunOnce.{epoch_to, is_begin}
+use Rattle.nim_lockstep.proofs.BegunOnce.{epoch_to}
 use Rattle.nim_lockstep.proofs.Course.{KeepsTo, done_begun, move_keeps}
 use Rattle.nim_lockstep.proofs.Gives.{IsLast, IsQuiet, reused_grow, singles_grow}
 use Rattle.nim_lockstep.proofs.Groups.{Gives, Grows, orders_give}

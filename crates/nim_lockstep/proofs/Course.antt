@@ -18,9 +18,10 @@ use Rattle.nim_course.specs.declared.setup.Setup.{Setup}
 use Rattle.nim_course.specs.Controller.{Controller}
 use Rattle.nim_course.specs.Moves.{IsTurned, after_moves, asked, done_with, moved, orders_in, orders_of, orders_with, with_block}
 use Rattle.nim_course.specs.OrdersGiven.{epoch_orders}
+use Rattle.nim_course.specs.PutLists.{is_begin}
 use Rattle.nim_course.specs.Reports.{after_report, flight_after, flight_through, reported, told}
 use Rattle.nim_course.proofs.Homes.{live_below}
-use Rattle.nim_lockstep.proofs.BegunOnce.{HasBegun, begun_once, epoch_begins, is_begin, more_begun, move_plain, once_begun}
+use Rattle.nim_lockstep.proofs.BegunOnce.{HasBegun, begun_once, epoch_begins, more_begun, move_plain, once_begun}
 use Rattle.nim_lockstep.proofs.UnderWay.{BeginOnce}
 
 -- ---- moves

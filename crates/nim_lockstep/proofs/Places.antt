@@ -16,11 +16,11 @@ use Rattle.nim_course.specs.declared.pending.Pending.{Pending}
 use Rattle.nim_course.specs.declared.pending.Pending.TheVariants.{Begin, Idle, Block, Cell, Parts, Ended}
 use Rattle.nim_course.specs.Controller.{Controller}
 use Rattle.nim_course.specs.Leads.{AreLeading, AreLeadingFor, is_key_from}
+use Rattle.nim_course.specs.PutLists.{is_begin}
 use Rattle.nim_course.proofs.Homes.{live_below}
 use Rattle.nim_history.specs.History.{Asked, asked_at}
 use Rattle.nim_history.proofs.Left.{asked_is}
 use Rattle.nim_lockstep.proofs.Apart.{asked_numbers}
-use Rattle.nim_lockstep.proofs.BegunOnce.{is_begin}
 use Rattle.nim_lockstep.proofs.OnePlace.{IsRunBy, numbers_at, position_run_by, run_in, within_runs}
 use Rattle.nim_lockstep.proofs.UnderWay.{run_placed}
 

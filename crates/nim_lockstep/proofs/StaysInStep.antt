@@ -9,6 +9,7 @@ use Rattle.nim_job.specs.Serial.{tasks_of}
 use Rattle.nim_course.specs.declared.outcome.Outcome.TheVariants.{Done}
 use Rattle.nim_course.specs.declared.pending.Pending.TheVariants.{Ended}
 use Rattle.nim_course.specs.Controller.{Flight}
+use Rattle.nim_course.specs.PutLists.{is_begin}
 use Rattle.nim_course.proofs.Puts.{controllers_put}
 use Rattle.nim_history.specs.History.{Asked}
 use Rattle.nim_lockstep.specs.Cluster.{ClusterState, unbegun}
@@ -16,7 +17,6 @@ use Rattle.nim_lockstep.specs.Events.{HasTurned, IsStep}
 use Rattle.nim_lockstep.specs.InStep.{AreSteps, HasTruth, IsInStep, IsReached, has_run}
 use Rattle.nim_lockstep.specs.Law.{ClustersStayInStep}
 use Rattle.nim_lockstep.proofs.AtHomes.{are_at_homes}
-use Rattle.nim_lockstep.proofs.BegunOnce.{is_begin}
 use Rattle.nim_lockstep.proofs.Places.{IsGivenTo, given_to, leading_on}
 use Rattle.nim_lockstep.proofs.UnderWay.{IsUnderWay, NodesGoOn, awaits_through, is_awaited_by, is_awaited_in, is_from_instance}
 use Rattle.nim_lockstep.proofs.PutSoFar.{IsPut, step_is_put, turn_is_put}

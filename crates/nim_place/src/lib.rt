@@ -8,5 +8,5 @@ mod versions;
 
 pub use laws::{map_starts, orders_extend};
 pub use placement::{Placement, home};
-pub use schedule::schedule_task;
+pub use schedule::{is_one_of, schedule_task};
 pub use versions::VersionMap;

@@ -1,4 +1,4 @@
-ghost use Rattle.std.specs.Prelude.{◌≡◌, ◌<◌, ◌≤◌, ◌∷◌, ◌++◌, [], true, length, map, slice_get};
+ghost use Rattle.std.specs.Prelude.{◌≡◌, ◌<◌, ◌≤◌, [], true, length, map, slice_get};
 ghost use Rattle.std.specs.Prelude.{IfOk, OnOk, OnErr, IsSomeAnd};
 ghost use Rattle.std.specs.List.{list_any};
 ghost use Rattle.nim_command.specs.Numbers as numbers;
@@ -12,7 +12,7 @@ ghost use Rattle.nim_place.specs.Versions.{after_commands};
 
 use crate::{Placement, VersionMap, home};
 use nim_base::{NoMemory, Object, Position, Short, Slot, Task, Worker};
-use nim_command::{Command, Kind};
+use nim_command::{Command, Kind, entry_number};
 use std::alloc::Global;
 
 /// An object that has to move before a task may run: the index of its first read, and who sends it.
@@ -112,8 +112,8 @@ fn source_of(map: &VersionMap, owner: Worker, past: &[Object], object: Object) -
     }
 }
 
-/// Whether an object is one of these.
-fn is_one_of(objects: &[Object], object: Object) -> bool
+/// Whether an object is one of these. It is `is_one_of` of `specs/Schedule.antt`.
+pub fn is_one_of(objects: &[Object], object: Object) -> bool
     ensures { result ≡ spec.is_one_of objects.now object }
 {
     objects.iter().any(|one| one.0 == object.0)
@@ -211,18 +211,6 @@ fn received(alloc: Global, number: u16, moved: &[Moved]) -> Result<Short<u32, 8>
         before.push(entry_number(number, 1, one.index))?;
     }
     Ok(before)
-}
-
-/// The number of a task's entry, by its phase and the index of its read.
-fn entry_number(task: u16, phase: u32, index: usize) -> u32
-    requires { phase < 8 }
-    ensures { result ≡ numbers.entry_number task phase index }
-{
-    let first = 64 * u32::from(task) + 8 * phase;
-    match u32::try_from(index) {
-        Ok(index) => first.saturating_add(index),
-        Err(_) => u32::MAX,
-    }
 }
 
 /// The map takes in commands, one after another.

@@ -1,11 +1,11 @@
 ghost use Rattle.std.specs.Prelude.{◌≡◌, ◌+◌, ◌*◌, ◌<◌, ◌≤◌, true, [], ◌∷◌, IfOk};
 ghost use Rattle.std.specs.List.{fold};
-ghost use Rattle.nim_command.specs.Holds as holds;
 ghost use Rattle.nim_place.specs.Stands.{Stands, StandsOn, is_aside};
 ghost use Rattle.nim_place.specs.Versions as spec;
 
 use nim_base::{NoMemory, Object, Position, Slot, Version, Worker};
 use nim_command::{Command, Kind};
+use nim_plan::version_after;
 use std::alloc::Global;
 use std::marker::Model;
 
@@ -198,11 +198,4 @@ impl VersionMap {
     {
         usize::from(worker.0) * usize::from(self.objects) + usize::from(slot.0)
     }
-}
-
-/// The version of what the task at a position writes.
-fn version_after(position: Position) -> Version
-    ensures { result ≡ holds.version_after position }
-{
-    position.saturating_add(1)
 }

@@ -65,8 +65,8 @@ fn look_back(kind: &Kind, slot: Slot) -> Origin
     }
 }
 
-/// The version of what the task at a position writes.
-fn version_after(position: Position) -> Version
+/// The version of what the task at a position writes: `version_after` of `specs/Holds.antt` of `nim_command`.
+pub fn version_after(position: Position) -> Version
     ensures { result ≡ spec.version_after position }
 {
     position.saturating_add(1)

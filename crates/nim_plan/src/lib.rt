@@ -11,10 +11,11 @@ mod ranks;
 mod slots;
 mod waits;
 
-pub use contents::holds;
+pub use contents::{holds, version_after};
 pub use covering::covered;
 pub use installed::Installed;
 pub use laws::legal_by_steps;
 pub use listing::commands;
 pub use nim_command::Rank;
 pub use ranks::rank;
+pub use slots::is_among;

@@ -4,8 +4,8 @@ ghost use Rattle.nim_command.specs.Slots as spec;
 use nim_base::Slot;
 use nim_command::Kind;
 
-/// Whether a slot is one of these.
-pub(crate) fn is_among(slots: &[Slot], slot: Slot) -> bool
+/// Whether a slot is one of these: `is_among` of `specs/Slots.antt` of `nim_command`.
+pub fn is_among(slots: &[Slot], slot: Slot) -> bool
     ensures { result ≡ spec.is_among slots.now slot }
 {
     slots.iter().any(|one| one.0 == slot.0)

@@ -1,7 +1,7 @@
 -- An instance of a block that was recorded: by which template it is done, what is patched before it, and its orders.
-use Rattle.std.specs.Prelude.{◌≡◌, ℕ, ◌==◌, ◌≤◌, nat_lt, Bool, true, false, if◌then◌else◌, ℤ, List, [], ◌++◌}
+use Rattle.std.specs.Prelude.{◌≡◌, ℕ, ◌==◌, nat_lt, Bool, true, false, if◌then◌else◌, ℤ, List, [], ◌++◌}
 use Rattle.std.specs.Prelude.{length, map, slice_set}
-use Rattle.std.specs.List.{filter, list_all, list_any, range_with_len}
+use Rattle.std.specs.List.{filter, range_with_len}
 use Rattle.std.specs.Option.{option_map_or}
 use Rattle.nim_base.specs.declared.number.Worker.{Worker}
 use Rattle.nim_command.specs.declared.command.Command.{Command}
@@ -13,9 +13,9 @@ use Rattle.nim_place.specs.Extends.{worker_of}
 use Rattle.nim_place.specs.Versions.{Versions, after_effect}
 use Rattle.nim_template.specs.declared.template.ControllerTemplate.{ControllerTemplate}
 use Rattle.nim_template.specs.Built.{built}
-use Rattle.nim_template.specs.Fits.{is_fit}
 use Rattle.nim_template.specs.Given.{installs_of, instances_of}
 use Rattle.nim_template.specs.Instance.{half_of, instance_of}
+use Rattle.nim_template.specs.MayBuild.{MayBuild}
 use Rattle.nim_patch.specs.declared.kept.Key.{Key}
 use Rattle.nim_patch.specs.declared.patch.PatchCopy.{PatchCopy}
 use Rattle.nim_patch.specs.Cache.{after_use, found, number_for}
@@ -52,13 +52,9 @@ abbrev pub is_new : Decided → Bool
 is_new (Installed template) = false
 is_new _ = true
 
--- Templates may be built of records of so many objects: some worker is live, and the forms are few and fit.
-pub record CanReuse (objects : ℕ) (live : List Bool) (block : ℕ) (decided : Decided) : Type 0 where
-  pub few_objects : objects ≤ 512
-  pub few_workers : length live ≤ 16
-  pub some_live : list_any (λ (flag : Bool). flag) live ≡ true
-  pub few_forms : length (record_of block decided).forms ≤ 1024
-  pub all_fit : list_all (is_fit objects) (record_of block decided).forms ≡ true
+-- a block may be reused: its record is one that a template may be built of
+abbrev pub CanReuse : ℕ → List Bool → ℕ → Decided → Type 0
+CanReuse objects live block decided = MayBuild objects live (record_of block decided).forms
 
 -- ---- the patch before an instance
 

@@ -1,8 +1,8 @@
 -- The first word of a text, and the words behind it.
 use Rattle.std.proofs.Common.{◌≡◌, ◌∙◌, ℕ, zero, suc, ◌+◌, cond, true, false, List, [], ◌∷◌, take, drop, refl, sym, ap, arith}
 use Rattle.std.specs.List.{prefix_len}
-use Rattle.nim_lex.specs.Bytes.{is_blank}
-use Rattle.nim_schedule.specs.Words.{is_word_byte, words_from, words_in}
+use Rattle.nim_lex.specs.Bytes.{is_blank, is_word_byte}
+use Rattle.nim_schedule.specs.Words.{words_from, words_in}
 
 one_more : (n : ℕ) → 1 + n ≡ suc n
 one_more n = omega arith

@@ -2,12 +2,8 @@
 use Rattle.std.specs.Prelude.{ℕ, zero, suc, ◌==◌, nat_le, if◌then◌else◌, Bool, not, ◌&&◌, List, [], ◌∷◌, length, take, Option, None, Some}
 use Rattle.std.specs.List.{list_all, position_or_len, prefix_len, take_while}
 use Rattle.std.specs.Char.{is_ascii_digit}
-use Rattle.nim_lex.specs.Bytes.{is_blank, is_hash, is_name_byte}
+use Rattle.nim_lex.specs.Bytes.{is_blank, is_hash, is_name_byte, is_word_byte}
 use Rattle.nim_lex.specs.Numbers.{number_of}
-
--- no blank
-abbrev pub is_word_byte : ℕ → Bool
-is_word_byte b = not (is_blank b)
 
 -- a line without its comment
 abbrev pub uncommented : List ℕ → List ℕ

@@ -1,15 +1,14 @@
 //! The words of a line, as `specs/Words.antt` says them.
 
 ghost use Rattle.std.specs.Prelude.{◌≡◌, ◌≤◌, ◌∷◌, [], length, IfSome, None};
-ghost use Rattle.std.specs.Char.{is_ascii_digit};
-ghost use Rattle.std.specs.List.{list_all, position_or_len, prefix_len};
-ghost use Rattle.nim_lex.specs.Bytes.{is_blank, is_hash, is_name_byte};
+ghost use Rattle.std.specs.List.{position_or_len};
+ghost use Rattle.nim_lex.specs.Bytes.{is_hash};
 ghost use Rattle.nim_schedule.specs.Fault.{Gives};
 ghost use Rattle.nim_schedule.specs.Words as spec;
 
 use crate::fault::Unread;
 use nim_base::{NoMemory, Seq};
-use nim_lex::{is_blank, is_name_byte, number};
+use nim_lex::{are_digits, are_name_bytes, blanks_len, number, word_len};
 use std::alloc::Global;
 
 /// The most digits of a number.
@@ -74,37 +73,9 @@ fn comment_at(line: &[u8]) -> usize
     line.iter().take_while(|b| **b != b'#').count()
 }
 
-/// How many blanks a text begins with.
-fn blanks_len(text: &[u8]) -> usize
-    ensures len { result ≡ prefix_len is_blank text.now }
-    ensures within { result ≤ length text.now }
-{
-    text.iter().take_while(|b| is_blank(**b)).count()
-}
-
-/// How many bytes other than blanks a text begins with.
-fn word_len(text: &[u8]) -> usize
-    ensures len { result ≡ prefix_len spec.is_word_byte text.now }
-    ensures within { result ≤ length text.now }
-{
-    text.iter().take_while(|b| !is_blank(**b)).count()
-}
-
 /// A word of 1 to so many bytes.
 fn is_short(most: usize, word: &[u8]) -> bool
     ensures { result ≡ spec.is_short most word.now }
 {
     !word.is_empty() && word.len() <= most
-}
-
-fn are_digits(word: &[u8]) -> bool
-    ensures { result ≡ list_all is_ascii_digit word.now }
-{
-    word.iter().all(|b| b.is_ascii_digit())
-}
-
-fn are_name_bytes(word: &[u8]) -> bool
-    ensures { result ≡ list_all is_name_byte word.now }
-{
-    word.iter().all(|b| is_name_byte(*b))
 }

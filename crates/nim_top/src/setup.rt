@@ -1,8 +1,6 @@
 //! How the words say that a job is run.
 
 ghost use Rattle.std.specs.Prelude.{◌≡◌, ◌-◌, ◌^◌, min};
-ghost use Rattle.std.specs.Char.{is_ascii_digit};
-ghost use Rattle.std.specs.List.{list_all};
 ghost use Rattle.std.specs.Option.{option_and_then, option_map};
 ghost use Rattle.nim_lex.specs.Numbers as lex;
 ghost use Rattle.nim_schedule.specs.Words.{is_short};
@@ -11,6 +9,7 @@ ghost use Rattle.nim_top.specs.Words as spec;
 ghost use Rattle.nim_top.specs.Words.{word_of};
 
 use nim_course::Setup;
+use nim_lex::are_digits;
 use nim_place::Placement;
 
 /// The most digits of a number on the command line.
@@ -103,12 +102,6 @@ fn is_short(word: &[u8]) -> bool
     ensures { result ≡ is_short 20 word.now }
 {
     !word.is_empty() && word.len() <= MOST_DIGITS
-}
-
-fn are_digits(word: &[u8]) -> bool
-    ensures { result ≡ list_all is_ascii_digit word.now }
-{
-    word.iter().all(|b| b.is_ascii_digit())
 }
 
 // The number that digits write, or the greatest of a `u128` where it is greater.
