@@ -1,9 +1,9 @@
 -- The tasks of a job's blocks are made once, and those of each block fit.
 pub mod Forms
+-- Which workers and objects a map of versions has stays, whatever is put into it: the clause of `ControllerCore::new`.
+pub mod Kept
 -- What objects hold at first is what they hold at the start of the job: the clause of `ControllerCore::checkpoint`.
 pub mod Checkpoints
--- Which workers and objects a map of versions has stays, whatever is put into it: `SiteMap::new`, `stay` of its calls.
-pub mod Kept
 -- Commands given alone follow one another; those of all variables begin an epoch: `begun` of `ControllerCore::begin`.
 pub mod Alone
 -- The commands of one worker are taken out of a list, and those of the others stay in their order.
@@ -14,7 +14,7 @@ pub mod Instances
 pub mod Tasks
 -- An instance is given task by task and its block recorded, or as a whole: `given` and `decided` of `give_block`.
 pub mod Reused
--- The moves that ask for a variable's output or give a block do what is due: clause `given` of `ControllerCore::give`.
+-- A move that asks for a variable's output, or gives a block, is the one that is due: `ControllerCore::ask` and `give`.
 pub mod Given
 -- A variable has as many parts as it says, and none where it isn't there: clause `parts` of `ControllerCore::parts`.
 pub mod Parts
@@ -22,7 +22,7 @@ pub mod Parts
 pub mod Fetches
 -- An instance is in flight while a run or a worker's report of it is awaited: `ControllerCore::on_report`.
 pub mod Flights
--- What a machine that is asked counts, and whether it goes on at once.
+-- A machine that asks for something has counted at least one statement more, within the steps of its job.
 pub mod Asking
 -- Each move leaves fewer to make, and moves in turn are those of a turn: clause `turned` of `ControllerCore::turn`.
 pub mod Moving

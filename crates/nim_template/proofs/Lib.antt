@@ -60,7 +60,7 @@ pub mod InTurn
 pub mod Given
 -- The preconditions of a built template are main slots of live workers, each once: clause `needs` of `build_halves`.
 pub mod MainSlots
--- Commands by rank are any list that ascends by rank and has each worker's commands in the same order.
+-- Commands by rank are in the order of any list that ascends by rank and has each worker's commands in order.
 pub mod ByRank
 -- The commands of tasks ascend by rank: of each task what is sent, what is received and the run.
 pub mod Ranked
