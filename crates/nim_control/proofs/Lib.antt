@@ -12,10 +12,10 @@ pub mod Taken
 pub mod Instances
 -- Each form with the arguments put in is the next task, and at the end the runs of all tasks are awaited.
 pub mod Tasks
--- An instance is given task by task and its block recorded, or as a whole: `given` and `decided` of `give_block`.
-pub mod Reused
 -- A move that asks for a variable's output, or gives a block, is the one that is due: `ControllerCore::ask` and `give`.
 pub mod Given
+-- An instance is given task by task and its block recorded, or as a whole: `given` and `decided` of `give_block`.
+pub mod Reused
 -- A variable has as many parts as it says, and none where it isn't there: clause `parts` of `ControllerCore::parts`.
 pub mod Parts
 -- Objects are fetched one after another, each under the next ticket: clause `fetched` of `ControllerCore::fetch`.

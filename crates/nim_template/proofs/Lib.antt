@@ -34,10 +34,10 @@ pub mod Halves
 pub mod Written
 -- Behind the closing copies of an instance its map is like the offsets behind them.
 pub mod Ends
--- Maps stay before the position that commands reach: the law `maps_stay_before`.
-pub mod StaysBefore
 -- Commands that are each worker's in the same order, before sets aside, leave the same map.
 pub mod Sames
+-- Maps stay before the position that commands reach: the law `maps_stay_before`.
+pub mod StaysBefore
 -- Each entry of a built template is of one of the workers, and none receives what the block began with.
 pub mod Entries
 -- An effect leaves the very map that is like the offsets in the end.
