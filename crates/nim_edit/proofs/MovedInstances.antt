@@ -1,4 +1,4 @@
--- An instance of a template that was built, and of which tasks moved since, extends orders so far.
+-- Closing copies are received as they are sent, and no Copy of an instance whose tasks moved goes to a main slot.
 use Rattle.std.proofs.Common.{◌≡◌, ℕ, zero, suc, ◌+◌, ◌<◌, ◌≤◌, Bool, true, false, List, [], ◌∷◌, ◌++◌, map, refl, ap, ap₂, sym, subst, ◌∙◌}
 use Rattle.std.proofs.Common.{arith, Option, None, Some}
 use Rattle.std.specs.Prelude.{◌*◌, ◌==◌, if◌then◌else◌, nat_lt, not, ℤ}

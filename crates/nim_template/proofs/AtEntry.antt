@@ -1,4 +1,4 @@
--- A map of versions for slots that meet preconditions: it has these, and nothing else.
+-- A map of versions for slots that meet preconditions: what these say is current in it, and it has nothing else.
 use Rattle.std.proofs.Common.{◌≡◌, ℕ, ◌<◌, ◌≤◌, Bool, true, false, List, [], ◌∷◌, map, refl, ap, ap₂, sym, subst, ◌∙◌, arith, Option, None, Some}
 use Rattle.std.specs.Prelude.{◌*◌, ◌^◌, ◌==◌, ◌&&◌, ◌||◌, if◌then◌else◌, replicate, slice_index_or}
 use Rattle.std.specs.List.{range_with_len}
