@@ -13,13 +13,13 @@ use Rattle.std.proofs.lemmas.List.Elements.{All-cons, All-head, All-tail, All-ni
 use lib.Signed.{mag}
 use Rattle.nim_base.specs.Value.{Grid, IsGrid}
 use Rattle.nim_base.specs.Text.{row_text, text_of}
-use Rattle.nim_base.specs.ReadBack.{IsInner, IsWord, line_of, words_of, digits_from, natural_of, number_of, numbers_of, row_of, row_lines, header_of, read_part}
+use Rattle.nim_base.specs.ReadBack.{IsInner, IsWord, up_to_newline, words_of, digits_from, natural_of, signed_number_of, numbers_of, number_row, row_lines, header_of, read_part}
 
 abbrev IsEnd : ℕ → Type 0
 IsEnd byte = byte ≢ 10
 
 -- a line is read up to its newline
-line-read : (line rest : List ℕ) → All IsEnd line → line_of (line ++ 10 ∷ rest) ≡ Some (record { line = line; rest = rest })
+line-read : (line rest : List ℕ) → All IsEnd line → up_to_newline (line ++ 10 ∷ rest) ≡ Some (record { line = line; rest = rest })
 line-read [] rest inner = refl
 line-read (byte ∷ line) rest inner =
     let no : (byte == 10) ≡ false = ne_eqb byte 10 (All-head IsEnd byte line inner) in
@@ -75,7 +75,7 @@ natural-read n fits = natural-digits (decimal n) n (decimal_nonempty n fits) (di
 natural-word : (n : ℕ) → n < 2 ^ 64 → IsWord (decimal n)
 natural-word n fits = digits-word (decimal n) (digits_decimal own n fits)
 
-number-digits : (digits : List ℕ) (n : ℕ) → 0 < length digits → all_ascii_digits digits ≡ true → digits_from 0 digits ≡ n → number_of digits ≡ Some (pos n)
+number-digits : (digits : List ℕ) (n : ℕ) → 0 < length digits → all_ascii_digits digits ≡ true → digits_from 0 digits ≡ n → signed_number_of digits ≡ Some (pos n)
 number-digits [] n some are is = absurd (omega arith)
 number-digits (digit ∷ digits) n some are is =
     let range : IsInRange 48 57 digit = digit_at (digit ∷ digits) 0 (own.to (digit ∷ digits) are) (omega arith) in
@@ -86,7 +86,7 @@ number-digits (digit ∷ digits) n some are is =
 abbrev pub IsSmall : ℤ → Type 0
 IsSmall cell = mag cell < 2 ^ 63
 
-number-read : (cell : ℤ) → IsSmall cell → number_of (signed_decimal cell) ≡ Some cell
+number-read : (cell : ℤ) → IsSmall cell → signed_number_of (signed_decimal cell) ≡ Some cell
 number-read (pos n) small =
     number-digits (decimal n) n (decimal_nonempty n (omega arith)) (digits_decimal own n (omega arith)) (digits_value-decimal own n (omega arith))
 number-read (negsuc n) small =
@@ -105,7 +105,7 @@ numbers-read (cell ∷ row) small = rw (number-read cell (All-head IsSmall cell 
 numbers-words : (row : List ℤ) → All IsSmall row → All IsWord (map signed_decimal row)
 numbers-words row small = All-map IsWord signed_decimal row (All-weaker IsSmall (λ cell. IsWord (signed_decimal cell)) number-word row small)
 
-row-read : (row : List ℤ) (width : ℕ) → 1 ≤ width → length row ≡ width → All IsSmall row → row_of width (join_with_byte 32 (map signed_decimal row)) ≡ Some row
+row-read : (row : List ℤ) (width : ℕ) → 1 ≤ width → length row ≡ width → All IsSmall row → number_row width (join_with_byte 32 (map signed_decimal row)) ≡ Some row
 row-read row width wide whole small =
     let some : 0 < length (map signed_decimal row) = omega (arith, length-map row signed_decimal) in
     let even : (length row == width) ≡ true = eq-eqb (length row) width whole in
@@ -122,9 +122,9 @@ rows-read (row ∷ rows) width rest wide even small =
     let after : List ℕ = flat_map row_text rows ++ rest in
     let begins : flat_map row_text (row ∷ rows) ++ rest ≡ line ++ 10 ∷ after = simp append_assoc in
     let cells : All IsSmall row = All-head (All IsSmall) row rows small in
-    let first : line_of (line ++ 10 ∷ after) ≡ Some (record { line = line; rest = after }) =
+    let first : up_to_newline (line ++ 10 ∷ after) ≡ Some (record { line = line; rest = after }) =
     line-read line after (words-line (map signed_decimal row) (numbers-words row cells)) in
-    let this : row_of width line ≡ Some row = row-read row width wide (All-head (IsEven width) row rows even) cells in
+    let this : number_row width line ≡ Some row = row-read row width wide (All-head (IsEven width) row rows even) cells in
     rw (begins, first, this, rows-read rows width rest wide (All-tail (IsEven width) row rows even) (All-tail (All IsSmall) row rows small))
 
 -- the header
@@ -158,7 +158,7 @@ part-read name part grid rest word p w shaped small =
     let line : List ℕ = join_with_byte 32 (header_words name part (length grid.rows) grid.width) in
     let after : List ℕ = flat_map row_text grid.rows ++ rest in
     let begins : text_of name part grid ++ rest ≡ line ++ 10 ∷ after = simp append_assoc in
-    let first : line_of (line ++ 10 ∷ after) ≡ Some (record { line = line; rest = after }) =
+    let first : up_to_newline (line ++ 10 ∷ after) ≡ Some (record { line = line; rest = after }) =
     line-read line after (words-line (header_words name part (length grid.rows) grid.width) (header-words name part (length grid.rows) grid.width word p r w))
     in
     rw (begins, first, header-read name part (length grid.rows) grid.width word p r w, rows-read grid.rows grid.width rest shaped.wide shaped.even small)

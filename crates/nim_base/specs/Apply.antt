@@ -4,7 +4,7 @@ use Rattle.nim_base.specs.declared.number.Shape.{Shape}
 use Rattle.nim_base.specs.declared.task.Func.{Func}
 use Rattle.nim_base.specs.declared.task.Func.TheVariants.{Set, Copy, Addc, Mulc, Add, Sub, Max, Sum, Total, Count, Stencil, Keep, Group, Merge, Split}
 use Rattle.nim_base.specs.Value.{Grid, filled, fitted}
-use Rattle.nim_base.specs.Functions.{param_of, read_of, addc_of, mulc_of, add_of, sub_of, max_of, sum_of, total_of, count_of, stencil_of, keep_of, group_of, merge_of, below_of, rest_of}
+use Rattle.nim_base.specs.Functions.{param_at, read_of, addc_of, mulc_of, add_of, sub_of, max_of, sum_of, total_of, count_of, stencil_of, keep_of, group_of, merge_of, below_of, split_rest}
 
 -- how many parameters a function has
 abbrev pub params_of : Func → ℕ
@@ -40,9 +40,9 @@ most_reads Merge = 8
 most_reads _ = 1
 
 -- how many results a function has
-abbrev pub writes_of : Func → ℕ
-writes_of Split = 2
-writes_of _ = 1
+abbrev pub result_count : Func → ℕ
+result_count Split = 2
+result_count _ = 1
 
 -- the numbers of parameters, reads and results are the function's
 pub record HasCounts {A B C : Type 0} (func : Func) (numbers : List A) (sources : List B) (results : List C) : Type 0
@@ -50,21 +50,21 @@ pub record HasCounts {A B C : Type 0} (func : Func) (numbers : List A) (sources 
     pub params : length numbers ≡ params_of func
     pub fewest : fewest_reads func ≤ length sources
     pub most : length sources ≤ most_reads func
-    pub writes : length results ≡ writes_of func
+    pub writes : length results ≡ result_count func
 
 -- the same as a test, of how many there are
 abbrev pub has_counts : Func → ℕ → ℕ → ℕ → Bool
 has_counts func params reads writes =
     (params == params_of func) && nat_le (fewest_reads func) reads && nat_le reads (most_reads func)
-    && (writes == writes_of func)
+    && (writes == result_count func)
 
 -- What a function gives for its parameters and the values that it reads, before each result is fitted. The
 -- shape is the first that it writes.
 abbrev pub results_of : Func → List ℤ → List Grid → Shape → List Grid
-results_of Set params reads shape = filled shape (param_of params 0) ∷ []
+results_of Set params reads shape = filled shape (param_at params 0) ∷ []
 results_of Copy params reads shape = read_of reads 0 ∷ []
-results_of Addc params reads shape = addc_of (param_of params 0) (read_of reads 0) ∷ []
-results_of Mulc params reads shape = mulc_of (param_of params 0) (read_of reads 0) ∷ []
+results_of Addc params reads shape = addc_of (param_at params 0) (read_of reads 0) ∷ []
+results_of Mulc params reads shape = mulc_of (param_at params 0) (read_of reads 0) ∷ []
 results_of Add params reads shape = add_of (read_of reads 0) (read_of reads 1) ∷ []
 results_of Sub params reads shape = sub_of (read_of reads 0) (read_of reads 1) ∷ []
 results_of Max params reads shape = max_of (read_of reads 0) (read_of reads 1) ∷ []
@@ -72,14 +72,14 @@ results_of Sum params reads shape = sum_of reads ∷ []
 results_of Total params reads shape = total_of reads ∷ []
 results_of Count params reads shape = count_of reads ∷ []
 results_of Stencil params reads shape =
-    stencil_of (param_of params 0) (param_of params 1) (read_of reads 0) (read_of reads 1) (read_of reads 2) ∷ []
+    stencil_of (param_at params 0) (param_at params 1) (read_of reads 0) (read_of reads 1) (read_of reads 2) ∷ []
 results_of Keep params reads shape =
-    keep_of (param_of params 0) (param_of params 1) (param_of params 2) (read_of reads 0) ∷ []
-results_of Group params reads shape = group_of (param_of params 0) (param_of params 1) (read_of reads 0) ∷ []
+    keep_of (param_at params 0) (param_at params 1) (param_at params 2) (read_of reads 0) ∷ []
+results_of Group params reads shape = group_of (param_at params 0) (param_at params 1) (read_of reads 0) ∷ []
 results_of Merge params reads shape = merge_of reads ∷ []
 results_of Split params reads shape =
-    below_of (param_of params 0) (param_of params 1) (read_of reads 0)
-    ∷ rest_of (param_of params 0) (param_of params 1) (read_of reads 0) ∷ []
+    below_of (param_at params 0) (param_at params 1) (read_of reads 0)
+    ∷ split_rest (param_at params 0) (param_at params 1) (read_of reads 0) ∷ []
 
 -- each result fitted to the shape that it is written into
 abbrev pub fit_all : List Grid → List Shape → List Grid

@@ -7,16 +7,16 @@ use Rattle.std.specs.List.{flat_map, sum_by, range_with_len}
 use Rattle.nim_base.specs.Value.{Grid, cell_of, cells_of, empty_grid}
 
 -- a parameter by its place
-abbrev pub param_of : List ℤ → ℕ → ℤ
-param_of params place = slice_index_or params place (pos 0)
+abbrev pub param_at : List ℤ → ℕ → ℤ
+param_at params place = slice_index_or params place (pos 0)
 
 -- a value that is read, by its place
 abbrev pub read_of : List Grid → ℕ → Grid
 read_of reads place = slice_index_or reads place empty_grid
 
 -- the values that a task reads, by their indices
-abbrev pub reads_of : List Grid → List ℕ → List Grid
-reads_of values indices = map (λ index. slice_index_or values index empty_grid) indices
+abbrev pub read_values : List Grid → List ℕ → List Grid
+read_values values indices = map (λ index. slice_index_or values index empty_grid) indices
 
 -- the sum of two cells
 abbrev pub plus : ℤ → ℤ → ℤ
@@ -39,8 +39,8 @@ abbrev pub mulc_of : ℤ → Grid → Grid
 mulc_of number grid = each_cell (λ cell. int_wrapping_mul w64 cell number) grid
 
 -- a row of a value, empty where there is none
-abbrev pub line_of : Grid → ℕ → List ℤ
-line_of grid row = slice_index_or grid.rows row []
+abbrev pub grid_row : Grid → ℕ → List ℤ
+grid_row grid row = slice_index_or grid.rows row []
 
 -- the cell of a row, 0 where there is none
 abbrev pub cell_at : List ℤ → ℕ → ℤ
@@ -109,11 +109,11 @@ quotient dividend divisor = if int_eq divisor (pos 0) then pos 0 else int_wrappi
 
 -- the row above: over the first row lies the last row of another value
 abbrev pub row_above : Grid → Grid → ℕ → List ℤ
-row_above above middle row = if row == 0 then line_of above (length above.rows - 1) else line_of middle (row - 1)
+row_above above middle row = if row == 0 then grid_row above (length above.rows - 1) else grid_row middle (row - 1)
 
 -- the row below: under the last row lies the first row of another value
 abbrev pub row_below : Grid → Grid → ℕ → List ℤ
-row_below middle below row = if row + 1 == length middle.rows then line_of below 0 else line_of middle (row + 1)
+row_below middle below row = if row + 1 == length middle.rows then grid_row below 0 else grid_row middle (row + 1)
 
 -- the cell to the left of a column, 0 before the first
 abbrev pub left_of : List ℤ → ℕ → ℤ
@@ -130,7 +130,7 @@ stencil_cell factor divisor up row down column =
 abbrev pub stencil_of : ℤ → ℤ → Grid → Grid → Grid → Grid
 stencil_of factor divisor above middle below =
     grid_by (length middle.rows) middle.width
-    (λ row. stencil_cell factor divisor (row_above above middle row) (line_of middle row) (row_below middle below row))
+    (λ row. stencil_cell factor divisor (row_above above middle row) (grid_row middle row) (row_below middle below row))
 
 -- the cell of a row at a column that may be any number, 0 where there is none
 abbrev pub at_column : ℤ → List ℤ → ℤ
@@ -151,8 +151,8 @@ abbrev pub below_of : ℤ → ℤ → Grid → Grid
 below_of column pivot grid = kept (λ row. int_lt (at_column column row) pivot) grid
 
 -- the second result of split: the other rows
-abbrev pub rest_of : ℤ → ℤ → Grid → Grid
-rest_of column pivot grid = kept (λ row. not (int_lt (at_column column row) pivot)) grid
+abbrev pub split_rest : ℤ → ℤ → Grid → Grid
+split_rest column pivot grid = kept (λ row. not (int_lt (at_column column row) pivot)) grid
 
 -- a number put among ascending ones, once
 abbrev pub with_number : ℤ → List ℤ → List ℤ

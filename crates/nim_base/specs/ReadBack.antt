@@ -13,15 +13,15 @@ abbrev pub IsWord : List ℕ → Type 0
 IsWord word = All IsInner word
 
 -- the bytes before the first newline, and those behind it
-pub record Line : Type 0 where
+pub record LineRead : Type 0 where
   pub line : List ℕ
   pub rest : List ℕ
 
 -- there is none where there is no newline
-abbrev pub line_of : List ℕ → Option Line
-line_of [] = None
-line_of (byte ∷ bytes) = if byte == 10 then Some (record { line = []; rest = bytes })
-    else option_map (λ (found : Line). record found { line = byte ∷ found.line }) (line_of bytes)
+abbrev pub up_to_newline : List ℕ → Option LineRead
+up_to_newline [] = None
+up_to_newline (byte ∷ bytes) = if byte == 10 then Some (record { line = []; rest = bytes })
+    else option_map (λ (found : LineRead). record found { line = byte ∷ found.line }) (up_to_newline bytes)
 
 -- a byte before the first word
 abbrev pub in_front : ℕ → List (List ℕ) → List (List ℕ)
@@ -44,20 +44,20 @@ natural_of [] = None
 natural_of (digit ∷ digits) = if all_ascii_digits (digit ∷ digits) then Some (digits_from 0 (digit ∷ digits)) else None
 
 -- with `-` before it, a number below 0
-abbrev pub number_of : List ℕ → Option ℤ
-number_of [] = None
-number_of (byte ∷ bytes) = if byte == 45 then option_map (λ number. neg_ℤ (pos number)) (natural_of bytes)
+abbrev pub signed_number_of : List ℕ → Option ℤ
+signed_number_of [] = None
+signed_number_of (byte ∷ bytes) = if byte == 45 then option_map (λ number. neg_ℤ (pos number)) (natural_of bytes)
     else option_map pos (natural_of (byte ∷ bytes))
 
 -- every word a number
 abbrev pub numbers_of : List (List ℕ) → Option (List ℤ)
 numbers_of [] = Some []
 numbers_of (word ∷ words) =
-    option_and_then (λ number. option_map (λ numbers. number ∷ numbers) (numbers_of words)) (number_of word)
+    option_and_then (λ number. option_map (λ numbers. number ∷ numbers) (numbers_of words)) (signed_number_of word)
 
 -- a line of just so many numbers
-abbrev pub row_of : ℕ → List ℕ → Option (List ℤ)
-row_of width line =
+abbrev pub number_row : ℕ → List ℕ → Option (List ℤ)
+number_row width line =
     option_and_then (λ numbers. if length numbers == width then Some numbers else None) (numbers_of (words_of line))
 
 -- rows, and the bytes behind them
@@ -71,8 +71,8 @@ row_lines zero width bytes = Some (record { rows = []; rest = bytes })
 row_lines (suc n) width bytes =
     option_and_then
     (λ first. option_and_then (λ row. option_map (λ (more : RowLines). record more { rows = row ∷ more.rows })
-    (row_lines n width first.rest)) (row_of width first.line))
-    (line_of bytes)
+    (row_lines n width first.rest)) (number_row width first.line))
+    (up_to_newline bytes)
 
 -- what the first line of a part says: the variable's name, the part's number, and how many rows of how many cells
 pub record Header : Type 0 where
@@ -91,14 +91,14 @@ header_of (name ∷ part ∷ rows ∷ width ∷ []) =
 header_of _ = None
 
 -- a part of a variable, and the bytes behind it
-pub record Part : Type 0 where
+pub record PartRead : Type 0 where
   pub name : List ℕ
   pub part : ℕ
   pub value : Grid
   pub rest : List ℕ
 
 -- a header, and as many rows as it says
-unfoldable pub read_part : List ℕ → Option Part
+unfoldable pub read_part : List ℕ → Option PartRead
 read_part bytes =
     option_and_then
     (λ first. option_and_then
@@ -112,4 +112,4 @@ read_part bytes =
     })
     (row_lines header.rows header.width first.rest))
     (header_of (words_of first.line)))
-    (line_of bytes)
+    (up_to_newline bytes)

@@ -45,11 +45,11 @@ abbrev pub fitted : Grid → Shape → Grid
 fitted grid shape = record { width = shape.width; rows = map (fit_row shape.width) (take shape.rows grid.rows) }
 
 -- so many numbers, each 1 more than the one before; a sum wraps
-abbrev pub counted : ℕ → ℤ → List ℤ
-counted zero first = []
-counted (suc n) first = first ∷ counted n (int_wrapping_add w64 first (pos 1))
+abbrev pub counting_up : ℕ → ℤ → List ℤ
+counting_up zero first = []
+counting_up (suc n) first = first ∷ counting_up n (int_wrapping_add w64 first (pos 1))
 
 -- as many rows as the shape has, whose cells count up from the first, row by row
 abbrev pub iota_of : Shape → ℤ → Grid
 iota_of shape first =
-    record { width = shape.width; rows = rows_of shape.rows shape.width (counted (shape.rows * shape.width) first) }
+    record { width = shape.width; rows = rows_of shape.rows shape.width (counting_up (shape.rows * shape.width) first) }

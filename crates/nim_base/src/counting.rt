@@ -1,6 +1,6 @@
 ghost use Rattle.std.specs.Prelude.{◌≡◌, ◌≤◌, IfOk, pos};
 ghost use Rattle.std.specs.Int.{int_wrapping_add, w64};
-ghost use Rattle.nim_base.specs.Value.{counted, iota_of};
+ghost use Rattle.nim_base.specs.Value.{counting_up, iota_of};
 
 use crate::{NoMemory, Shape, Value};
 use std::alloc::Global;
@@ -18,7 +18,7 @@ impl Value {
 }
 
 fn count_up(alloc: Global, count: usize, first: i64) -> Result<Vec<i64>, NoMemory>
-    ensures { IfOk result (λ cells. cells.items ≡ counted count first) }
+    ensures { IfOk result (λ cells. cells.items ≡ counting_up count first) }
 {
     let mut cells = Vec::with_capacity(alloc, count)?;
     let mut next = first;

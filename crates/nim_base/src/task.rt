@@ -1,5 +1,5 @@
 ghost use Rattle.std.specs.Prelude.{◌≡◌, pos};
-ghost use Rattle.nim_base.specs.Apply.{fewest_reads, has_counts, most_reads, params_of, writes_of};
+ghost use Rattle.nim_base.specs.Apply.{fewest_reads, has_counts, most_reads, params_of, result_count};
 
 use crate::{Copied, NoMemory, Object, Seq};
 
@@ -89,7 +89,7 @@ impl Func {
 
     /// How many results it has.
     pub fn writes(self) -> usize
-        ensures { result ≡ writes_of self }
+        ensures { result ≡ result_count self }
     {
         match self {
             Func::Split => 2,

@@ -14,7 +14,7 @@ use Rattle.nim_job.specs.declared.block.Block.{Block as job_block}
 use Rattle.nim_job.specs.declared.job.Job.{Job}
 use Rattle.nim_job.specs.declared.stmt.Stmt.{Stmt}
 use Rattle.nim_job.specs.declared.stmt.Stmt.TheVariants as stmt
-use Rattle.nim_job.specs.Whole.{are_vars, is_atom, is_between, is_block, is_call, is_checked, scan_all, scan_of, scalars_of}
+use Rattle.nim_job.specs.Whole.{are_vars, is_atom, is_between, is_whole_block, is_call, is_checked, scan_all, scan_of, scalars_set}
 use Rattle.nim_parse.specs.declared.nest.Open.{Open}
 use Rattle.nim_parse.specs.declared.nest.Open.TheVariants as opening
 use Rattle.nim_parse.specs.declared.sections.Atom.{Atom}
@@ -218,7 +218,7 @@ last job (b ∷ c ∷ bs) k f h = absurd f
 
 -- the statements of a tree that no rule refuses
 pub body_whole : (tree : Sections) (job : Job) → Ties tree job → job.body ≡ body_of (names_for tree (past_of no_past tree.statements).scalars) tree.statements
-    → open_after [] tree.statements ≡ Some [] → first_refusal (statement_sites tree no_past tree.statements) ≡ None → is_some (scalars_of job) ≡ true
+    → open_after [] tree.statements ≡ Some [] → first_refusal (statement_sites tree no_past tree.statements) ≡ None → is_some (scalars_set job) ≡ true
 body_whole tree job ties body nests none =
     let all = (past_of no_past tree.statements).scalars in
     let both = all_lines tree job all tree.statements no_past [] ties refl refl none nests in
@@ -236,9 +236,9 @@ few n is = grind (arith, nat_tests)
 
 -- the parts of a whole job
 pub job_whole : (job : Job) → 1 ≤ job.steps → job.steps ≤ 1000000 → are_vars job.vars ≡ true → length job.blocks ≤ 32
-    → list_all (is_block job.vars) job.blocks ≡ true
-    → is_some (scalars_of job) ≡ true → is_checked job ≡ true
+    → list_all (is_whole_block job.vars) job.blocks ≡ true
+    → is_some (scalars_set job) ≡ true → is_checked job ≡ true
 job_whole job low high vars blocks each body =
-    chain (is_between 1 1000000 job.steps) (are_vars job.vars) (nat_le (length job.blocks) 32) (list_all (is_block job.vars) job.blocks)
-    (is_some (scalars_of job))
+    chain (is_between 1 1000000 job.steps) (are_vars job.vars) (nat_le (length job.blocks) 32) (list_all (is_whole_block job.vars) job.blocks)
+    (is_some (scalars_set job))
     (between job.steps low high) vars (few (length job.blocks) blocks) each body

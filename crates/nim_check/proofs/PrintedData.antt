@@ -12,11 +12,11 @@ use Rattle.nim_base.proofs.ReadsBack.{IsSmall}
 use Rattle.nim_base.proofs.Texts.{joined, later}
 use Rattle.nim_base.specs.Text.{row_text, text_of}
 use Rattle.nim_base.specs.Value.{Grid}
-use Rattle.nim_lex.specs.Source.{cut, line_at, numbered}
+use Rattle.nim_lex.specs.Source.{cut, line_at, numbered_lines}
 use Rattle.nim_lex.proofs.SourceSteps.{cut_line, is_inner}
 use Rattle.nim_data.specs.declared.lines.Heading.{Heading}
 use Rattle.nim_data.specs.Lines.{heading, is_bare, is_short_name, row}
-use Rattle.nim_data.specs.Parts.{Loaded, Part, begun, data_after, data_from, data_rule, lacks, parts_of}
+use Rattle.nim_data.specs.Parts.{Loaded, Part, part_begun, data_after, data_from, data_rule, lacks, parts_loaded}
 use Rattle.nim_data.proofs.Steps.{refused_later}
 use Rattle.nim_job.proofs.Lists.{list_all_weaker}
 use Rattle.nim_check.specs.Printing.{parts_text}
@@ -78,12 +78,12 @@ IsEven width cells = length cells ≡ width
 
 rows_read : (end n at : ℕ) (parts : List Part) (wanted line : ℕ) (name : List ℕ) (part width : ℕ) (done rows : List (List ℤ)) (rest : List ℕ)
     → length done + length rows ≡ wanted → 1 ≤ width → All (IsEven width) rows → All (All IsSmall) rows
-    → (at' : ℕ) × (data_from end (reading parts wanted line name part width done) (numbered n at (cut (flat_map row_text rows ++ rest)))
-    ≡ data_from end (reading parts wanted line name part width (done ++ rows)) (numbered (n + length rows) at' (cut rest)))
+    → (at' : ℕ) × (data_from end (reading parts wanted line name part width done) (numbered_lines n at (cut (flat_map row_text rows ++ rest)))
+    ≡ data_from end (reading parts wanted line name part width (done ++ rows)) (numbered_lines (n + length rows) at' (cut rest)))
 rows_read end n at parts wanted line name part width done [] rest all wide even small = (
   at,
-  ap (λ (rows : List (List ℤ)). data_from end (reading parts wanted line name part width rows) (numbered n at (cut rest))) (sym (append-nil done))
-      ∙ ap (λ (k : ℕ). data_from end (reading parts wanted line name part width (done ++ [])) (numbered k at (cut rest)))
+  ap (λ (rows : List (List ℤ)). data_from end (reading parts wanted line name part width rows) (numbered_lines n at (cut rest))) (sym (append-nil done))
+      ∙ ap (λ (k : ℕ). data_from end (reading parts wanted line name part width (done ++ [])) (numbered_lines k at (cut rest)))
       (let none : n ≡ n + 0 = omega arith in none),
 )
 rows_read end n at parts wanted line name part width done (cells ∷ rows) rest all wide even small =
@@ -101,13 +101,13 @@ rows_read end n at parts wanted line name part width done (cells ∷ rows) rest 
     (All-tail (IsEven width) cells rows even) (All-tail (All IsSmall) cells rows small) in
     let count : n + 1 + length rows ≡ n + length (cells ∷ rows) = omega arith in (
       more.0,
-      ap (λ (ls : List (List ℕ)). data_from end st (numbered n at ls)) lines
-          ∙ refused_later end st (line_at n at text) (numbered (n + 1) (at + length text + 1) (cut after)) taken.0
-          ∙ ap (λ (next : Loaded). data_from end next (numbered (n + 1) (at + length text + 1) (cut after))) taken.1
+      ap (λ (ls : List (List ℕ)). data_from end st (numbered_lines n at ls)) lines
+          ∙ refused_later end st (line_at n at text) (numbered_lines (n + 1) (at + length text + 1) (cut after)) taken.0
+          ∙ ap (λ (next : Loaded). data_from end next (numbered_lines (n + 1) (at + length text + 1) (cut after))) taken.1
           ∙ more.1
           ∙ ap (λ (all_rows : List (List ℤ)). data_from end (reading parts wanted line name part width all_rows)
-          (numbered (n + 1 + length rows) more.0 (cut rest))) (append_assoc done (cells ∷ []) rows)
-          ∙ ap (λ (k : ℕ). data_from end (reading parts wanted line name part width (done ++ (cells ∷ rows))) (numbered k more.0 (cut rest))) count,
+          (numbered_lines (n + 1 + length rows) more.0 (cut rest))) (append_assoc done (cells ∷ []) rows)
+          ∙ ap (λ (k : ℕ). data_from end (reading parts wanted line name part width (done ++ (cells ∷ rows))) (numbered_lines k more.0 (cut rest))) count,
     )
 
 -- ---- parts
@@ -121,7 +121,7 @@ pub record IsPrintable (grid : Grid) : Type 0 where
   pub small : All (All IsSmall) grid.rows
 
 header_taken : (st : Loaded) (text : List ℕ) (h : Heading) (number : ℕ) → lacks st.last ≡ false → is_bare text ≡ false → heading text ≡ Some h
-    → (data_rule st text ≡ None) × (data_after st number text ≡ record { parts = parts_of st; last = Some (begun number h) })
+    → (data_rule st text ≡ None) × (data_after st number text ≡ record { parts = parts_loaded st; last = Some (part_begun number h) })
 unfolding data_rule data_after
 header_taken st text h number closed some read = (rw (some, closed, read) refl, rw (some, closed, read) refl)
 
@@ -129,12 +129,12 @@ abbrev part_at : ℕ → List ℕ → ℕ → Grid → Part
 part_at line name part grid = record { line = line; name = name; part = part; value = grid }
 
 abbrev with_part : Loaded → ℕ → List ℕ → ℕ → Grid → Loaded
-with_part st line name part grid = record { parts = parts_of st; last = Some (record { wanted = length grid.rows; part = part_at line name part grid }) }
+with_part st line name part grid = record { parts = parts_loaded st; last = Some (record { wanted = length grid.rows; part = part_at line name part grid }) }
 
 part_read : (end n at : ℕ) (st : Loaded) (name : List ℕ) (part : ℕ) (grid : Grid) (rest : List ℕ)
     → lacks st.last ≡ false → is_short_name name ≡ true → part ≤ 63 → IsPrintable grid
-    → (at' : ℕ) × (data_from end st (numbered n at (cut (text_of name part grid ++ rest)))
-    ≡ data_from end (with_part st n name part grid) (numbered (n + 1 + length grid.rows) at' (cut rest)))
+    → (at' : ℕ) × (data_from end st (numbered_lines n at (cut (text_of name part grid ++ rest)))
+    ≡ data_from end (with_part st n name part grid) (numbered_lines (n + 1 + length grid.rows) at' (cut rest)))
 part_read end n at st name part grid rest closed short p is =
     let rows = length grid.rows in
     let line : List ℕ = header_line name part rows grid.width in
@@ -149,11 +149,11 @@ part_read end n at st name part grid rest closed short p is =
     let some : is_bare line ≡ false = not_bare name (32 ∷ (decimal part ++ 32 ∷ (decimal rows ++ 32 ∷ (decimal grid.width ++ [])))) (name_plain name short) in
     let taken = header_taken st line h n closed some (heading_read name part rows grid.width short p few is.wide narrow) in
     let more =
-    rows_read end (n + 1) (at + length line + 1) (parts_of st) rows n name part grid.width [] grid.rows rest (omega arith) is.wide is.even is.small in (
+    rows_read end (n + 1) (at + length line + 1) (parts_loaded st) rows n name part grid.width [] grid.rows rest (omega arith) is.wide is.even is.small in (
       more.0,
-      ap (λ (ls : List (List ℕ)). data_from end st (numbered n at ls)) lines
-          ∙ refused_later end st (line_at n at line) (numbered (n + 1) (at + length line + 1) (cut after)) taken.0
-          ∙ ap (λ (next : Loaded). data_from end next (numbered (n + 1) (at + length line + 1) (cut after))) taken.1
+      ap (λ (ls : List (List ℕ)). data_from end st (numbered_lines n at ls)) lines
+          ∙ refused_later end st (line_at n at line) (numbered_lines (n + 1) (at + length line + 1) (cut after)) taken.0
+          ∙ ap (λ (next : Loaded). data_from end next (numbered_lines (n + 1) (at + length line + 1) (cut after))) taken.1
           ∙ more.1,
     )
 
@@ -171,15 +171,15 @@ pub record Reads (end n at : ℕ) (st : Loaded) (text rest : List ℕ) (Of : Lis
   pub state : Loaded
   pub new : List Part
   pub closed : lacks state.last ≡ false
-  pub parts : parts_of state ≡ parts_of st ++ new
+  pub parts : parts_loaded state ≡ parts_loaded st ++ new
   pub made : Of new
-  pub read : data_from end st (numbered n at (cut (text ++ rest))) ≡ data_from end state (numbered number place (cut rest))
+  pub read : data_from end st (numbered_lines n at (cut (text ++ rest))) ≡ data_from end state (numbered_lines number place (cut rest))
 
 pub values_read : (end n at : ℕ) (st : Loaded) (name : List ℕ) (k : ℕ) (values : List Grid) (rest : List ℕ)
     → lacks st.last ≡ false → is_short_name name ≡ true → k + length values ≤ 64 → All IsPrintable values
     → Reads end n at st (parts_text name k values) rest (Made name k values)
 values_read end n at st name k [] rest closed short few are =
-    record { number = n; place = at; state = st; new = []; closed = closed; parts = sym (append-nil (parts_of st)); made = tt; read = refl }
+    record { number = n; place = at; state = st; new = []; closed = closed; parts = sym (append-nil (parts_loaded st)); made = tt; read = refl }
 values_read end n at st name k (grid ∷ values) rest closed short few are =
     let after : List ℕ = parts_text name (k + 1) values ++ rest in
     let first = part_read end n at st name k grid after closed short (omega arith) (All-head IsPrintable grid values are) in
@@ -193,8 +193,8 @@ values_read end n at st name k (grid ∷ values) rest closed short few are =
       state = later_parts.state;
       new = part_at n name k grid ∷ later_parts.new;
       closed = later_parts.closed;
-      parts = later_parts.parts ∙ append_assoc (parts_of st) (part_at n name k grid ∷ []) later_parts.new;
+      parts = later_parts.parts ∙ append_assoc (parts_loaded st) (part_at n name k grid ∷ []) later_parts.new;
       made = (refl, refl, refl, later_parts.made);
-      read = ap (λ (text : List ℕ). data_from end st (numbered n at (cut text))) (append_assoc (text_of name k grid) (parts_text name (k + 1) values) rest)
+      read = ap (λ (text : List ℕ). data_from end st (numbered_lines n at (cut text))) (append_assoc (text_of name k grid) (parts_text name (k + 1) values) rest)
           ∙ first.1 ∙ later_parts.read;
     }

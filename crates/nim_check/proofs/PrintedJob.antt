@@ -10,7 +10,7 @@ use Rattle.std.proofs.lemmas.Slice.Eq.{bytes_eq-Decides}
 use Rattle.nim_base.proofs.ReadsBack.{IsSmall}
 use Rattle.nim_base.specs.declared.number.Shape.{Shape}
 use Rattle.nim_base.specs.Value.{Grid}
-use Rattle.nim_lex.specs.Source.{cut, lines_of, numbered}
+use Rattle.nim_lex.specs.Source.{cut, lines_of, numbered_lines}
 use Rattle.nim_job.specs.declared.job.Init.{Init}
 use Rattle.nim_job.specs.declared.job.Init.TheVariants.{Fill, Iota, Loaded as Loads}
 use Rattle.nim_job.specs.declared.job.Job.{Job}
@@ -18,11 +18,11 @@ use Rattle.nim_job.specs.declared.job.Var.{Var}
 use Rattle.nim_job.specs.Whole.{is_filled, is_loaded, is_var, is_whole}
 use Rattle.nim_job.proofs.Whole.{vars_sizes, whole_inits, whole_vars}
 use Rattle.nim_data.specs.Lines.{is_short_name}
-use Rattle.nim_data.specs.Parts.{Loaded, Part, data_from, data_of, lacks, none_loaded, parts_of}
+use Rattle.nim_data.specs.Parts.{Loaded, Part, data_from, data_of, lacks, none_loaded, parts_loaded}
 use Rattle.nim_lex.specs.Source.{line_count}
 use Rattle.nim_data.specs.declared.wanted.Wanted.{Wanted}
-use Rattle.nim_data.specs.Wanted.{first_fault, header_of, header_rule, refusal_by, values_of}
-use Rattle.nim_check.specs.Loading.{data_refusal, filled, loaded, want, wanted, wanted_of, wants}
+use Rattle.nim_data.specs.Wanted.{first_fault, part_heading, header_rule, refusal_by, values_of}
+use Rattle.nim_check.specs.Loading.{data_refusal, with_values_loaded, loaded, want, wanted, wanted_of, wants}
 use Rattle.nim_check.specs.Names.{Word}
 use Rattle.nim_check.specs.Printing.{HasValues, IsCell, IsValue, has_name, parts_text, printed}
 use Rattle.nim_check.proofs.PrintedData.{IsPrintable, Made, Reads, values_read}
@@ -61,7 +61,7 @@ made_values name k [] (part ∷ parts) made = absurd made
 made_values name k (grid ∷ values) [] made = absurd made
 
 no_rule : (v : Var) (k : ℕ) (part : Part) (grid : Grid) → part.name ≡ v.name → part.part ≡ k → part.value ≡ grid → is_loaded v.shape grid ≡ true
-    → header_rule (want v k) (header_of part) ≡ None
+    → header_rule (want v k) (part_heading part) ≡ None
 unfolding header_rule
 no_rule v k part grid name number value fits =
     let parts = and_parts (grid.width == v.shape.width) (nat_le (length grid.rows) v.shape.rows) fits in
@@ -76,7 +76,7 @@ sound_parts : (end : ℕ) (v : Var) (k : ℕ) (values : List Grid) (parts : List
 sound_parts end v k [] [] ws more fit made = refl
 sound_parts end v k (grid ∷ values) (part ∷ parts) ws more fit made =
     let fits = and_parts (is_loaded v.shape grid) (list_all (is_loaded v.shape) values) fit in
-    let none : header_rule (want v k) (header_of part) ≡ None = no_rule v k part grid made.0 made.1 made.2 fits.0 in
+    let none : header_rule (want v k) (part_heading part) ≡ None = no_rule v k part grid made.0 made.1 made.2 fits.0 in
     rw none (sound_parts end v (k + 1) values parts ws more fits.1 made.3)
 sound_parts end v k [] (part ∷ parts) ws more fit made = absurd made
 sound_parts end v k (grid ∷ values) [] ws more fit made = absurd made
@@ -86,13 +86,13 @@ sound_parts end v k (grid ∷ values) [] ws more fit made = absurd made
 -- parts that no rule refuses, with the values that the variables have
 record Refills (vars : List Var) (parts : List Part) : Type 0 where
   pub sound : (end : ℕ) → first_fault end (wanted vars) parts ≡ None
-  pub same : filled vars (values_of parts) ≡ vars
+  pub same : with_values_loaded vars (values_of parts) ≡ vars
 
 abbrev ReadsVars : ℕ → List Var → Type 0
 ReadsVars end vars = (n at : ℕ) (st : Loaded) → lacks st.last ≡ false → Reads end n at st (printed vars) [] (Refills vars)
 
 with_var : (v : Var) (init : Init) (vars : List Var) (parts : List Part) → wanted_of (record v { init = init }) ≡ []
-    → ((values : List Grid) → filled (record v { init = init } ∷ vars) values ≡ record v { init = init } ∷ filled vars values)
+    → ((values : List Grid) → with_values_loaded (record v { init = init } ∷ vars) values ≡ record v { init = init } ∷ with_values_loaded vars values)
     → Refills vars parts → Refills (record v { init = init } ∷ vars) parts
 with_var v init vars parts none kept is = record {
   sound = λ end. rw none (is.sound end);
@@ -110,8 +110,8 @@ with_loaded v values vars parts more count fit made is =
     record {
       sound = λ end. ap (λ (k : ℕ). first_fault end (wants v' 0 k ++ wanted vars) (parts ++ more)) (sym count)
           ∙ sound_parts end v' 0 values parts (wanted vars) more fit made ∙ is.sound end;
-      same = ap (filled (v' ∷ vars)) all_values
-          ∙ ap₂ (λ (taken rest : List Grid). record v { init = Loads taken } ∷ filled vars rest) given left
+      same = ap (with_values_loaded (v' ∷ vars)) all_values
+          ∙ ap₂ (λ (taken rest : List Grid). record v { init = Loads taken } ∷ with_values_loaded vars rest) given left
           ∙ ap (λ (later : List Var). v' ∷ later) is.same;
     }
 
@@ -158,9 +158,9 @@ var_read end v (Loads values) vars short is full has later n at st closed =
       state = r.state;
       new = first.new ++ r.new;
       closed = r.closed;
-      parts = r.parts ∙ ap (λ (before : List Part). before ++ r.new) first.parts ∙ append_assoc (parts_of st) first.new r.new;
+      parts = r.parts ∙ ap (λ (before : List Part). before ++ r.new) first.parts ∙ append_assoc (parts_loaded st) first.new r.new;
       made = with_loaded v values vars first.new r.new count fits.1 first.made r.made;
-      read = ap (λ (text : List ℕ). data_from end st (numbered n at (cut text))) (append_assoc (parts_text v.name 0 values) (printed vars) []) ∙ first.read
+      read = ap (λ (text : List ℕ). data_from end st (numbered_lines n at (cut text))) (append_assoc (parts_text v.name 0 values) (printed vars) []) ∙ first.read
           ∙ r.read;
     }
 
@@ -173,7 +173,7 @@ vars_read end [] names are full have = λ n at st closed.
       state = st;
       new = [];
       closed = closed;
-      parts = sym (append-nil (parts_of st));
+      parts = sym (append-nil (parts_loaded st));
       made =
           record { sound = λ last. refl; same = refl };
       read = refl;
@@ -202,9 +202,9 @@ printed_loaded job whole names have few =
     let are : list_all is_var job.vars ≡ true = (vars_sizes job.vars (whole_vars job whole)).1 in
     let r = vars_read end job.vars names are (whole_inits job whole) have 1 0 none_loaded refl in
     let closed : lacks r.state.last ≡ false = r.closed in
-    let ended : data_from end r.state [] ≡ Ok (parts_of r.state) = rw closed refl in
+    let ended : data_from end r.state [] ≡ Ok (parts_loaded r.state) = rw closed refl in
     let from : data_from end none_loaded (lines_of bytes) ≡ Ok r.new =
-    ap (λ (text : List ℕ). data_from end none_loaded (numbered 1 0 (cut text))) (sym (append-nil bytes)) ∙ r.read ∙ ended ∙ ap Ok r.parts in
+    ap (λ (text : List ℕ). data_from end none_loaded (numbered_lines 1 0 (cut text))) (sym (append-nil bytes)) ∙ r.read ∙ ended ∙ ap Ok r.parts in
     let all : data_of bytes ≡ Ok r.new = whole_data bytes r.new few from in (
       ap (refusal_by end (wanted job.vars)) all ∙ r.made.sound end,
       rw all (ap (λ (vars : List Var). record job { vars = vars }) r.made.same),

@@ -13,8 +13,8 @@ use Rattle.std.proofs.lemmas.Str.Parse.{IsNumeralModel, numerals_by_fold}
 use Rattle.std.proofs.lemmas.List.{take_at, drop_at}
 use Rattle.nim_base.proofs.ReadsBack.{IsSmall}
 use Rattle.nim_lex.specs.Bytes.{is_blank, is_newline}
-use Rattle.nim_lex.specs.Numbers.{in_range, number_of, signed}
-use Rattle.nim_data.specs.Lines.{behind, bounded, cell, is_bare, is_numeral, is_word_byte, unblanked, whole, word}
+use Rattle.nim_lex.specs.Numbers.{in_range, decimal_value, signed}
+use Rattle.nim_data.specs.Lines.{behind_first_word, bounded, cell, is_bare, is_numeral, is_word_byte, unblanked, whole, word}
 use Rattle.nim_job.proofs.Lists.{list_all_weaker}
 
 -- ---- words
@@ -69,8 +69,8 @@ word_first (b ∷ w) rest plain ends =
     ∙ ap (λ (n : ℕ). take n (b ∷ (w ++ rest))) (word_len (b ∷ w) rest plain.1 ends)
     ∙ take_at (b ∷ w) rest (length (b ∷ w)) refl
 
-pub behind_first : (w rest : List ℕ) → IsPlain w → Ends rest → behind (w ++ rest) ≡ rest
-unfolding behind
+pub behind_first : (w rest : List ℕ) → IsPlain w → Ends rest → behind_first_word (w ++ rest) ≡ rest
+unfolding behind_first_word
 behind_first [] rest plain ends = absurd (omega arith)
 behind_first (b ∷ w) rest plain ends =
     let parts = and_parts (is_plain b) (list_all is_plain w) plain.1 in
@@ -83,8 +83,8 @@ pub word_next : (w rest : List ℕ) → IsPlain w → Ends rest → word (32 ∷
 unfolding word
 word_next w rest plain ends = ap word_in (unblanked_space (w ++ rest)) ∙ word_first w rest plain ends
 
-pub behind_next : (w rest : List ℕ) → IsPlain w → Ends rest → behind (32 ∷ (w ++ rest)) ≡ rest
-unfolding behind
+pub behind_next : (w rest : List ℕ) → IsPlain w → Ends rest → behind_first_word (32 ∷ (w ++ rest)) ≡ rest
+unfolding behind_first_word
 behind_next w rest plain ends = ap behind_in (unblanked_space (w ++ rest)) ∙ behind_first w rest plain ends
 
 pub not_bare : (w rest : List ℕ) → IsPlain w → is_bare (w ++ rest) ≡ false
@@ -95,7 +95,7 @@ not_bare (b ∷ w) rest plain =
 
 -- ---- numbers
 
-own : IsNumeralModel (λ digits. all_ascii_digits digits ≡ true) (λ digits. number_of digits)
+own : IsNumeralModel (λ digits. all_ascii_digits digits ≡ true) (λ digits. decimal_value digits)
 own = numerals_by_fold _ (search rules) (λ (before : ℕ) (digits : List ℕ). fold (λ (n digit : ℕ). n * 10 + (digit - 48)) before digits) (search rules)
 
 same_digits : (digits : List ℕ) → all_ascii_digits digits ≡ list_all is_ascii_digit digits
@@ -114,7 +114,7 @@ digits_plain digits are = list_all_weaker is_ascii_digit is_plain digit_plain di
 pub decimal_plain : (n : ℕ) → n < 2 ^ 64 → IsPlain (decimal n)
 decimal_plain n fits = (decimal_nonempty n fits, digits_plain (decimal n) (are_digits n fits))
 
-value : (n : ℕ) → n < 2 ^ 64 → number_of (decimal n) ≡ n
+value : (n : ℕ) → n < 2 ^ 64 → decimal_value (decimal n) ≡ n
 value n fits = digits_value-decimal own n fits
 
 some_digits : (digits : List ℕ) → 0 < length digits → list_all is_ascii_digit digits ≡ true → is_numeral digits ≡ true

@@ -10,7 +10,7 @@ use Rattle.nim_parse.specs.declared.sections.Line.{Line}
 use Rattle.nim_parse.specs.declared.sections.Sections.{Sections}
 use Rattle.nim_parse.specs.declared.sections.Var.{Var}
 use Rattle.nim_check.specs.declared.past.Past.{Past}
-use Rattle.nim_check.specs.Refusals.{first_refusal, refusal_of, refused_at}
+use Rattle.nim_check.specs.Refusals.{first_refusal, tree_refusal, refused_at}
 use Rattle.nim_check.specs.Rules.{rule_of}
 use Rattle.nim_check.specs.Sites.{Site, at_statement, block_site, block_sites, no_past, past_of, past_with, statement_sites, steps_sites, var_sites}
 
@@ -79,7 +79,7 @@ past_later past lines at line within is =
     at_drop_more (λ rest. past_of past rest) lines at line within ∙ ap (λ (l : Line). past_of (past_with past l.statement) (drop (at + 1) lines)) (sym is)
 
 -- the lines of a tree, kind by kind
-pub kinds : (tree : Sections) → refusal_of tree
+pub kinds : (tree : Sections) → tree_refusal tree
     ≡ option_or (first_refusal (steps_sites tree.steps)) (option_or (first_refusal (var_sites [] tree.vars))
     (option_or (first_refusal (block_sites tree.vars [] tree.blocks)) (first_refusal (statement_sites tree no_past tree.statements))))
 kinds tree =

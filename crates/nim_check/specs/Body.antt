@@ -129,9 +129,9 @@ body_of names lines = first_body (bodies_of names lines)
 -- ---- the bodies as they are held: the innermost last, and of each the last statement first
 
 -- one body as it is held, with its statements in order again
-abbrev pub body_in : Held → Body
-body_in held = record { first = reverse held.first.items; second = reverse held.second.items }
+abbrev pub body_held : Held → Body
+body_held held = record { first = reverse held.first.items; second = reverse held.second.items }
 
 -- all bodies as they are held, the innermost first again
 abbrev pub bodies_in : List Held → List Body
-bodies_in helds = map body_in (reverse helds)
+bodies_in helds = map body_held (reverse helds)

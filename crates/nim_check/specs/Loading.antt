@@ -8,7 +8,7 @@ use Rattle.nim_job.specs.declared.job.Init.TheVariants.{Loaded}
 use Rattle.nim_job.specs.declared.job.Job.{Job}
 use Rattle.nim_job.specs.declared.job.Var.{Var}
 use Rattle.nim_data.specs.declared.wanted.Wanted.{Wanted}
-use Rattle.nim_data.specs.Wanted.{refusal_of, values_in}
+use Rattle.nim_data.specs.Wanted.{data_file_refusal, values_in}
 
 -- ---- what is to be loaded
 
@@ -35,7 +35,7 @@ wanted vars = flat_map wanted_of vars
 
 -- why a data file is refused for a job, if it is
 abbrev pub data_refusal : Job → List ℕ → Option Refusal
-data_refusal job bytes = refusal_of (wanted job.vars) bytes
+data_refusal job bytes = data_file_refusal (wanted job.vars) bytes
 
 -- ---- what is loaded
 
@@ -44,8 +44,8 @@ abbrev pub given_by : Var → List Grid → Option (List Grid)
 given_by v values = if is_load v.init then Some (take v.parts values) else None
 
 -- the values that a variable leaves for the next ones
-abbrev pub left_by : Var → List Grid → List Grid
-left_by v values = if is_load v.init then drop v.parts values else values
+abbrev pub values_left : Var → List Grid → List Grid
+values_left v values = if is_load v.init then drop v.parts values else values
 
 -- a variable with the values that it is given
 abbrev pub holding : Var → Option (List Grid) → Var
@@ -53,20 +53,20 @@ holding v None = v
 holding v (Some values) = record v { init = Loaded values }
 
 -- the loaded variables take values one after another
-abbrev pub filled : List Var → List Grid → List Var
-filled [] values = []
-filled (v ∷ vars) values = holding v (given_by v values) ∷ filled vars (left_by v values)
+abbrev pub with_values_loaded : List Var → List Grid → List Var
+with_values_loaded [] values = []
+with_values_loaded (v ∷ vars) values = holding v (given_by v values) ∷ with_values_loaded vars (values_left v values)
 
 -- the job with the data of a file
 abbrev pub loaded : Job → List ℕ → Job
-loaded job bytes = record job { vars = filled job.vars (values_in bytes) }
+loaded job bytes = record job { vars = with_values_loaded job.vars (values_in bytes) }
 
 -- ---- on the way
 
 -- what each variable is given
 abbrev pub gifts : List Var → List Grid → List (Option (List Grid))
 gifts [] values = []
-gifts (v ∷ vars) values = given_by v values ∷ gifts vars (left_by v values)
+gifts (v ∷ vars) values = given_by v values ∷ gifts vars (values_left v values)
 
 -- variables with what they are given, as far as it goes
 abbrev pub holding_all : List Var → List (Option (List Grid)) → List Var

@@ -32,8 +32,8 @@ use Rattle.nim_check.specs.Names.{Word, func_of, place_in}
 use Rattle.nim_check.specs.Sites.{scalars_of}
 
 -- the text of a name; a byte past 127, which no name of a driver has, is a question mark
-abbrev pub text_of : Word → Word
-text_of word = map (λ b. if nat_lt b 128 then b else 63) word
+abbrev pub ascii_text : Word → Word
+ascii_text word = map (λ b. if nat_lt b 128 then b else 63) word
 
 -- the most statements that are counted, where the driver doesn't say
 abbrev pub most_steps : ℕ
@@ -48,7 +48,7 @@ init_of Load = init.Loaded []
 -- a declared variable: its name, how many parts it has, their shape, and what they hold at first
 abbrev pub var_of : Var → job_var
 var_of v = record {
-  name = text_of v.name;
+  name = ascii_text v.name;
   parts = v.parts;
   shape = record { width = v.width; rows = v.rows };
   init =
@@ -92,7 +92,7 @@ stage_of vars args stage = record {
 -- a block by its name, how many arguments it has, and its stages
 abbrev pub block_of : List Word → Block → job_block
 block_of vars block = record {
-  name = text_of block.name;
+  name = ascii_text block.name;
   args = length block.arguments;
   stages =
       map (stage_of vars block.arguments) block.stages;

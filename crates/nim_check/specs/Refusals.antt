@@ -14,11 +14,11 @@ use Rattle.nim_check.specs.Faults.{FileRefusal}
 use Rattle.nim_check.specs.Loading.{data_refusal, loaded}
 use Rattle.nim_check.specs.Made.{job_of}
 use Rattle.nim_check.specs.Rules.{rule_of}
-use Rattle.nim_check.specs.Sites.{Site, line_of, sites_of}
+use Rattle.nim_check.specs.Sites.{Site, site_line, sites_of}
 
 -- the number of a line and the smallest rule that refuses it, if one does
 abbrev pub refused_at : Site → Option Refusal
-refused_at site = refused_line (line_of site) (rule_of site)
+refused_at site = refused_line (site_line site) (rule_of site)
 
 -- the first of some lines that a rule refuses, and the smallest that does
 abbrev pub first_refusal : List Site → Option Refusal
@@ -26,16 +26,16 @@ first_refusal [] = None
 first_refusal (site ∷ sites) = option_or (refused_at site) (first_refusal sites)
 
 -- why a tree is refused, if it is
-abbrev pub refusal_of : Sections → Option Refusal
-refusal_of tree = first_refusal (sites_of tree)
+abbrev pub tree_refusal : Sections → Option Refusal
+tree_refusal tree = first_refusal (sites_of tree)
 
 -- why the text or the grammar refuses a driver, if they do
 abbrev pub text_refusal : List ℕ → Option Refusal
-text_refusal bytes = option_or (lex.refusal_of bytes) (parse.refusal_of bytes)
+text_refusal bytes = option_or (lex.token_refusal bytes) (parse.grammar_refusal bytes)
 
 -- why a driver is refused, if it is: the rules of the text come first, then those of the grammar
 abbrev pub driver_refusal : List ℕ → Option Refusal
-driver_refusal bytes = option_or (text_refusal bytes) (refusal_of (tree_of bytes))
+driver_refusal bytes = option_or (text_refusal bytes) (tree_refusal (tree_of bytes))
 
 -- ---- a driver with its data
 
@@ -44,8 +44,8 @@ abbrev pub in_file : Input → Refusal → FileRefusal
 in_file input refusal = record { input = input; refusal = refusal }
 
 -- why a driver and its data are refused, if they are: all phases of the driver come first
-abbrev pub refused : List ℕ → List ℕ → Option FileRefusal
-refused driver file =
+abbrev pub job_refusal : List ℕ → List ℕ → Option FileRefusal
+job_refusal driver file =
     option_or (option_map (in_file Driver) (driver_refusal driver))
     (option_map (in_file Data) (data_refusal (job_of (tree_of driver)) file))
 

@@ -49,12 +49,12 @@ pub data Site : Type 0 where
   at_statement : Sections → Past → Line → Site
 
 -- the number of the line
-abbrev pub line_of : Site → ℕ
-line_of (at_steps steps) = steps.line
-line_of (at_var before v) = v.line
-line_of (at_block vars before block) = block.line
-line_of (at_stage vars block before stage) = stage.line
-line_of (at_statement tree past line) = line.line
+abbrev pub site_line : Site → ℕ
+site_line (at_steps steps) = steps.line
+site_line (at_var before v) = v.line
+site_line (at_block vars before block) = block.line
+site_line (at_stage vars block before stage) = stage.line
+site_line (at_statement tree past line) = line.line
 
 -- the `steps` line, if there is one
 abbrev pub steps_sites : Option Steps → List Site

@@ -2,7 +2,7 @@
 
 ghost use Rattle.std.specs.Prelude.{◌≡◌, ◌≤◌, ◌<◌, ◌∷◌, [], length, map, true, IfOk, IsTrue, None};
 ghost use Rattle.std.specs.List.{list_all, list_any};
-ghost use Rattle.nim_job.specs.Whole.{are_vars, is_block};
+ghost use Rattle.nim_job.specs.Whole.{are_vars, is_whole_block};
 ghost use Rattle.nim_check.specs.Made.{block_of, var_names, var_of};
 ghost use Rattle.nim_check.specs.Names.{has_twice, is_in, reserved};
 ghost use Rattle.nim_check.specs.Faults.{told};
@@ -40,7 +40,7 @@ pub fn make_blocks(
     requires whole { IsTrue (are_vars job_vars.now) }
     ensures answers { Answers told (first_refusal (block_sites vars.now [] blocks.now)) result }
     ensures made { IfOk result (λ made. made ≡ map (block_of (var_names vars.now)) blocks.now) }
-    ensures whole { IfOk result (λ made. list_all (is_block job_vars.now) made ≡ true) }
+    ensures whole { IfOk result (λ made. list_all (is_whole_block job_vars.now) made ≡ true) }
     ensures number { IfOk result (λ made. length made ≤ 32) }
 {
     let mut made = Seq::new(alloc);
@@ -91,7 +91,7 @@ fn make_block(
     requires whole { IsTrue (are_vars job_vars.now) }
     ensures answers { Answers told (first_refusal (block_site vars.now before.now block.now)) result }
     ensures made { IfOk result (λ made. made ≡ block_of (var_names vars.now) block.now) }
-    ensures whole { IfOk result (λ made. is_block job_vars.now made ≡ true) }
+    ensures whole { IfOk result (λ made. is_whole_block job_vars.now made ≡ true) }
     ensures number { IfOk result (λ made. length before.now < 32) }
 {
     let twice = has_twice(alloc, block.arguments.as_slice())?;

@@ -3,7 +3,7 @@ ghost use Rattle.nim_job.specs.Whole.{is_checked, is_whole};
 ghost use Rattle.nim_parse.specs.Driver.{tree_of};
 ghost use Rattle.nim_check.specs.Made.{block_names, job_of, steps_of, var_names};
 ghost use Rattle.nim_check.specs.Faults.{TellsFile, told};
-ghost use Rattle.nim_check.specs.Refusals.{driver_refusal, first_refusal, job_from, refusal_of, refused, text_refusal};
+ghost use Rattle.nim_check.specs.Refusals.{driver_refusal, first_refusal, job_from, tree_refusal, job_refusal, text_refusal};
 ghost use Rattle.nim_lex.specs.Refusals.{Answers};
 ghost use Rattle.nim_check.specs.Sites.{steps_sites};
 
@@ -29,7 +29,7 @@ const MOST_STEPS: u32 = 1_000_000;
 /// are defined in `specs/Rules.antt`, the job in `specs/Made.antt`. Loaded data are still missing in it. Want of memory
 /// may come in place of any answer.
 pub fn check(alloc: Global, tree: &Tree) -> Result<Job, CheckFault>
-    ensures answers { Answers told (refusal_of tree.now) result }
+    ensures answers { Answers told (tree_refusal tree.now) result }
     ensures job { IfOk result (λ job. job ≡ job_of tree.now) }
     ensures checked { IfOk result (λ job. IsTrue (is_checked job)) }
 {
@@ -69,10 +69,10 @@ pub fn read_driver(alloc: Global, bytes: &[u8]) -> Result<Job, CheckFault>
 /// the smallest rule that refuses it. A driver without loaded variables takes data without parts. Want of memory may
 /// come in place of any answer.
 pub fn read_job(alloc: Global, driver: &[u8], data_file: &[u8]) -> Result<Job, ReadFault>
-    ensures accepted { IfOk result (λ job. refused driver.now data_file.now ≡ None) }
+    ensures accepted { IfOk result (λ job. job_refusal driver.now data_file.now ≡ None) }
     ensures job { IfOk result (λ job. job ≡ job_from driver.now data_file.now) }
     ensures whole { IfOk result (λ job. IsTrue (is_whole job)) }
-    ensures refused { IfErr result (TellsFile (refused driver.now data_file.now)) }
+    ensures refused { IfErr result (TellsFile (job_refusal driver.now data_file.now)) }
 {
     let mut job = match read_driver(alloc, driver) {
         Ok(job) => job,

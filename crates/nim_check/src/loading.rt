@@ -3,7 +3,7 @@ ghost use Rattle.std.specs.Vec.Iter.{into_iter_items};
 ghost use Rattle.nim_lex.specs.Refusals.{Answers};
 ghost use Rattle.nim_job.specs.Whole.{is_checked, is_whole};
 ghost use Rattle.nim_check.specs.Faults.{told};
-ghost use Rattle.nim_check.specs.Loading.{data_refusal, gifts, given_by, holding, holding_all, left_by, loaded, want, wanted, wants};
+ghost use Rattle.nim_check.specs.Loading.{data_refusal, gifts, given_by, holding, holding_all, values_left, loaded, want, wanted, wants};
 
 use crate::CheckFault;
 use nim_base::{NoMemory, Seq, Value};
@@ -105,7 +105,7 @@ fn take_gift(
     values: &mut IntoIter<Value>,
 ) -> Result<Option<Seq<Value>>, NoMemory>
     ensures gift { IfOk result (λ gift. gift ≡ given_by v.now (into_iter_items values.old)) }
-    ensures rest { OnOk result (into_iter_items values.new ≡ left_by v.now (into_iter_items values.old)) }
+    ensures rest { OnOk result (into_iter_items values.new ≡ values_left v.now (into_iter_items values.old)) }
 {
     match v.init {
         Init::Loaded(_) => Ok(Some(take_values(alloc, v.parts, values)?)),

@@ -2,7 +2,7 @@
 
 ghost use Rattle.std.specs.Prelude.{◌≡◌, ◌∷◌, ◌≤◌, [], bytes_eq, encode_utf8, if◌then◌else◌, length, map, nat_lt, IfOk};
 ghost use Rattle.std.specs.List.{list_any};
-ghost use Rattle.nim_check.specs.Made.{block_names, text_of, var_names};
+ghost use Rattle.nim_check.specs.Made.{block_names, ascii_text, var_names};
 ghost use Rattle.nim_check.specs.Names.{func_among, func_of, has_twice, is_in, place_in, reserved};
 
 use nim_base::{Func, Name, NoMemory, Seq};
@@ -193,7 +193,7 @@ fn text_byte(byte: u8) -> char
 
 /// A name as a text.
 pub fn name(alloc: Global, word: &[u8]) -> Result<Name, NoMemory>
-    ensures { IfOk result (λ name. name ≡ text_of word.now) }
+    ensures { IfOk result (λ name. name ≡ ascii_text word.now) }
 {
     let mut text = String::new(alloc);
     for byte in word {

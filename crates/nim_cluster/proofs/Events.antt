@@ -25,7 +25,7 @@ use Rattle.nim_cluster.specs.declared.node.Node.{Node as kept_node}
 use Rattle.nim_cluster.specs.declared.running.Moving.{Moving}
 use Rattle.nim_cluster.specs.declared.running.Moving.TheVariants as moving
 use Rattle.nim_cluster.specs.Runs.{event_of}
-use Rattle.nim_cluster.specs.Stands.{AreNodes, IsNode, Stands}
+use Rattle.nim_cluster.specs.Stands.{AreNodes, IsNode, ClusterStands}
 use Rattle.nim_cluster.specs.Steps.{IsFinished, may_take, number_in}
 use Rattle.nim_cluster.proofs.Jobs.{reported_job, turned_job}
 use Rattle.nim_cluster.proofs.Nodes.{node_at, nobody, nodes_set, set_same}
@@ -71,7 +71,7 @@ turned_round false false live = refl
 abbrev pub going_on : Cluster → Worker → Bool
 going_on cluster worker = not (is_some cluster.control.outcome) && is_live cluster.control.live worker
 
-pub enabled_there : (cluster : Cluster) (s : ClusterState) (event : Event) (kept : kept_node) (may : Bool) → Stands cluster s
+pub enabled_there : (cluster : Cluster) (s : ClusterState) (event : Event) (kept : kept_node) (may : Bool) → ClusterStands cluster s
     → slice_get cluster.nodes.items (number_in event) ≡ Some kept
     → ((number : ℕ) (node : Node) → IsNode number kept node → may ≡ may_take event node)
     → (may && going_on cluster kept.core.worker) ≡ is_enabled s event
@@ -84,7 +84,7 @@ enabled_there cluster s event kept may stands at does =
     ∙ ap (λ (b : Bool). not (has_ended s) && b)
     (sym (live_of s (may_take event) (number_in event) (Some here.0) here.1) ∙ sym (come_as s event))
 
-pub enabled_nowhere : (cluster : Cluster) (s : ClusterState) (event : Event) → Stands cluster s
+pub enabled_nowhere : (cluster : Cluster) (s : ClusterState) (event : Event) → ClusterStands cluster s
     → length cluster.nodes.items ≤ number_in event → false ≡ is_enabled s event
 enabled_nowhere cluster s event stands above =
     let nowhere : may_come s event ≡ false =
@@ -110,8 +110,8 @@ enabled_may s event node enabled there =
 abbrev pub turning : ClusterState → Controller → List Directed → ClusterState
 turning s control orders = record s { control = control; put = s.put ++ orders }
 
-pub stands_turning : (old : Cluster) (control : Controller) (s : ClusterState) (orders : List Directed) → Stands old s
-    → IsTurned old.control orders control → Stands (record old { control = control }) (turning s control orders)
+pub stands_turning : (old : Cluster) (control : Controller) (s : ClusterState) (orders : List Directed) → ClusterStands old s
+    → IsTurned old.control orders control → ClusterStands (record old { control = control }) (turning s control orders)
 stands_turning old control s orders stands turned = record {
   whole = stands.whole;
   job = turned_job old.control control orders turned ∙ ap (λ (c : Controller). c.job) stands.control ∙ stands.job;
@@ -123,7 +123,7 @@ stands_turning old control s orders stands turned = record {
   given = stands.given;
 }
 
-pub turned_so : (old : Cluster) (control : Controller) (s : ClusterState) (orders : List Directed) → Stands old s → IsTurned old.control orders control
+pub turned_so : (old : Cluster) (control : Controller) (s : ClusterState) (orders : List Directed) → ClusterStands old s → IsTurned old.control orders control
     → HasTurned s (fold order_sent (turning s control orders) orders)
 turned_so old control s orders stands turned = record {
   control = control;
@@ -136,16 +136,16 @@ turned_so old control s orders stands turned = record {
 
 pub reported : (old : Cluster) (nodes : Vec kept_node Global) (s : ClusterState) (number : ℕ) (kept new : kept_node) (report : FromWorker)
     (rest : List FromWorker)
-    → Stands old s → slice_get old.nodes.items number ≡ Some kept → kept.reports.items ≡ report ∷ rest
+    → ClusterStands old s → slice_get old.nodes.items number ≡ Some kept → kept.reports.items ≡ report ∷ rest
     → nodes.items ≡ slice_set old.nodes.items number new
     → ((node : Node) → IsNode number kept node → IsNode number new (record node { reports = rest }))
-    → Stands (record old { nodes = nodes; control = after_report old.control kept.core.worker report }) (passed s (Report number))
+    → ClusterStands (record old { nodes = nodes; control = after_report old.control kept.core.worker report }) (passed s (Report number))
 reported old nodes s number kept new report rest stands at next is goes =
     let here = node_at number old.nodes.items s.nodes kept stands.nodes at in
     let cluster : Cluster = record old { nodes = nodes; control = after_report old.control kept.core.worker report } in
     let node : Node = record here.0 { reports = rest } in
-    subst (λ (o : Option Node). Stands cluster (option_map_or (λ (n : Node). report_taken number n n.reports s) o s)) (sym here.1)
-    (subst (λ (reports : List FromWorker). Stands cluster (report_taken number here.0 reports s)) (sym next ∙ here.2.reports)
+    subst (λ (o : Option Node). ClusterStands cluster (option_map_or (λ (n : Node). report_taken number n n.reports s) o s)) (sym here.1)
+    (subst (λ (reports : List FromWorker). ClusterStands cluster (report_taken number here.0 reports s)) (sym next ∙ here.2.reports)
     (record {
       whole = stands.whole;
       job = reported_job s.control (worker_of number) report ∙ stands.job;
@@ -159,14 +159,14 @@ reported old nodes s number kept new report rest stands at next is goes =
     }))
 
 -- no report waits there
-pub unreported : (old : Cluster) (nodes : Vec kept_node Global) (s : ClusterState) (number : ℕ) (kept new : kept_node) → Stands old s
+pub unreported : (old : Cluster) (nodes : Vec kept_node Global) (s : ClusterState) (number : ℕ) (kept new : kept_node) → ClusterStands old s
     → slice_get old.nodes.items number ≡ Some kept → kept.reports.items ≡ [] → nodes.items ≡ slice_set old.nodes.items number new
-    → ((node : Node) → IsNode number kept node → IsNode number new node) → Stands (record old { nodes = nodes }) (passed s (Report number))
+    → ((node : Node) → IsNode number kept node → IsNode number new node) → ClusterStands (record old { nodes = nodes }) (passed s (Report number))
 unreported old nodes s number kept new stands at none is goes =
     let here = node_at number old.nodes.items s.nodes kept stands.nodes at in
     let cluster : Cluster = record old { nodes = nodes } in
-    subst (λ (o : Option Node). Stands cluster (option_map_or (λ (n : Node). report_taken number n n.reports s) o s)) (sym here.1)
-    (subst (λ (reports : List FromWorker). Stands cluster (report_taken number here.0 reports s)) (sym none ∙ here.2.reports)
+    subst (λ (o : Option Node). ClusterStands cluster (option_map_or (λ (n : Node). report_taken number n n.reports s) o s)) (sym here.1)
+    (subst (λ (reports : List FromWorker). ClusterStands cluster (report_taken number here.0 reports s)) (sym none ∙ here.2.reports)
     (record {
       whole = stands.whole;
       job = stands.job;
@@ -181,10 +181,10 @@ unreported old nodes s number kept new stands at none is goes =
     }))
 
 -- there is no such worker
-pub reported_nobody : (old : Cluster) (s : ClusterState) (number : ℕ) → Stands old s → length old.nodes.items ≤ number
-    → Stands old (passed s (Report number))
+pub reported_nobody : (old : Cluster) (s : ClusterState) (number : ℕ) → ClusterStands old s → length old.nodes.items ≤ number
+    → ClusterStands old (passed s (Report number))
 reported_nobody old s number stands above =
-    subst (λ (o : Option Node). Stands old (option_map_or (λ (n : Node). report_taken number n n.reports s) o s)) (sym (nobody old s number stands above))
+    subst (λ (o : Option Node). ClusterStands old (option_map_or (λ (n : Node). report_taken number n n.reports s) o s)) (sym (nobody old s number stands above))
     stands
 
 -- ---- a batch that is finished
@@ -199,11 +199,11 @@ batch_there node may = either node.batch refl may where
 -- a worker that has finished its batch, and what it gave is to be sent
 pub record HasFinished (old : Cluster) (cluster : Cluster) (s : ClusterState) (number : ℕ) (outs : List Out) : Type 0 where
   pub between : ClusterState
-  pub stands : Stands cluster between
+  pub stands : ClusterStands cluster between
   pub sent : fold (out_sent number) between outs ≡ passed s (Finish number)
 
 pub finishing : (old : Cluster) (nodes : Vec kept_node Global) (trace : Vec Ran Global) (s : ClusterState) (number : ℕ) (kept new : kept_node) (outs : List Out)
-    → Stands old s → is_enabled s (Finish number) ≡ true → slice_get old.nodes.items number ≡ Some kept → nodes.items ≡ slice_set old.nodes.items number new
+    → ClusterStands old s → is_enabled s (Finish number) ≡ true → slice_get old.nodes.items number ≡ Some kept → nodes.items ≡ slice_set old.nodes.items number new
     → ((node : Node) (b : Batched) → IsNode number kept node → node.batch ≡ Some b → IsFinished number node b new outs old.trace.items trace.items)
     → HasFinished old (record old { nodes = nodes; trace = trace }) s number outs
 finishing old nodes trace s number kept new outs stands enabled at is goes =
@@ -232,17 +232,17 @@ finishing old nodes trace s number kept new outs stands enabled at is goes =
           ∙ ap (λ (o : Option Node). option_map_or (λ (n : Node). option_map_or (λ (x : Batched). batch_finished number n s x) n.batch s) o s) (sym here.1);
     }
 
-pub finished_nobody : (old : Cluster) (s : ClusterState) (number : ℕ) → Stands old s → length old.nodes.items ≤ number
-    → Stands old (passed s (Finish number))
+pub finished_nobody : (old : Cluster) (s : ClusterState) (number : ℕ) → ClusterStands old s → length old.nodes.items ≤ number
+    → ClusterStands old (passed s (Finish number))
 finished_nobody old s number stands above =
-    subst (λ (o : Option Node). Stands old (option_map_or (λ (n : Node). option_map_or (λ (b : Batched). batch_finished number n s b) n.batch s) o s))
+    subst (λ (o : Option Node). ClusterStands old (option_map_or (λ (n : Node). option_map_or (λ (b : Batched). batch_finished number n s b) n.batch s) o s))
     (sym (nobody old s number stands above)) stands
 
 -- ---- an event
 
 -- an event was given
-pub noted_stands : (old : Cluster) (given : Vec Given Global) (s : ClusterState) (event : Event) (done : Bool) → Stands old s
-    → given.items ≡ old.given.items ++ record { event = event; done = done } ∷ [] → Stands (record old { given = given }) (noted event done s)
+pub noted_stands : (old : Cluster) (given : Vec Given Global) (s : ClusterState) (event : Event) (done : Bool) → ClusterStands old s
+    → given.items ≡ old.given.items ++ record { event = event; done = done } ∷ [] → ClusterStands (record old { given = given }) (noted event done s)
 noted_stands old given s event done stands is = record {
   whole = stands.whole;
   job = stands.job;
@@ -273,7 +273,7 @@ step_passed s event done enabled not = record {
 }
 
 -- memory wasn't refused
-pub marked : (cluster : Cluster) (s : ClusterState) (failed : Bool) → failed ≡ false → Stands cluster s → Stands (record cluster { failed = failed }) s
+pub marked : (cluster : Cluster) (s : ClusterState) (failed : Bool) → failed ≡ false → ClusterStands cluster s → ClusterStands (record cluster { failed = failed }) s
 marked cluster s failed not stands = record {
   whole = not;
   job = stands.job;

@@ -17,8 +17,8 @@ use Rattle.nim_lockstep.specs.Nodes.{has_any, may_frame}
 use Rattle.nim_lockstep.specs.Schedules.{frames_of}
 use Rattle.nim_cluster.specs.declared.cluster.Cluster.{Cluster}
 use Rattle.nim_cluster.specs.declared.node.Node.{Node as kept_node}
-use Rattle.nim_cluster.specs.Stands.{IsIdle, IsNode, Stands, frames_in}
-use Rattle.nim_cluster.specs.Steps.{AreIdle}
+use Rattle.nim_cluster.specs.Stands.{IsNodeIdle, IsNode, ClusterStands, queued_frames}
+use Rattle.nim_cluster.specs.Steps.{AreNodesIdle}
 use Rattle.nim_cluster.proofs.Links.{frames_at}
 use Rattle.nim_cluster.proofs.Nodes.{got, node_at}
 use Rattle.nim_cluster.proofs.Schedules.{frame_by}
@@ -27,9 +27,9 @@ use Rattle.nim_cluster.proofs.Schedules.{frame_by}
 
 -- so many queues are empty
 abbrev pub AreEmpty : ℕ → List (VecDeque DataFrame Global) → Type 0
-AreEmpty count queues = (from : ℕ) → from < count → get_or (frames_in queues) from [] ≡ []
+AreEmpty count queues = (from : ℕ) → from < count → get_or (queued_frames queues) from [] ≡ []
 
-past_queues : (queues : List (VecDeque DataFrame Global)) (from : ℕ) → length queues ≤ from → get_or (frames_in queues) from [] ≡ []
+past_queues : (queues : List (VecDeque DataFrame Global)) (from : ℕ) → length queues ≤ from → get_or (queued_frames queues) from [] ≡ []
 past_queues [] from above = refl
 past_queues (q ∷ qs) zero above = absurd (omega (arith, above))
 past_queues (q ∷ qs) (suc from) above = past_queues qs from (omega (arith, above))
@@ -37,37 +37,37 @@ past_queues (q ∷ qs) (suc from) above = past_queues qs from (omega (arith, abo
 pub one_more_empty : (queues : List (VecDeque DataFrame Global)) (i : ℕ) (queue : VecDeque DataFrame Global) → i < length queues
     → queue ≡ get_or queues i queue → queue.items ≡ [] → AreEmpty i queues → AreEmpty (i + 1) queues
 one_more_empty queues i queue below is none so_far from before = either (cases_lt from i) where
-  either : ((from < i) ⊎ (i ≤ from)) → get_or (frames_in queues) from [] ≡ []
+  either : ((from < i) ⊎ (i ≤ from)) → get_or (queued_frames queues) from [] ≡ []
   either (inl less) = so_far from less
   either (inr more) =
       let same : i ≡ from = omega (arith, before, more) in
-      subst (λ (n : ℕ). get_or (frames_in queues) n [] ≡ []) same (frames_at queues i queue (got queues i queue below is) ∙ none)
+      subst (λ (n : ℕ). get_or (queued_frames queues) n [] ≡ []) same (frames_at queues i queue (got queues i queue below is) ∙ none)
 
 pub all_empty : (queues : List (VecDeque DataFrame Global)) (count : ℕ) → length queues ≤ count → AreEmpty count queues
-    → (from : ℕ) → get_or (frames_in queues) from [] ≡ []
+    → (from : ℕ) → get_or (queued_frames queues) from [] ≡ []
 all_empty queues count all empty from = either (cases_lt from count) where
-  either : ((from < count) ⊎ (count ≤ from)) → get_or (frames_in queues) from [] ≡ []
+  either : ((from < count) ⊎ (count ≤ from)) → get_or (queued_frames queues) from [] ≡ []
   either (inl less) = empty from less
   either (inr more) = past_queues queues from (omega (arith, all, more))
 
 -- ---- workers
 
-pub one_more_idle : (cluster : Cluster) (s : ClusterState) (i : ℕ) (kept : kept_node) → Stands cluster s → i < length cluster.nodes.items
-    → kept ≡ get_or cluster.nodes.items i kept → ((number : ℕ) (node : Node) → IsNode number kept node → IsIdle node)
-    → AreIdle i s.nodes → AreIdle (i + 1) s.nodes
+pub one_more_idle : (cluster : Cluster) (s : ClusterState) (i : ℕ) (kept : kept_node) → ClusterStands cluster s → i < length cluster.nodes.items
+    → kept ≡ get_or cluster.nodes.items i kept → ((number : ℕ) (node : Node) → IsNode number kept node → IsNodeIdle node)
+    → AreNodesIdle i s.nodes → AreNodesIdle (i + 1) s.nodes
 one_more_idle cluster s i kept stands below is idle so_far to node before at = either (cases_lt to i) where
-  either : ((to < i) ⊎ (i ≤ to)) → IsIdle node
+  either : ((to < i) ⊎ (i ≤ to)) → IsNodeIdle node
   either (inl less) = so_far to node less at
   either (inr more) =
       let same : to ≡ i = omega (arith, before, more) in
       let here = node_at i cluster.nodes.items s.nodes kept stands.nodes (got cluster.nodes.items i kept below is) in
       let there : slice_get s.nodes i ≡ Some node = subst (λ (n : ℕ). slice_get s.nodes n ≡ Some node) same at in
       let one : here.0 ≡ node = cc in
-      subst (λ (n : Node). IsIdle n) one (idle i here.0 here.2)
+      subst (λ (n : Node). IsNodeIdle n) one (idle i here.0 here.2)
 
 -- ---- events
 
-frame_idle : (s : ClusterState) (from to : ℕ) → AreIdle (length s.nodes) s.nodes → is_enabled s (Data from to) ≡ false
+frame_idle : (s : ClusterState) (from to : ℕ) → AreNodesIdle (length s.nodes) s.nodes → is_enabled s (Data from to) ≡ false
 frame_idle s from to idle =
     ap (λ (b : Bool). not (has_ended s) && (is_live s.control.live (worker_of to) && b)) (either (slice_get s.nodes to) refl)
     ∙ and_none (not (has_ended s)) (is_live s.control.live (worker_of to)) where
@@ -92,7 +92,7 @@ none_of_all test f (n ∷ ns) none =
     ∙ ap (λ (o : Option Event). option_or o (find test (flat_map f ns))) (none n)
     ∙ none_of_all test f ns none
 
-pub no_frame : (s : ClusterState) → AreIdle (length s.nodes) s.nodes → frame_by s ≡ None
+pub no_frame : (s : ClusterState) → AreNodesIdle (length s.nodes) s.nodes → frame_by s ≡ None
 no_frame s idle =
     none_of_all (is_enabled s) (frames_of s.setup.workers) (range_with_len 0 s.setup.workers)
     (λ from. none_passes (is_enabled s) (λ (to : ℕ). Data from to) (range_with_len 0 s.setup.workers) (λ to. frame_idle s from to idle))

@@ -12,7 +12,7 @@ use Rattle.nim_course.specs.declared.pending.Pending.{Pending}
 use Rattle.nim_course.specs.declared.pending.Pending.TheVariants.{Begin, Idle, Block, Cell, Parts, Ended}
 use Rattle.nim_course.specs.Controller.{Controller}
 use Rattle.nim_place.specs.Directed.{Directed}
-use Rattle.nim_course.specs.Moves.{IsTurned, after_moves, asked, done_with, with_block}
+use Rattle.nim_course.specs.Moves.{IsTurned, after_moves, asked, after_pending, with_block}
 use Rattle.nim_course.specs.Reports.{after_report, reported}
 
 -- ---- reports
@@ -47,7 +47,7 @@ block_job : (again : Bool) (c : Controller) (block : ℕ) (args : List ℤ) → 
 block_job true c block args = refl
 block_job false c block args = refl
 
-done_job : (c : Controller) (pending : Pending) → (done_with c pending).job ≡ c.job
+done_job : (c : Controller) (pending : Pending) → (after_pending c pending).job ≡ c.job
 done_job c Begin = refl
 done_job c Idle = asked_job c (ask_of c.machine)
 done_job c (Block block args) = block_job (is_recorded c.decisions block) c block args

@@ -23,9 +23,9 @@ use Rattle.nim_worker.specs.Stands.{tickets_of}
 use Rattle.nim_worker.specs.Taken.{has_released, taken_of}
 use Rattle.nim_lockstep.specs.declared.ran.Ran.{Ran}
 use Rattle.nim_lockstep.specs.Cluster.{Batched, Node}
-use Rattle.nim_lockstep.specs.Nodes.{batch_after, batch_of, begun, frame_sent, frame_taken, frames_from, may_begin, order_taken, run_of, runs_at}
+use Rattle.nim_lockstep.specs.Nodes.{batch_after, batch_of, batch_begun, frame_sent, frame_taken, frames_from, may_begin, order_taken, ran_by_command, runs_at}
 use Rattle.nim_cluster.specs.declared.node.Node.{Node as kept_node}
-use Rattle.nim_cluster.specs.Stands.{IsNode, MayBeBatch, frames_in, ran_at}
+use Rattle.nim_cluster.specs.Stands.{IsNode, MayBeBatch, queued_frames, ran_at}
 
 -- nothing that counts has changed
 pub record IsSame (old new : kept_node) : Type 0 where
@@ -33,13 +33,13 @@ pub record IsSame (old new : kept_node) : Type 0 where
   pub batch : new.batch ≡ old.batch
   pub orders : new.orders.items ≡ old.orders.items
   pub reports : new.reports.items ≡ old.reports.items
-  pub frames : frames_in new.frames.items ≡ frames_in old.frames.items
+  pub frames : queued_frames new.frames.items ≡ queued_frames old.frames.items
   pub waits : new.frames_wait ≡ old.frames_wait
 
 pub same_node : (number : ℕ) (old new : kept_node) (node : Node) → IsNode number old node → IsSame old new → IsNode number new node
 same_node number old new node is same = record {
-  core = subst (λ (kept : WorkerCore). worker.Stands kept new.batch node.happened) (sym same.core)
-      (subst (λ (out : Option Batch). worker.Stands old.core out node.happened) (sym same.batch) is.core);
+  core = subst (λ (kept : WorkerCore). worker.CoreStands kept new.batch node.happened) (sym same.core)
+      (subst (λ (out : Option Batch). worker.CoreStands old.core out node.happened) (sym same.batch) is.core);
   worker = ap (λ (kept : WorkerCore). kept.worker) same.core ∙ is.worker;
   batch = subst (λ (kept : WorkerCore). MayBeBatch (worker_of number) kept.stale new.batch node.batch) (sym same.core)
       (subst (λ (out : Option Batch). MayBeBatch (worker_of number) old.core.stale out node.batch) (sym same.batch) is.batch);
@@ -82,7 +82,7 @@ batch_ordered number order old new busy batch b is out stale = either (is_reset 
 
 -- what a core does with an order
 pub record TakesOrder (old : kept_node) (happened : List Happening) (order : ToWorker) (core : WorkerCore) : Type 0 where
-  pub stands : worker.Stands core old.batch (happened ++ Ordered order ∷ [])
+  pub stands : worker.CoreStands core old.batch (happened ++ Ordered order ∷ [])
   pub stale : core.stale ≡ (if is_reset order then old.core.busy else old.core.stale)
   pub worker : core.worker ≡ old.core.worker
 
@@ -92,20 +92,20 @@ pub ordered_node : (number : ℕ) (old new : kept_node) (node : Node) (order : T
 ordered_node number old new node order is next takes batch reports frames waits =
     subst (λ (orders : List ToWorker). IsNode number new (order_taken orders node)) (sym next ∙ is.orders)
     (record {
-      core = subst (λ (out : Option Batch). worker.Stands new.core out (node.happened ++ Ordered order ∷ [])) (sym batch) takes.stands;
+      core = subst (λ (out : Option Batch). worker.CoreStands new.core out (node.happened ++ Ordered order ∷ [])) (sym batch) takes.stands;
       worker = takes.worker ∙ is.worker;
       batch = subst (λ (out : Option Batch). MayBeBatch (worker_of number) new.core.stale out (batch_after order node.batch)) (sym batch)
           (batch_ordered (worker_of number) order old.core.stale new.core.stale old.core.busy old.batch node.batch is.batch is.core.at.busy takes.stale);
       orders = refl;
       reports = ap (λ (q : VecDeque FromWorker Global). q.items) reports ∙ is.reports;
-      frames = ap (λ (q : Vec (VecDeque Data Global) Global). frames_in q.items) frames ∙ is.frames;
+      frames = ap (λ (q : Vec (VecDeque Data Global) Global). queued_frames q.items) frames ∙ is.frames;
       idle = λ no. is.idle (sym waits ∙ no);
     })
 
 -- ---- a frame of data
 
 pub frames_at : (queues : List (VecDeque Data Global)) (from : ℕ) (queue : VecDeque Data Global) → slice_get queues from ≡ Some queue
-    → get_or (frames_in queues) from [] ≡ queue.items
+    → get_or (queued_frames queues) from [] ≡ queue.items
 frames_at [] from queue at = absurd cc
 frames_at (q ∷ qs) zero queue at = let same : q ≡ queue = cc in ap (λ (x : VecDeque Data Global). x.items) same
 frames_at (q ∷ qs) (suc from) queue at = frames_at qs from queue at
@@ -117,7 +117,7 @@ frames_are number from old node queue is at =
 
 -- what a core does with a frame
 pub record TakesFrame (old : kept_node) (happened : List Happening) (frame : Data) (core : WorkerCore) : Type 0 where
-  pub stands : worker.Stands core old.batch (happened ++ Framed frame ∷ [])
+  pub stands : worker.CoreStands core old.batch (happened ++ Framed frame ∷ [])
   pub stale : core.stale ≡ old.core.stale
   pub worker : core.worker ≡ old.core.worker
 
@@ -125,14 +125,14 @@ pub framed_node : (number from : ℕ) (old new : kept_node) (node : Node) (frame
     → slice_get old.frames.items from ≡ Some queue → queue.items ≡ frame ∷ rest.items
     → new.frames.items ≡ slice_set old.frames.items from rest → TakesFrame old node.happened frame new.core → new.batch ≡ old.batch
     → new.orders ≡ old.orders → new.reports ≡ old.reports
-    → (new.frames_wait ≡ false → (other : ℕ) → get_or (frames_in new.frames.items) other [] ≡ [])
+    → (new.frames_wait ≡ false → (other : ℕ) → get_or (queued_frames new.frames.items) other [] ≡ [])
     → IsNode number new (frame_taken from (frames_from from node) node)
 framed_node number from old new node frame queue rest is at next frames takes batch orders reports empty =
-    let same = ap frames_in frames ∙ map-set (λ (q : VecDeque Data Global). q.items) old.frames.items from rest
+    let same = ap queued_frames frames ∙ map-set (λ (q : VecDeque Data Global). q.items) old.frames.items from rest
     ∙ ap (λ (all : List (List Data)). slice_set all from rest.items) is.frames in
     subst (λ (waiting : List Data). IsNode number new (frame_taken from waiting node)) (sym next ∙ sym (frames_are number from old node queue is at))
     (record {
-      core = subst (λ (out : Option Batch). worker.Stands new.core out (node.happened ++ Framed frame ∷ [])) (sym batch) takes.stands;
+      core = subst (λ (out : Option Batch). worker.CoreStands new.core out (node.happened ++ Framed frame ∷ [])) (sym batch) takes.stands;
       worker = takes.worker ∙ is.worker;
       batch = subst (λ (out : Option Batch). MayBeBatch (worker_of number) new.core.stale out node.batch) (sym batch)
           (subst (λ (stale : Bool). MayBeBatch (worker_of number) stale old.batch node.batch) (sym takes.stale) is.batch);
@@ -150,11 +150,11 @@ unframed_node number from old new node is none same =
 
 -- a queue that has the same frames changes none
 pub same_frames : (queues : List (VecDeque Data Global)) (from : ℕ) (queue other : VecDeque Data Global) → slice_get queues from ≡ Some queue
-    → other.items ≡ queue.items → frames_in (slice_set queues from other) ≡ frames_in queues
+    → other.items ≡ queue.items → queued_frames (slice_set queues from other) ≡ queued_frames queues
 same_frames [] from queue other at is = refl
 same_frames (q ∷ qs) zero queue other at is =
     let same : q ≡ queue = cc in
-    ap (λ (items : List Data). items ∷ frames_in qs) (is ∙ ap (λ (x : VecDeque Data Global). x.items) (sym same))
+    ap (λ (items : List Data). items ∷ queued_frames qs) (is ∙ ap (λ (x : VecDeque Data Global). x.items) (sym same))
 same_frames (q ∷ qs) (suc from) queue other at is = ap (λ (rest : List (List Data)). q.items ∷ rest) (same_frames qs from queue other at is)
 
 -- one frame more waits
@@ -163,14 +163,14 @@ pub sent_node : (number from : ℕ) (old new : kept_node) (node : Node) (frame :
     → new.frames.items ≡ slice_set old.frames.items from more → new.core ≡ old.core → new.batch ≡ old.batch
     → new.orders ≡ old.orders → new.reports ≡ old.reports → new.frames_wait ≡ true → IsNode number new (frame_sent from frame node)
 sent_node number from old new node frame queue more is at put frames core batch orders reports waits = record {
-  core = subst (λ (kept : WorkerCore). worker.Stands kept new.batch node.happened) (sym core)
-      (subst (λ (out : Option Batch). worker.Stands old.core out node.happened) (sym batch) is.core);
+  core = subst (λ (kept : WorkerCore). worker.CoreStands kept new.batch node.happened) (sym core)
+      (subst (λ (out : Option Batch). worker.CoreStands old.core out node.happened) (sym batch) is.core);
   worker = ap (λ (kept : WorkerCore). kept.worker) core ∙ is.worker;
   batch = subst (λ (kept : WorkerCore). MayBeBatch (worker_of number) kept.stale new.batch node.batch) (sym core)
       (subst (λ (out : Option Batch). MayBeBatch (worker_of number) old.core.stale out node.batch) (sym batch) is.batch);
   orders = ap (λ (q : VecDeque ToWorker Global). q.items) orders ∙ is.orders;
   reports = ap (λ (q : VecDeque FromWorker Global). q.items) reports ∙ is.reports;
-  frames = ap frames_in frames ∙ map-set (λ (q : VecDeque Data Global). q.items) old.frames.items from more
+  frames = ap queued_frames frames ∙ map-set (λ (q : VecDeque Data Global). q.items) old.frames.items from more
       ∙ ap₂ (λ (all : List (List Data)) (waiting : List Data). slice_set all from waiting) is.frames
       (put ∙ ap (λ (waiting : List Data). waiting ++ frame ∷ []) (sym (frames_are number from old node queue is at)));
   idle = λ no. absurd (both_ways new.frames_wait no waits);
@@ -203,10 +203,10 @@ unsent_node number from old node frame is above =
 -- what a command runs, by what it reads
 run_is : (number : Worker) (epoch : ℕ) (state : WorkerState) (o : Option Asked) → epoch ≡ state.session.epoch
     → map (ran_at number epoch) (option_map_or (λ (asked : Asked). run_read state.slots asked.command.kind) o [])
-    ≡ option_map_or (λ (asked : Asked). run_of number state.session.epoch state.slots asked.command.kind) o []
+    ≡ option_map_or (λ (asked : Asked). ran_by_command number state.session.epoch state.slots asked.command.kind) o []
 run_is number epoch state None same = refl
 run_is number epoch state (Some asked) same = either asked.command.kind where
-  either : (kind : Kind) → map (ran_at number epoch) (run_read state.slots kind) ≡ run_of number state.session.epoch state.slots kind
+  either : (kind : Kind) → map (ran_at number epoch) (run_read state.slots kind) ≡ ran_by_command number state.session.epoch state.slots kind
   either (Run position func params reads writes) =
       ap (λ (e : ℕ). ran_at number e (position, contents_read func params reads writes state.slots) ∷ []) same
   either kind = refl
@@ -220,7 +220,7 @@ runs_are number epoch state (place ∷ places) same =
 
 -- what a core does when it begins a batch
 pub record BeginsBatch (old : WorkerCore) (happened : List Happening) (most : ℕ) (core : WorkerCore) (batch : Batch) : Type 0 where
-  pub stands : worker.Stands core (Some batch) happened
+  pub stands : worker.CoreStands core (Some batch) happened
   pub taken : tickets_of batch.works.items ≡ taken_of (state_of happened) most
   pub runs : all_read_by batch.works.items ≡ runs_read (state_of happened) (tickets_of batch.works.items)
   pub epoch : batch.epoch ≡ old.epoch
@@ -243,13 +243,13 @@ begin_none most node may =
 
 pub begun_node : (number most : ℕ) (old new : kept_node) (batch : Batch) (node : Node) → IsNode number old node → old.batch ≡ None
     → BeginsBatch old.core node.happened most new.core batch → new.batch ≡ Some batch → new.orders ≡ old.orders
-    → new.reports ≡ old.reports → new.frames ≡ old.frames → new.frames_wait ≡ old.frames_wait → IsNode number new (begun (worker_of number) most node)
+    → new.reports ≡ old.reports → new.frames ≡ old.frames → new.frames_wait ≡ old.frames_wait → IsNode number new (batch_begun (worker_of number) most node)
 begun_node number most old new batch node is none begins out orders reports frames waits =
     let state : WorkerState = state_of node.happened in
-    let at_rest = subst (λ (o : Option Batch). worker.Stands old.core o node.happened) none is.core in
+    let at_rest = subst (λ (o : Option Batch). worker.CoreStands old.core o node.happened) none is.core in
     let epoch : batch.epoch ≡ state.session.epoch = begins.epoch ∙ is.core.at.has.session.epoch in
     record {
-      core = subst (λ (o : Option Batch). worker.Stands new.core o node.happened) (sym out) begins.stands;
+      core = subst (λ (o : Option Batch). worker.CoreStands new.core o node.happened) (sym out) begins.stands;
       worker = begins.worker ∙ is.worker;
       batch = subst (λ (o : Option Batch). MayBeBatch (worker_of number) new.core.stale o (Some (batch_of (worker_of number) most state))) (sym out)
           (record {
@@ -260,6 +260,6 @@ begun_node number most old new batch node is none begins out orders reports fram
           });
       orders = ap (λ (q : VecDeque ToWorker Global). q.items) orders ∙ is.orders;
       reports = ap (λ (q : VecDeque FromWorker Global). q.items) reports ∙ is.reports;
-      frames = ap (λ (q : Vec (VecDeque Data Global) Global). frames_in q.items) frames ∙ is.frames;
+      frames = ap (λ (q : Vec (VecDeque Data Global) Global). queued_frames q.items) frames ∙ is.frames;
       idle = λ no. is.idle (sym waits ∙ no);
     }

@@ -7,7 +7,7 @@ use Rattle.nim_lockstep.specs.Cluster.{ClusterState, Node}
 use Rattle.nim_lockstep.specs.Events.{at_node}
 use Rattle.nim_cluster.specs.declared.cluster.Cluster.{Cluster}
 use Rattle.nim_cluster.specs.declared.node.Node.{Node as kept_node}
-use Rattle.nim_cluster.specs.Stands.{AreNodes, IsNode, Stands}
+use Rattle.nim_cluster.specs.Stands.{AreNodes, IsNode, ClusterStands}
 
 -- ---- workers in a list
 
@@ -104,12 +104,12 @@ nodes_more number kepts nodes kept node are count is =
 
 -- something changed at a worker
 pub changed : (old : Cluster) (nodes : Vec kept_node Global) (s : ClusterState) (number : ℕ) (kept new : kept_node) (change : Node → Node)
-    → Stands old s → slice_get old.nodes.items number ≡ Some kept → nodes.items ≡ slice_set old.nodes.items number new
+    → ClusterStands old s → slice_get old.nodes.items number ≡ Some kept → nodes.items ≡ slice_set old.nodes.items number new
     → ((node : Node) → slice_get s.nodes number ≡ Some node → IsNode number kept node → IsNode number new (change node))
-    → Stands (record old { nodes = nodes }) (at_node change number s)
+    → ClusterStands (record old { nodes = nodes }) (at_node change number s)
 changed old nodes s number kept new change stands at is goes =
     let here = node_at number old.nodes.items s.nodes kept stands.nodes at in
-    subst (λ (o : Option Node). Stands (record old { nodes = nodes })
+    subst (λ (o : Option Node). ClusterStands (record old { nodes = nodes })
     (option_map_or (λ (node : Node). record s { nodes = slice_set s.nodes number (change node) }) o s)) (sym here.1)
     (record {
       whole = stands.whole;
@@ -126,21 +126,21 @@ changed old nodes s number kept new change stands at is goes =
 -- a worker took something, where memory wasn't refused
 pub stands_at : {A E : Type 0} (r : Result A E) (old : Cluster) (nodes : Vec kept_node Global) (s : ClusterState) (number : ℕ) (kept new : kept_node)
     (change : Node → Node)
-    → Stands old s → number < length old.nodes.items → kept ≡ get_or old.nodes.items number kept → nodes.items ≡ slice_set old.nodes.items number new
+    → ClusterStands old s → number < length old.nodes.items → kept ≡ get_or old.nodes.items number kept → nodes.items ≡ slice_set old.nodes.items number new
     → ((n : ℕ) (node : Node) → IsNode n kept node → OnOk r (IsNode n new (change node)))
-    → OnOk r (Stands (record old { nodes = nodes }) (at_node change number s))
+    → OnOk r (ClusterStands (record old { nodes = nodes }) (at_node change number s))
 stands_at (Ok x) old nodes s number kept new change stands below at is goes =
     changed old nodes s number kept new change stands (got old.nodes.items number kept below at) is (λ node there node_is. goes number node node_is)
 stands_at (Err e) old nodes s number kept new change stands below at is goes = tt
 
 -- there is no such worker
-pub nobody : (old : Cluster) (s : ClusterState) (number : ℕ) → Stands old s → length old.nodes.items ≤ number → slice_get s.nodes number ≡ None
+pub nobody : (old : Cluster) (s : ClusterState) (number : ℕ) → ClusterStands old s → length old.nodes.items ≤ number → slice_get s.nodes number ≡ None
 nobody old s number stands above =
     let same = same_length 0 old.nodes.items s.nodes stands.nodes in
     past s.nodes number (omega (arith, same, above))
 
-pub unchanged : (old : Cluster) (s : ClusterState) (number : ℕ) (change : Node → Node) → Stands old s → length old.nodes.items ≤ number
-    → Stands old (at_node change number s)
+pub unchanged : (old : Cluster) (s : ClusterState) (number : ℕ) (change : Node → Node) → ClusterStands old s → length old.nodes.items ≤ number
+    → ClusterStands old (at_node change number s)
 unchanged old s number change stands above =
-    subst (λ (o : Option Node). Stands old (option_map_or (λ (node : Node). record s { nodes = slice_set s.nodes number (change node) }) o s))
+    subst (λ (o : Option Node). ClusterStands old (option_map_or (λ (node : Node). record s { nodes = slice_set s.nodes number (change node) }) o s))
     (sym (nobody old s number stands above)) stands

@@ -12,7 +12,7 @@ use Rattle.nim_cluster.specs.declared.cluster.Cluster.{Cluster}
 use Rattle.nim_cluster.specs.declared.running.Moving.{Moving}
 use Rattle.nim_cluster.specs.declared.running.Moving.TheVariants as moving
 use Rattle.nim_cluster.specs.Runs.{event_of}
-use Rattle.nim_cluster.specs.Stands.{Stands}
+use Rattle.nim_cluster.specs.Stands.{ClusterStands}
 
 -- ---- the first that is enabled
 
@@ -118,4 +118,4 @@ pub record HasReached (before : ClusterState) (cluster : Cluster) : Type 0 where
   pub count : ℕ
   pub after : ClusterState
   pub reaches : Reaches count before after
-  pub stands : Stands cluster after
+  pub stands : ClusterStands cluster after

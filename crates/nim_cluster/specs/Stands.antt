@@ -37,23 +37,23 @@ MayBeBatch number dropped (Some batch) (Some b) = IsBatch number dropped batch b
 MayBeBatch number dropped _ _ = ⊥
 
 -- the frames that wait in queues
-abbrev pub frames_in : List (VecDeque Data Global) → List (List Data)
-frames_in queues = map (λ (queue : VecDeque Data Global). queue.items) queues
+abbrev pub queued_frames : List (VecDeque Data Global) → List (List Data)
+queued_frames queues = map (λ (queue : VecDeque Data Global). queue.items) queues
 
 -- no frame of data waits at a worker
-abbrev pub IsIdle : Node → Type 0
-IsIdle node = (from : ℕ) → frames_from from node ≡ []
+abbrev pub IsNodeIdle : Node → Type 0
+IsNodeIdle node = (from : ℕ) → frames_from from node ≡ []
 
 -- A worker of this number has come to this, and this waits on its links.
 pub record IsNode (number : ℕ) (kept : kept_node) (node : Node) : Type 0 where
-  pub core : worker.Stands kept.core kept.batch node.happened
+  pub core : worker.CoreStands kept.core kept.batch node.happened
   pub worker : kept.core.worker ≡ worker_of number
   pub batch : MayBeBatch (worker_of number) kept.core.stale kept.batch node.batch
   pub orders : kept.orders.items ≡ node.orders
   pub reports : kept.reports.items ≡ node.reports
-  pub frames : frames_in kept.frames.items ≡ node.frames
+  pub frames : queued_frames kept.frames.items ≡ node.frames
   -- where it notes that no frame waits, none does
-  pub idle : kept.frames_wait ≡ false → IsIdle node
+  pub idle : kept.frames_wait ≡ false → IsNodeIdle node
 
 -- the same of workers from a number on
 abbrev pub AreNodes : ℕ → List kept_node → List Node → Type 0
@@ -63,7 +63,7 @@ AreNodes from _ _ = ⊥
 
 -- A cluster has come to this. The orders that its controller gave aren't kept, but for those that wait. A cluster that
 -- has failed has come to nothing.
-pub record Stands (cluster : Cluster) (s : ClusterState) : Type 0 where
+pub record ClusterStands (cluster : Cluster) (s : ClusterState) : Type 0 where
   pub whole : cluster.failed ≡ false
   pub job : s.control.job ≡ s.job
   pub setup : cluster.setup ≡ s.setup
@@ -74,7 +74,7 @@ pub record Stands (cluster : Cluster) (s : ClusterState) : Type 0 where
   pub given : cluster.given.items ≡ s.given
 
 -- A cluster has come to what events lead to, so that it is in step with program order.
-pub record IsSound (cluster : Cluster) (s : ClusterState) : Type 0 where
-  pub stands : Stands cluster s
+pub record StandsInStep (cluster : Cluster) (s : ClusterState) : Type 0 where
+  pub stands : ClusterStands cluster s
   pub reached : IsReached s
   pub in_step : IsInStep s

@@ -9,7 +9,7 @@ use Rattle.nim_lockstep.specs.Events.{IsPassed}
 use Rattle.nim_lockstep.specs.Nodes.{finished, may_begin, may_finish, may_frame, may_order, may_report, outs_by, runs_by}
 use Rattle.nim_cluster.specs.declared.cluster.Cluster.{Cluster}
 use Rattle.nim_cluster.specs.declared.node.Node.{Node as kept_node}
-use Rattle.nim_cluster.specs.Stands.{IsIdle, IsNode, Stands}
+use Rattle.nim_cluster.specs.Stands.{IsNodeIdle, IsNode, ClusterStands}
 
 -- the worker that takes, begins or finishes something by an event
 abbrev pub number_in : Event → ℕ
@@ -32,8 +32,8 @@ may_take (Lose worker) node = false
 may_take (Propose block task to) node = false
 
 -- none waits at the first so many workers
-abbrev pub AreIdle : ℕ → List Node → Type 0
-AreIdle count nodes = (to : ℕ) (node : Node) → to < count → slice_get nodes to ≡ Some node → IsIdle node
+abbrev pub AreNodesIdle : ℕ → List Node → Type 0
+AreNodesIdle count nodes = (to : ℕ) (node : Node) → to < count → slice_get nodes to ≡ Some node → IsNodeIdle node
 
 -- the first of these was taken, if there is one
 abbrev pub Took : {X : Type 0} → List X → Option X → List X → Type 0
@@ -51,4 +51,4 @@ pub record IsFinished (number : ℕ) (before : Node) (b : Batched) (new : kept_n
 pub record HasPassed (before : ClusterState) (event : Event) (cluster : Cluster) : Type 0 where
   pub after : ClusterState
   pub passed : IsPassed before event after
-  pub stands : Stands cluster after
+  pub stands : ClusterStands cluster after

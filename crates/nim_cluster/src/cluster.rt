@@ -5,7 +5,7 @@ ghost use Rattle.nim_place.specs.Extends.{is_live};
 ghost use Rattle.nim_lockstep.specs.Cluster.{ClusterState, new_node};
 ghost use Rattle.nim_lockstep.specs.Events.{IsNew};
 ghost use Rattle.nim_lockstep.specs.Events as events;
-ghost use Rattle.nim_cluster.specs.Stands.{AreNodes, IsSound, Stands};
+ghost use Rattle.nim_cluster.specs.Stands.{AreNodes, StandsInStep, ClusterStands};
 ghost use Rattle.nim_cluster.specs.Steps as spec;
 
 use crate::node::Node;
@@ -17,7 +17,7 @@ use nim_lockstep::{Given, Ran};
 use nim_schedule::Event;
 use std::alloc::Global;
 
-/// The controller of a job and its workers, each with its links, moved by events. What it has come to is `Stands` of
+/// The controller of a job and its workers, each with its links, moved by events. What it has come to is `ClusterStands` of
 /// `specs/Stands.antt`.
 #[derive(Drop)]
 pub struct Cluster {
@@ -40,7 +40,7 @@ impl Cluster {
         requires whole { IsTrue (is_whole job) }
         requires some { 1 ≤ setup.workers }
         requires few { setup.workers ≤ 16 }
-        ensures { IfOk result (λ cluster. (s : ClusterState) × (IsNew job setup s × Stands cluster s)) }
+        ensures { IfOk result (λ cluster. (s : ClusterState) × (IsNew job setup s × ClusterStands cluster s)) }
     {
         let control = ControllerCore::new(alloc, job, setup)?;
         let nodes = new_nodes(alloc, setup.workers)?;
@@ -59,7 +59,7 @@ impl Cluster {
 
     /// Whether an event may come now: something waits for whom it names, or a batch may be begun or finished there.
     pub fn is_enabled(&self, event: &Event) -> bool
-        ensures { (s : ClusterState) → Stands self.now s → result ≡ events.is_enabled s event.now }
+        ensures { (s : ClusterState) → ClusterStands self.now s → result ≡ events.is_enabled s event.now }
     {
         match self.nodes.get(number_in(event) as usize) {
             Some(node) => node.may_take(event) && self.goes_on(node.core.worker()),
@@ -69,42 +69,42 @@ impl Cluster {
 
     /// How the job ended, once it has.
     pub fn outcome(&self) -> Option<Outcome>
-        ensures { (s : ClusterState) → Stands self.now s → result ≡ s.control.outcome }
+        ensures { (s : ClusterState) → ClusterStands self.now s → result ≡ s.control.outcome }
     {
         self.control.outcome()
     }
 
     /// What the job printed so far.
     pub fn output(&self) -> &[u8]
-        ensures { (s : ClusterState) → Stands self.now s → result.now ≡ s.control.machine.driver.output }
+        ensures { (s : ClusterState) → ClusterStands self.now s → result.now ≡ s.control.machine.driver.output }
     {
         self.control.output()
     }
 
     /// What its controller counted so far.
     pub fn summary(&self) -> &Summary
-        ensures { (s : ClusterState) → Stands self.now s → result.now ≡ s.control.summary }
+        ensures { (s : ClusterState) → ClusterStands self.now s → result.now ≡ s.control.summary }
     {
         self.control.summary()
     }
 
     /// The Runs that were performed, in the order in which their batches were finished.
     pub fn trace(&self) -> &[Ran]
-        ensures { (s : ClusterState) → Stands self.now s → result.now ≡ s.trace }
+        ensures { (s : ClusterState) → ClusterStands self.now s → result.now ≡ s.trace }
     {
         self.trace.as_slice()
     }
 
     /// The events that it was given, in order, and whether each was done.
     pub fn given(&self) -> &[Given]
-        ensures { (s : ClusterState) → Stands self.now s → result.now ≡ s.given }
+        ensures { (s : ClusterState) → ClusterStands self.now s → result.now ≡ s.given }
     {
         self.given.as_slice()
     }
 
     /// How the job is run.
     pub fn setup(&self) -> Setup
-        ensures { (s : ClusterState) → Stands self.now s → result ≡ s.setup }
+        ensures { (s : ClusterState) → ClusterStands self.now s → result ≡ s.setup }
     {
         self.setup
     }

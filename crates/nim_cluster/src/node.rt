@@ -1,10 +1,10 @@
 ghost use Rattle.std.specs.Prelude.{◌≡◌, ◌++◌, ◌∷◌, ℕ, true, false, [], get_or, map, IfOk, OnOk};
 ghost use Rattle.nim_lockstep.specs.Cluster.{Batched, Node as node_state, new_node};
-ghost use Rattle.nim_lockstep.specs.Nodes.{begun, frame_sent, frame_taken, frames_from, order_taken};
+ghost use Rattle.nim_lockstep.specs.Nodes.{batch_begun, frame_sent, frame_taken, frames_from, order_taken};
 ghost use Rattle.nim_lockstep.specs.Nodes as nodes;
 ghost use Rattle.nim_place.specs.Extends.{worker_of};
-ghost use Rattle.nim_worker.specs.Runs.{read_by};
-ghost use Rattle.nim_cluster.specs.Stands.{IsIdle, IsNode, frames_in, ran_at, runs_in};
+ghost use Rattle.nim_worker.specs.Runs.{reads_of_work};
+ghost use Rattle.nim_cluster.specs.Stands.{IsNodeIdle, IsNode, queued_frames, ran_at, runs_in};
 ghost use Rattle.nim_cluster.specs.Steps.{IsFinished, Took};
 ghost use Rattle.nim_cluster.specs.Steps as spec;
 
@@ -68,7 +68,7 @@ impl Node {
 
     /// Whether a frame of data may wait; where it says no, none does.
     pub(crate) fn has_frames(&self) -> bool
-        ensures { (number : ℕ) (node : node_state) → IsNode number self.now node → result ≡ false → IsIdle node }
+        ensures { (number : ℕ) (node : node_state) → IsNode number self.now node → result ≡ false → IsNodeIdle node }
     {
         self.frames_wait
     }
@@ -120,7 +120,7 @@ impl Node {
     /// Begins a batch of at most so many commands, where it may.
     pub(crate) fn begin(&mut self, most: u32)
         ensures { (number : ℕ) (node : node_state) → IsNode number self.old node → nodes.may_begin most node ≡ true
-            → IsNode number self.new (begun (worker_of number) most node) }
+            → IsNode number self.new (batch_begun (worker_of number) most node) }
     {
         if 1 <= most && most <= MOST_COMMANDS && !self.core.busy() {
             self.batch = Some(self.core.begin(most as u16));
@@ -180,7 +180,7 @@ impl Node {
 
 // No frames from any of so many workers.
 fn no_frames(alloc: Global, workers: u16) -> Result<Vec<VecDeque<Data>>, NoMemory>
-    ensures { IfOk result (λ frames. frames_in frames.items ≡ (new_node workers).frames) }
+    ensures { IfOk result (λ frames. queued_frames frames.items ≡ (new_node workers).frames) }
 {
     let mut frames = Vec::new(alloc);
     for _ in 0..workers {
@@ -191,7 +191,7 @@ fn no_frames(alloc: Global, workers: u16) -> Result<Vec<VecDeque<Data>>, NoMemor
 
 // Where it says no, these queues are empty.
 fn any_frames(queues: &[VecDeque<Data>]) -> bool
-    ensures { result ≡ false → (from : ℕ) → get_or (frames_in queues.now) from [] ≡ [] }
+    ensures { result ≡ false → (from : ℕ) → get_or (queued_frames queues.now) from [] ≡ [] }
 {
     for queue in queues {
         if !queue.is_empty() {
@@ -224,7 +224,7 @@ fn note_run(
     work: &Work,
     trace: &mut Vec<Ran>,
 ) -> Result<(), NoMemory>
-    ensures { OnOk result (trace.new.items ≡ trace.old.items ++ map (ran_at worker epoch) (read_by work.now)) }
+    ensures { OnOk result (trace.new.items ≡ trace.old.items ++ map (ran_at worker epoch) (reads_of_work work.now)) }
 {
     if let Some(position) = work.run() {
         let reads = Seq::from_vec(Vec::from_slice(alloc, work.reads())?);

@@ -7,8 +7,8 @@ ghost use Rattle.nim_lockstep.specs.Events.{is_enabled};
 ghost use Rattle.nim_lockstep.specs.InStep.{IsReached};
 ghost use Rattle.nim_lockstep.specs.Schedules.{AreLines, IsAuto, IsLine, IsOne, IsRunBy, frames_of, next_of};
 ghost use Rattle.nim_cluster.specs.Runs.{IsAdvance, IsRest, ended_as, event_of};
-ghost use Rattle.nim_cluster.specs.Stands.{IsNode, IsSound, Stands};
-ghost use Rattle.nim_cluster.specs.Steps.{AreIdle, may_take};
+ghost use Rattle.nim_cluster.specs.Stands.{IsNode, StandsInStep, ClusterStands};
+ghost use Rattle.nim_cluster.specs.Steps.{AreNodesIdle, may_take};
 
 use crate::Cluster;
 use crate::node::Node;
@@ -54,7 +54,7 @@ pub fn run(alloc: Global, job: Job, setup: Setup, schedule: &[Line]) -> Result<R
     requires whole { IsTrue (is_whole job) }
     requires some { 1 ≤ setup.workers }
     requires few { setup.workers ≤ 16 }
-    ensures run { IfOk result (λ end. (s : ClusterState) × (IsRunBy job setup schedule.now s × (IsSound end.cluster s
+    ensures run { IfOk result (λ end. (s : ClusterState) × (IsRunBy job setup schedule.now s × (StandsInStep end.cluster s
         × (ended_as s.control.outcome ≡ Some end.outcome)))) }
 {
     clusters_stay_in_step();
@@ -70,7 +70,7 @@ impl Cluster {
     /// The next event by the default rule: of all that are enabled the first by kind, and of its kind the first by the
     /// workers' numbers.
     pub fn next_event(&self) -> Option<Event>
-        ensures { (s : ClusterState) → Stands self.now s → result ≡ next_of s }
+        ensures { (s : ClusterState) → ClusterStands self.now s → result ≡ next_of s }
     {
         if let Some(event) = self.first_of(Moving::Report) {
             return Some(event);
@@ -89,7 +89,7 @@ impl Cluster {
 
     // The first worker's event of a kind that is enabled.
     fn first_of(&self, kind: Moving) -> Option<Event>
-        ensures { (s : ClusterState) → Stands self.now s
+        ensures { (s : ClusterState) → ClusterStands self.now s
             → result ≡ find (is_enabled s) (map (event_of kind) (range_with_len 0 s.setup.workers)) }
     {
         for worker in 0..u32::from(self.setup.workers) {
@@ -102,7 +102,7 @@ impl Cluster {
 
     // The first frame of data that may be taken. Mostly none waits, and then no pair of workers is asked.
     fn first_frame(&self) -> Option<Event>
-        ensures { (s : ClusterState) → Stands self.now s
+        ensures { (s : ClusterState) → ClusterStands self.now s
             → result ≡ find (is_enabled s) (flat_map (frames_of s.setup.workers) (range_with_len 0 s.setup.workers)) }
     {
         if !self.has_frames() {
@@ -113,7 +113,7 @@ impl Cluster {
 
     // Where it says no, no frame of data waits.
     fn has_frames(&self) -> bool
-        ensures { (s : ClusterState) → Stands self.now s → result ≡ false → AreIdle (length s.nodes) s.nodes }
+        ensures { (s : ClusterState) → ClusterStands self.now s → result ≡ false → AreNodesIdle (length s.nodes) s.nodes }
     {
         for node in self.nodes.as_slice() {
             if node.has_frames() {
@@ -124,7 +124,7 @@ impl Cluster {
     }
 
     fn first_waiting_frame(&self) -> Option<Event>
-        ensures { (s : ClusterState) → Stands self.now s
+        ensures { (s : ClusterState) → ClusterStands self.now s
             → result ≡ find (is_enabled s) (flat_map (frames_of s.setup.workers) (range_with_len 0 s.setup.workers)) }
     {
         for from in 0..u32::from(self.setup.workers) {
@@ -136,7 +136,7 @@ impl Cluster {
     }
 
     fn first_frame_from(&self, from: u32) -> Option<Event>
-        ensures { (s : ClusterState) → Stands self.now s
+        ensures { (s : ClusterState) → ClusterStands self.now s
             → result ≡ find (is_enabled s) (frames_of s.setup.workers from) }
     {
         for to in 0..u32::from(self.setup.workers) {
@@ -149,7 +149,7 @@ impl Cluster {
 
     // Whether such an event is enabled. A walk asks this of each worker, so no event is made for it.
     fn may_move(&self, kind: Moving, worker: u32) -> bool
-        ensures { (s : ClusterState) → Stands self.now s → result ≡ is_enabled s (event_of kind worker) }
+        ensures { (s : ClusterState) → ClusterStands self.now s → result ≡ is_enabled s (event_of kind worker) }
     {
         match self.nodes.get(worker as usize) {
             Some(node) => kind.is_open(node) && self.goes_on(node.core.worker()),
@@ -159,7 +159,7 @@ impl Cluster {
 
     // The same of a frame of data.
     fn may_pass(&self, from: u32, to: u32) -> bool
-        ensures { (s : ClusterState) → Stands self.now s → result ≡ is_enabled s (event_is.Data from to) }
+        ensures { (s : ClusterState) → ClusterStands self.now s → result ≡ is_enabled s (event_is.Data from to) }
     {
         match self.nodes.get(to as usize) {
             Some(node) => node.has_frame(from as usize) && self.goes_on(node.core.worker()),
@@ -169,8 +169,8 @@ impl Cluster {
 
     // Is given the events of a schedule.
     fn follow(&mut self, schedule: &[Line]) -> Result<(), NoMemory>
-        ensures { (s : ClusterState) → Stands self.old s
-            → OnOk result ((t : ClusterState) × (AreLines schedule.now s t × Stands self.new t)) }
+        ensures { (s : ClusterState) → ClusterStands self.old s
+            → OnOk result ((t : ClusterState) × (AreLines schedule.now s t × ClusterStands self.new t)) }
     {
         for line in schedule {
             self.take_line(line)?;
@@ -179,8 +179,8 @@ impl Cluster {
     }
 
     fn take_line(&mut self, line: &Line) -> Result<(), NoMemory>
-        ensures { (s : ClusterState) → Stands self.old s
-            → OnOk result ((t : ClusterState) × (IsLine line.now s t × Stands self.new t)) }
+        ensures { (s : ClusterState) → ClusterStands self.old s
+            → OnOk result ((t : ClusterState) × (IsLine line.now s t × ClusterStands self.new t)) }
     {
         match line {
             Line::One(event) => self.take_one(event),
@@ -190,8 +190,8 @@ impl Cluster {
 
     // Is given an event, where the job hasn't ended.
     fn take_one(&mut self, event: &Event) -> Result<(), NoMemory>
-        ensures { (s : ClusterState) → Stands self.old s
-            → OnOk result ((t : ClusterState) × (IsOne (has_ended s) event.now s t × Stands self.new t)) }
+        ensures { (s : ClusterState) → ClusterStands self.old s
+            → OnOk result ((t : ClusterState) × (IsOne (has_ended s) event.now s t × ClusterStands self.new t)) }
     {
         if self.control.outcome().is_none() {
             self.step(event)?;
@@ -201,8 +201,8 @@ impl Cluster {
 
     // Is given so many events by the default rule, fewer where none is enabled any more.
     fn advance_by(&mut self, most: u32) -> Result<(), NoMemory>
-        ensures { (s : ClusterState) → Stands self.old s
-            → OnOk result ((t : ClusterState) × (IsAuto most s t × Stands self.new t)) }
+        ensures { (s : ClusterState) → ClusterStands self.old s
+            → OnOk result ((t : ClusterState) × (IsAuto most s t × ClusterStands self.new t)) }
     {
         for _ in 0..most {
             if !self.advance()? {
@@ -214,8 +214,8 @@ impl Cluster {
 
     // Is given events by the default rule until none is enabled.
     fn go_on(&mut self) -> Result<(), NoMemory>
-        ensures { (s : ClusterState) → Stands self.old s
-            → OnOk result ((t : ClusterState) × (IsRest s t × Stands self.new t)) }
+        ensures { (s : ClusterState) → ClusterStands self.old s
+            → OnOk result ((t : ClusterState) × (IsRest s t × ClusterStands self.new t)) }
     {
         loop {
             if !self.advance()? {
@@ -226,8 +226,8 @@ impl Cluster {
 
     // Is given the next event by the default rule, and tells whether there was one.
     fn advance(&mut self) -> Result<bool, NoMemory>
-        ensures advance { (s : ClusterState) → Stands self.old s
-            → IfOk result (λ went. (t : ClusterState) × (IsAdvance went s t × Stands self.new t)) }
+        ensures advance { (s : ClusterState) → ClusterStands self.old s
+            → IfOk result (λ went. (t : ClusterState) × (IsAdvance went s t × ClusterStands self.new t)) }
         ensures given { IfOk result (λ went. went ≡ true
             → length self.new.given.items ≡ length self.old.given.items + 1) }
     {
@@ -241,7 +241,7 @@ impl Cluster {
     }
 
     fn end(&self) -> Result<RunOutcome, NoMemory>
-        ensures { (s : ClusterState) → Stands self.now s
+        ensures { (s : ClusterState) → ClusterStands self.now s
             → IfOk result (λ outcome. ended_as s.control.outcome ≡ Some outcome) }
     {
         match self.control.outcome() {

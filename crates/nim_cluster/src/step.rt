@@ -4,7 +4,7 @@ ghost use Rattle.nim_lockstep.specs.Cluster.{ClusterState};
 ghost use Rattle.nim_lockstep.specs.Events.{IsStep, passed};
 ghost use Rattle.nim_lockstep.specs.Events as events;
 ghost use Rattle.nim_lockstep.specs.InStep.{IsReached};
-ghost use Rattle.nim_cluster.specs.Stands.{IsSound, Stands};
+ghost use Rattle.nim_cluster.specs.Stands.{StandsInStep, ClusterStands};
 ghost use Rattle.nim_cluster.specs.Steps.{HasPassed};
 
 use crate::Cluster;
@@ -23,10 +23,10 @@ impl Cluster {
     /// Is given an event: it is done where it is enabled, and else passed over. Behind a report the controller takes a
     /// turn. Once memory was refused the cluster has failed, and each later call answers so.
     pub fn step(&mut self, event: &Event) -> Result<Step, NoMemory>
-        ensures step { (s : ClusterState) → Stands self.old s
-            → IfOk result (λ step. (t : ClusterState) × (IsStep s event.now step.done t × Stands self.new t)) }
-        ensures in_step { (s : ClusterState) → Stands self.old s → IsReached s
-            → IfOk result (λ step. (t : ClusterState) × (IsStep s event.now step.done t × IsSound self.new t)) }
+        ensures step { (s : ClusterState) → ClusterStands self.old s
+            → IfOk result (λ step. (t : ClusterState) × (IsStep s event.now step.done t × ClusterStands self.new t)) }
+        ensures in_step { (s : ClusterState) → ClusterStands self.old s → IsReached s
+            → IfOk result (λ step. (t : ClusterState) × (IsStep s event.now step.done t × StandsInStep self.new t)) }
         ensures given { OnOk result (length self.new.given.items ≡ length self.old.given.items + 1) }
         ensures failed { OnErr result (self.new.failed ≡ true) }
         ensures stays { self.old.failed ≡ true → IsErr result }
@@ -43,8 +43,8 @@ impl Cluster {
 
     // All but the mark of a failure.
     fn give(&mut self, event: &Event) -> Result<Step, NoMemory>
-        ensures step { (s : ClusterState) → Stands self.old s
-            → IfOk result (λ step. (t : ClusterState) × (IsStep s event.now step.done t × Stands self.new t)) }
+        ensures step { (s : ClusterState) → ClusterStands self.old s
+            → IfOk result (λ step. (t : ClusterState) × (IsStep s event.now step.done t × ClusterStands self.new t)) }
         ensures given { OnOk result (length self.new.given.items ≡ length self.old.given.items + 1) }
     {
         let done = self.is_enabled(event);
@@ -60,7 +60,7 @@ impl Cluster {
 
     // Does what an enabled event says.
     fn pass(&mut self, event: &Event) -> Result<(), NoMemory>
-        ensures passed { (s : ClusterState) → Stands self.old s → events.is_enabled s event.now ≡ true
+        ensures passed { (s : ClusterState) → ClusterStands self.old s → events.is_enabled s event.now ≡ true
             → OnOk result (HasPassed s event.now self.new) }
         ensures given { self.new.given ≡ self.old.given }
     {
@@ -81,8 +81,8 @@ impl Cluster {
     }
 
     fn take_order(&mut self, worker: u32) -> Result<(), NoMemory>
-        ensures stands { (s : ClusterState) → Stands self.old s
-            → OnOk result (Stands self.new (passed s (event_is.Order worker))) }
+        ensures stands { (s : ClusterState) → ClusterStands self.old s
+            → OnOk result (ClusterStands self.new (passed s (event_is.Order worker))) }
         ensures given { self.new.given ≡ self.old.given }
     {
         let index = worker as usize;
@@ -94,7 +94,7 @@ impl Cluster {
 
     // The controller takes the next report of a worker, and no turn yet.
     fn take_report(&mut self, worker: u32)
-        ensures stands { (s : ClusterState) → Stands self.old s → Stands self.new (passed s (event_is.Report worker)) }
+        ensures stands { (s : ClusterState) → ClusterStands self.old s → ClusterStands self.new (passed s (event_is.Report worker)) }
         ensures given { self.new.given ≡ self.old.given }
     {
         let index = worker as usize;
@@ -109,8 +109,8 @@ impl Cluster {
     }
 
     fn take_frame(&mut self, from: u32, to: u32) -> Result<(), NoMemory>
-        ensures stands { (s : ClusterState) → Stands self.old s
-            → OnOk result (Stands self.new (passed s (event_is.Data from to))) }
+        ensures stands { (s : ClusterState) → ClusterStands self.old s
+            → OnOk result (ClusterStands self.new (passed s (event_is.Data from to))) }
         ensures given { self.new.given ≡ self.old.given }
     {
         let index = to as usize;
@@ -121,9 +121,9 @@ impl Cluster {
     }
 
     fn begin(&mut self, worker: u32, most: u32)
-        ensures stands { (s : ClusterState) → Stands self.old s
+        ensures stands { (s : ClusterState) → ClusterStands self.old s
             → events.is_enabled s (event_is.Begin worker most) ≡ true
-            → Stands self.new (passed s (event_is.Begin worker most)) }
+            → ClusterStands self.new (passed s (event_is.Begin worker most)) }
         ensures given { self.new.given ≡ self.old.given }
     {
         let index = worker as usize;
@@ -134,8 +134,8 @@ impl Cluster {
     }
 
     fn finish(&mut self, worker: u32) -> Result<(), NoMemory>
-        ensures stands { (s : ClusterState) → Stands self.old s → events.is_enabled s (event_is.Finish worker) ≡ true
-            → OnOk result (Stands self.new (passed s (event_is.Finish worker))) }
+        ensures stands { (s : ClusterState) → ClusterStands self.old s → events.is_enabled s (event_is.Finish worker) ≡ true
+            → OnOk result (ClusterStands self.new (passed s (event_is.Finish worker))) }
         ensures given { self.new.given ≡ self.old.given }
     {
         let index = worker as usize;

@@ -8,7 +8,7 @@ use Rattle.std.proofs.lemmas.List.Folds.{list_any-append}
 use Rattle.nim_base.specs.declared.number.Slot.{Slot}
 use Rattle.nim_command.specs.declared.last_uses.LastUses.{LastUses}
 use Rattle.nim_command.specs.Before.{Footprint, is_before, is_rewritten}
-use Rattle.nim_command.specs.LastUses.{IsPastOf, is_in, is_last, is_met, is_writer, readers_of, writer_of}
+use Rattle.nim_command.specs.LastUses.{IsPastOf, is_in, is_last, is_last_user, is_writer, readers_of, writer_of}
 use Rattle.nim_command.specs.Slots.{is_among}
 use Rattle.nim_command.proofs.Lists.{any_and, any_nothing, any_or, any_same}
 use Rattle.nim_command.proofs.Walk.{same_slot}
@@ -178,7 +178,7 @@ waited_split from (f ∷ fs) later p =
     (last_of read from f fs p later.writes))
 
 -- what the last uses tell of a later one is the rule
-pub met_waited : (uses : LastUses) (past : List Footprint) (later : Footprint) (p : ℕ) → IsPastOf uses past → is_met uses later p ≡ is_waited 0 past later p
+pub met_waited : (uses : LastUses) (past : List Footprint) (later : Footprint) (p : ℕ) → IsPastOf uses past → is_last_user uses later p ≡ is_waited 0 past later p
 met_waited uses past later p of =
     ap₂ (λ (a b : Bool). a || b)
     (ap₂ (λ (a b : Bool). a || b) (wrote later.reads) (wrote later.writes))

@@ -13,7 +13,7 @@ use Rattle.std.proofs.lemmas.Map.Keys.{IsStrictlyIncreasing-dedup}
 use Rattle.std.proofs.lemmas.Map.Views.{Contains-from_any, list_any-from_Contains}
 use Rattle.nim_command.specs.declared.last_uses.LastUses.{LastUses}
 use Rattle.nim_command.specs.Before.{Footprint, before_of, is_before}
-use Rattle.nim_command.specs.LastUses.{IsPastOf, Rises, is_in, is_met, number_at, numbers_at}
+use Rattle.nim_command.specs.LastUses.{IsPastOf, Rises, is_in, is_last_user, number_at, numbers_at}
 use Rattle.nim_command.proofs.LastUses.{is_waited, met_waited}
 
 same_by : (a b : Bool) → (a ≡ true → b ≡ true) → (b ≡ true → a ≡ true) → a ≡ b
@@ -146,6 +146,6 @@ all_named before (f ∷ fs) = (
 
 -- the before set from the last uses
 pub before_told : (uses : LastUses) (past : List Footprint) (later : Footprint) (places : List ℕ) → IsPastOf uses past
-    → Rises 0 places → ((p : ℕ) → is_in p places ≡ is_met uses later p) → numbers_at past places ≡ before_of past later
+    → Rises 0 places → ((p : ℕ) → is_in p places ≡ is_last_user uses later p) → numbers_at past places ≡ before_of past later
 before_told uses past later places of up met =
     told_before (number_at past) 0 past later (all_named [] past) places up (λ p. met p ∙ met_waited uses past later p of)

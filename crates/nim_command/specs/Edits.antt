@@ -99,8 +99,8 @@ is_taken (Gone task) entry = is_of_number task (3 ∷ 4 ∷ 5 ∷ []) entry.id
 is_taken (Home task spec) entry = is_of_number task (2 ∷ 4 ∷ 6 ∷ []) entry.id
 
 -- those that an edit doesn't take away
-abbrev pub kept_by : Edit → List Entry → List Entry
-kept_by edit entries = filter (λ (e : Entry). not (is_taken edit e)) entries
+abbrev pub entries_kept : Edit → List Entry → List Entry
+entries_kept edit entries = filter (λ (e : Entry). not (is_taken edit e)) entries
 
 -- the place of the first entry of a greater number
 abbrev pub place_for : List Entry → ℕ → ℕ
@@ -113,7 +113,7 @@ with_entry entries entry = insert entries (place_for entries entry.id) entry
 
 -- the entries of a half after an edit, all before sets those of the rule
 abbrev pub edited : Edit → List Entry → List Entry
-edited edit entries = entries_by_rule [] (fold with_entry (kept_by edit entries) (put_by edit))
+edited edit entries = entries_by_rule [] (fold with_entry (entries_kept edit entries) (put_by edit))
 
 -- after edits in order
 abbrev pub edited_by : List Edit → List Entry → List Entry

@@ -46,8 +46,8 @@ pub record IsPastOf (uses : LastUses) (past : List Footprint) : Type 0 where
   pub since : (slot : Slot) (place : ℕ) → is_in place (readers_of uses slot) ≡ is_reader_since past slot place
 
 -- whether the one at a place is the last writer of a slot that is touched, or reads one since that is written
-abbrev pub is_met : LastUses → Footprint → ℕ → Bool
-is_met uses later place =
+abbrev pub is_last_user : LastUses → Footprint → ℕ → Bool
+is_last_user uses later place =
     (list_any (λ slot. is_writer place (writer_of uses slot)) later.reads
     || list_any (λ slot. is_writer place (writer_of uses slot)) later.writes)
     || list_any (λ slot. is_in place (readers_of uses slot)) later.writes

@@ -12,13 +12,13 @@ abbrev pub is_patch_number : ℕ → Bool
 is_patch_number number = nat_le 131072 number
 
 -- 0 Create and Load, 1 Fetch, 2 a copy of a patch, 3 all else
-abbrev pub stage_of : ℕ → Kind → ℕ
-stage_of number (Create slot iota first) = 0
-stage_of number (Load slot version value) = 0
-stage_of number (Fetch slot ticket) = 1
-stage_of number (Send slot peer entry) = if is_patch_number number then 2 else 3
-stage_of number (Receive slot version) = if is_patch_number number then 2 else 3
-stage_of number _ = 3
+abbrev pub rank_stage : ℕ → Kind → ℕ
+rank_stage number (Create slot iota first) = 0
+rank_stage number (Load slot version value) = 0
+rank_stage number (Fetch slot ticket) = 1
+rank_stage number (Send slot peer entry) = if is_patch_number number then 2 else 3
+rank_stage number (Receive slot version) = if is_patch_number number then 2 else 3
+rank_stage number _ = 3
 
 -- whether a command comes after the Sends of its number
 abbrev pub is_later : Kind → Bool
@@ -30,7 +30,7 @@ is_later _ = true
 abbrev pub rank_of : ℕ → Command → Rank
 rank_of position command = record {
   position = position;
-  stage = stage_of command.id command.kind;
+  stage = rank_stage command.id command.kind;
   number = command.id;
   later = is_later command.kind;
 }

@@ -21,7 +21,7 @@ pub(crate) fn edited(alloc: Global, entries: &[Entry], edit: &Edit) -> Result<Ve
 
 /// Those that the edit doesn't take away.
 fn kept(alloc: Global, entries: &[Entry], edit: &Edit) -> Result<Vec<Entry>, NoMemory>
-    ensures { IfOk result (λ rest. rest.items ≡ spec.kept_by edit.now entries.now) }
+    ensures { IfOk result (λ rest. rest.items ≡ spec.entries_kept edit.now entries.now) }
 {
     let mut rest = Vec::new(alloc);
     for entry in entries {

@@ -3,7 +3,7 @@ ghost use Rattle.std.specs.HashMap.{get};
 ghost use Rattle.std.specs.List.{list_any};
 ghost use Rattle.nim_base.specs.declared.number.Slot.{Slot as slot_type};
 ghost use Rattle.nim_command.specs.Before.{Footprint};
-ghost use Rattle.nim_command.specs.LastUses.{IsPastOf, Rises, is_in, is_met, is_writer};
+ghost use Rattle.nim_command.specs.LastUses.{IsPastOf, Rises, is_in, is_last_user, is_writer};
 ghost use Rattle.nim_command.specs.Slots.{is_among};
 
 use crate::before::Waits;
@@ -48,7 +48,7 @@ impl LastUses {
     /// written.
     pub(crate) fn places<T: Waits>(&self, later: &T) -> Result<Vec<usize>, NoMemory>
         ensures rise { IfOk result (λ places. Rises 0 places.items) }
-        ensures met { IfOk result (λ places. (p : ℕ) → is_in p places.items ≡ is_met self.now (T.footprint later.now) p) }
+        ensures met { IfOk result (λ places. (p : ℕ) → is_in p places.items ≡ is_last_user self.now (T.footprint later.now) p) }
     {
         let mut places = self.met(later)?;
         places.sort_unstable();
@@ -58,7 +58,7 @@ impl LastUses {
 
     /// The same in any order, some maybe more than once.
     fn met<T: Waits>(&self, later: &T) -> Result<Vec<usize>, NoMemory>
-        ensures { IfOk result (λ places. (p : ℕ) → is_in p places.items ≡ is_met self.now (T.footprint later.now) p) }
+        ensures { IfOk result (λ places. (p : ℕ) → is_in p places.items ≡ is_last_user self.now (T.footprint later.now) p) }
     {
         let read = later.reads();
         let written = later.writes();

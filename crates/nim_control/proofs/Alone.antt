@@ -14,7 +14,7 @@ use Rattle.nim_place.specs.Placement.{home}
 use Rattle.nim_place.specs.Versions.{Versions, after_commands, after_kind}
 use Rattle.nim_course.specs.Controller.{Controller}
 use Rattle.nim_place.specs.Directed.{Directed}
-use Rattle.nim_course.specs.OrdersGiven.{command_of, first_command, first_commands, first_kind, single_for}
+use Rattle.nim_course.specs.OrdersGiven.{lone_command, first_command, first_commands, first_kind, single_for}
 use Rattle.nim_control.specs.Given.{AreAlone}
 use Rattle.nim_control.specs.Sites.{HasSites, Sites, SitesStay}
 
@@ -65,14 +65,14 @@ same_alone epoch cs ds before after old new same are = record {
 -- the command that is given of a part is the controller's
 pub first_is : (c : Controller) (v : Var) (first part : ℕ) (object : Object) (kind : Kind) (sites : Sites) → HasSites c sites
     → object ≡ record { 0 = first + part } → kind ≡ first_kind v.shape v.init part object
-    → first_command c v first part ≡ (home sites.place object sites.versions.objects sites.live, command_of kind)
+    → first_command c v first part ≡ (home sites.place object sites.versions.objects sites.live, lone_command kind)
 first_is c v first part object kind sites has is holds =
     let at : Object = record { 0 = first + part } in
     let worker : home c.place at c.versions.objects c.live ≡ home sites.place object sites.versions.objects sites.live =
     ap₂ (λ (p : Placement) (o : Object). home p o c.versions.objects c.live) has.place (sym is)
     ∙ ap₂ (λ (n : ℕ) (flags : List Bool). home sites.place object n flags) has.objects has.live in
     let holding : first_kind v.shape v.init part at ≡ kind = ap (first_kind v.shape v.init part) (sym is) ∙ sym holds in
-    ap₂ (λ (w : Worker) (k : Kind). (w, command_of k)) worker holding
+    ap₂ (λ (w : Worker) (k : Kind). (w, lone_command k)) worker holding
 
 -- one part more
 parts_more : (c : Controller) (v : Var) (first part : ℕ)
@@ -86,11 +86,11 @@ pub part_given : (c : Controller) (epoch : ℕ) (v : Var) (first part : ℕ) (ob
     (old mid new : Sites)
     → HasSites c mid → object ≡ record { 0 = first + part } → kind ≡ first_kind v.shape v.init part object
     → AreAlone epoch (map (first_command c v first) (range_with_len 0 part)) before old now mid
-    → AreAlone epoch ((home mid.place object mid.versions.objects mid.live, command_of kind) ∷ []) now mid next new
+    → AreAlone epoch ((home mid.place object mid.versions.objects mid.live, lone_command kind) ∷ []) now mid next new
     → AreAlone epoch (map (first_command c v first) (range_with_len 0 (part + 1))) before old next new
 part_given c epoch v first part object kind before now next old mid new has is holds so_far one =
     let given : List (Worker × Command) = map (first_command c v first) (range_with_len 0 part) in
-    let this : Worker × Command = (home mid.place object mid.versions.objects mid.live, command_of kind) in
+    let this : Worker × Command = (home mid.place object mid.versions.objects mid.live, lone_command kind) in
     same_alone epoch (given ++ this ∷ []) (map (first_command c v first) (range_with_len 0 (part + 1))) before next old new
     (ap (λ (x : Worker × Command). given ++ x ∷ []) (sym (first_is c v first part object kind mid has is holds)) ∙ sym (parts_more c v first part))
     (more_alone epoch given (this ∷ []) before now next old mid new so_far one)

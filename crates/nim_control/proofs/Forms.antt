@@ -10,8 +10,8 @@ use Rattle.nim_job.specs.declared.block.Block.{Block}
 use Rattle.nim_job.specs.declared.job.Job.{Job}
 use Rattle.nim_job.specs.declared.job.Var.{Var}
 use Rattle.nim_job.specs.Objects.{objects_of}
-use Rattle.nim_job.specs.Tasks.{block_forms_of, block_tasks_of, forms_of, task_of}
-use Rattle.nim_job.specs.Whole.{is_task, is_whole}
+use Rattle.nim_job.specs.Tasks.{block_forms_of, block_tasks_of, forms_of, task_with_args}
+use Rattle.nim_job.specs.Whole.{is_whole_task, is_whole}
 use Rattle.nim_job.proofs.Whole.{tasks_there}
 use Rattle.nim_course.proofs.Blocks.{block_few}
 use Rattle.nim_control.specs.Form.{forms_in}
@@ -42,16 +42,16 @@ forms_more vars (b ∷ blocks) block below =
 
 -- what was made of a block is few, and fits the job with any arguments
 pub record AreForms (job : Job) (block : ℕ) (args : List ℤ) (forms : List TaskForm) : Type 0 where
-  pub tasks : map (task_of args) forms ≡ block_tasks_of job block args
+  pub tasks : map (task_with_args args) forms ≡ block_tasks_of job block args
   pub few : length forms ≤ 1024
-  pub fit : list_all (is_task (objects_of job.vars)) (map (task_of args) forms) ≡ true
+  pub fit : list_all (is_whole_task (objects_of job.vars)) (map (task_with_args args) forms) ≡ true
 
 pub forms_fit : (job : Job) (all : List (List TaskForm)) (block : ℕ) (args : List ℤ) (forms : List TaskForm) → is_whole job ≡ true
     → all ≡ forms_in job → forms ≡ get_or all block [] → AreForms job block args forms
 forms_fit job all block args forms whole are is =
-    let here : map (task_of args) forms ≡ block_tasks_of job block args = ap (map (task_of args)) (is ∙ forms_at job all block are) in
+    let here : map (task_with_args args) forms ≡ block_tasks_of job block args = ap (map (task_with_args args)) (is ∙ forms_at job all block are) in
     record {
       tasks = here;
-      few = omega (arith, ap length here, length-map forms (task_of args), block_few job block args whole);
-      fit = ap (list_all (is_task (objects_of job.vars))) here ∙ tasks_there job block args whole;
+      few = omega (arith, ap length here, length-map forms (task_with_args args), block_few job block args whole);
+      fit = ap (list_all (is_whole_task (objects_of job.vars))) here ∙ tasks_there job block args whole;
     }

@@ -8,17 +8,17 @@ use Rattle.nim_base.specs.declared.task.TaskForm.{TaskForm}
 use Rattle.nim_command.specs.Numbers.{counted_from}
 use Rattle.nim_job.specs.declared.ask.Ask.{Ask}
 use Rattle.nim_job.specs.Machine.{Machine, after_ask, answered, ask_of}
-use Rattle.nim_job.specs.Tasks.{block_forms_of, block_tasks_of, task_of}
+use Rattle.nim_job.specs.Tasks.{block_forms_of, block_tasks_of, task_with_args}
 use Rattle.nim_reuse.specs.Decisions.{Decisions, is_recorded}
 use Rattle.nim_course.specs.declared.pending.Pending.{Pending}
 use Rattle.nim_course.specs.declared.summary.Summary.{Summary}
 use Rattle.nim_course.specs.Controller.{Controller, Flight, is_in_flight}
 use Rattle.nim_place.specs.Directed.{Directed}
-use Rattle.nim_course.specs.Moves.{asked, done_with, fetching, objects_in, orders_asked, orders_of, orders_with, with_block, with_instance}
+use Rattle.nim_course.specs.Moves.{asked, after_pending, fetching, objects_in, orders_asked, orders_of, orders_with, with_block, with_instance}
 use Rattle.nim_course.specs.OrdersGiven.{fetch_orders, flight_of}
 use Rattle.nim_course.specs.Summaries.{counted_on}
 use Rattle.nim_control.specs.Given.{IsGiven, awaiting, objects_from}
-use Rattle.nim_control.specs.Sites.{Sites, sites_of}
+use Rattle.nim_control.specs.Sites.{Sites, controller_sites}
 
 -- ---- an output
 
@@ -76,13 +76,13 @@ with_given c m sites decisions position instance flight summary = record c {
 
 -- it is what the controller comes to
 with_all : (recorded : Bool) (c : Controller) (block : ℕ) (args : List ℤ)
-    → with_given c (answered c.machine (pos 0)) (record (sites_of c) { versions = (with_block recorded c block args).versions })
+    → with_given c (answered c.machine (pos 0)) (record (controller_sites c) { versions = (with_block recorded c block args).versions })
     (with_block recorded c block args).decisions (counted_from c.position (length (block_forms_of c.job block))) (counted_on c.instance 1)
     (with_block recorded c block args).flight (with_block recorded c block args).summary ≡ with_block recorded c block args
 with_all true c block args = refl
 with_all false c block args =
     ap (λ (count : ℕ). record (with_instance c block (block_tasks_of c.job block args)) { position = counted_from c.position count })
-    (sym (length-map (block_forms_of c.job block) (task_of args)))
+    (sym (length-map (block_forms_of c.job block) (task_with_args args)))
 
 pub block_done : (seen now : Controller) (block : ℕ) (args : List ℤ) (forms : List TaskForm) (before after : List Directed) (new : Sites)
     (decided : Decisions) (summary : Summary) (flight : Flight) (m : Machine) (position instance : ℕ) (flights : List Flight)
@@ -90,11 +90,11 @@ pub block_done : (seen now : Controller) (block : ℕ) (args : List ℤ) (forms 
     → IsGiven (is_recorded seen.decisions block) seen block args before after new decided summary flight → m ≡ answered seen.machine (pos 0)
     → position ≡ counted_from seen.position (length forms) → instance ≡ counted_on seen.instance 1
     → flights ≡ seen.flight ++ (if is_in_flight flight then flight ∷ [] else [])
-    → with_given seen m new decided position instance flights summary ≡ done_with now now.pending
+    → with_given seen m new decided position instance flights summary ≡ after_pending now now.pending
 block_done seen now block args forms before after new decided summary flight m position instance flights is pending made are told counts begins flies =
     let recorded : Bool = is_recorded seen.decisions block in
     let next : Controller = with_block recorded seen block args in
-    let sites : Sites = record (sites_of seen) { versions = next.versions } in
+    let sites : Sites = record (controller_sites seen) { versions = next.versions } in
     ap₂ (λ (n : Machine) (s : Sites). with_given seen n s decided position instance flights summary) told are.has_sites
     ∙ ap₂ (λ (d : Decisions) (fs : List Flight). with_given seen (answered seen.machine (pos 0)) sites d position instance fs summary) are.has_decisions
     (flies ∙ are.has_flight)
@@ -103,5 +103,5 @@ block_done seen now block args forms before after new decided summary flight m p
     ∙ ap (with_given seen (answered seen.machine (pos 0)) sites next.decisions (counted_from seen.position (length (block_forms_of seen.job block)))
     (counted_on seen.instance 1) next.flight) are.has_counts
     ∙ with_all recorded seen block args
-    ∙ ap (done_with seen) (sym pending)
-    ∙ ap (λ (c : Controller). done_with c c.pending) is
+    ∙ ap (after_pending seen) (sym pending)
+    ∙ ap (λ (c : Controller). after_pending c c.pending) is

@@ -10,10 +10,10 @@ use Rattle.nim_base.specs.declared.number.Worker.{Worker}
 use Rattle.nim_base.specs.declared.task.Func.{Func}
 use Rattle.nim_base.specs.declared.task.Func.TheVariants.{Split}
 use Rattle.nim_base.specs.declared.task.Task.{Task}
-use Rattle.nim_base.specs.Apply.{has_counts, writes_of}
+use Rattle.nim_base.specs.Apply.{has_counts, result_count}
 use Rattle.nim_command.specs.declared.command.Command.{Command}
 use Rattle.nim_command.specs.Numbers.{counted_from}
-use Rattle.nim_job.specs.Whole.{is_object, is_task}
+use Rattle.nim_job.specs.Whole.{is_object_within, is_whole_task}
 use Rattle.nim_place.specs.declared.placement.Placement.{Placement}
 use Rattle.nim_place.specs.Extends.{singles_of}
 use Rattle.nim_place.specs.Schedule.{owner_of, scheduled}
@@ -28,26 +28,26 @@ use Rattle.nim_control.proofs.Alone.{has_still}
 
 -- ---- a task writes
 
-pub writes_some : (func : Func) → 1 ≤ writes_of func
+pub writes_some : (func : Func) → 1 ≤ result_count func
 writes_some Split = omega arith
 writes_some func = omega arith
 
-pub counts_writes : (func : Func) (params reads writes : ℕ) → has_counts func params reads writes ≡ true → writes ≡ writes_of func
+pub counts_writes : (func : Func) (params reads writes : ℕ) → has_counts func params reads writes ≡ true → writes ≡ result_count func
 counts_writes func params reads writes is = grind (arith, nat_tests)
 
-first_there : (objects : ℕ) (writes : List Object) → 1 ≤ length writes → list_all (is_object objects) writes ≡ true
+first_there : (objects : ℕ) (writes : List Object) → 1 ≤ length writes → list_all (is_object_within objects) writes ≡ true
     → IsSomeAnd (slice_get writes 0) (λ (object : Object). object.0 < objects)
 first_there objects [] some all = absurd (omega (arith, some))
 first_there objects (object ∷ writes) some all =
-    let here : is_object objects object ≡ true = (and_parts (is_object objects object) (list_all (is_object objects) writes) all).0 in
+    let here : is_object_within objects object ≡ true = (and_parts (is_object_within objects object) (list_all (is_object_within objects) writes) all).0 in
     grind (arith, nat_tests)
 
 -- what a task that fits writes first is there
-pub writes_first : (objects : ℕ) (task : Task) → is_task objects task ≡ true
+pub writes_first : (objects : ℕ) (task : Task) → is_whole_task objects task ≡ true
     → IsSomeAnd (slice_get task.writes 0) (λ (object : Object). object.0 < objects)
 writes_first objects task is =
     let counts : has_counts task.func (length task.params) (length task.reads) (length task.writes) ≡ true = grind (arith, nat_tests) in
-    let all : list_all (is_object objects) task.writes ≡ true = grind (arith, nat_tests) in
+    let all : list_all (is_object_within objects) task.writes ≡ true = grind (arith, nat_tests) in
     first_there objects task.writes
     (omega (arith, counts_writes task.func (length task.params) (length task.reads) (length task.writes) counts, writes_some task.func)) all
 

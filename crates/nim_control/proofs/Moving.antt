@@ -11,7 +11,7 @@ use Rattle.nim_course.specs.declared.pending.Pending.{Pending}
 use Rattle.nim_course.specs.declared.pending.Pending.TheVariants.{Begin, Idle, Block, Cell, Parts, Ended}
 use Rattle.nim_course.specs.Controller.{Controller}
 use Rattle.nim_place.specs.Directed.{Directed}
-use Rattle.nim_course.specs.Moves.{AreFree, IsMoved, after_moves, asked, does_wait, done_with, is_held_up, moved, orders_in, orders_of, text_told, with_block, with_instance, with_reused}
+use Rattle.nim_course.specs.Moves.{AreFree, IsMoved, after_moves, asked, does_wait, after_pending, is_held_up, moved, orders_of_moves, orders_of, text_told, with_block, with_instance, with_reused}
 use Rattle.nim_course.proofs.Asking.{goes_on}
 use Rattle.nim_course.proofs.Standing.{held_parts}
 use Rattle.nim_control.specs.Keeps.{Keeps}
@@ -74,15 +74,15 @@ block_down c block args false none =
     let next : Controller = with_instance c block (block_tasks_of c.job block args) in
     omega (arith, left_is c.outcome next.machine Idle none)
 
-move_down : (c : Controller) (pending : Pending) → c.outcome ≡ None → c.pending ≡ pending → left_of (done_with c pending) < before c.machine (rank pending)
+move_down : (c : Controller) (pending : Pending) → c.outcome ≡ None → c.pending ≡ pending → left_of (after_pending c pending) < before c.machine (rank pending)
 move_down c Begin none is = omega (arith, left_is c.outcome c.machine Idle none)
 move_down c Idle none is = ask_down c (ask_of c.machine) none is refl
 move_down c (Block block args) none is = block_down c block args (is_recorded c.decisions block) none
 move_down c (Cell row cell) none is =
-    let next : Controller = done_with c (Cell row cell) in
+    let next : Controller = after_pending c (Cell row cell) in
     omega (arith, left_is c.outcome next.machine Idle none)
 move_down c (Parts var) none is =
-    let next : Controller = done_with c (Parts var) in
+    let next : Controller = after_pending c (Parts var) in
     let on = appending c.machine (text_told c var) in
     omega (arith, left_is c.outcome next.machine Idle none, on.steps, on.more)
 move_down c Ended none is = omega arith
@@ -130,6 +130,6 @@ on_err (Err e) p = p
 -- where none was free none were made
 pub none_given : (first now : Controller) (given : List Directed) → IsMoved first given now → is_held_up first ≡ true → given ≡ []
 none_given first now given so_far held = so_far.gave ∙ either so_far.count so_far.free where
-  either : (count : ℕ) → AreFree count first → orders_in count first ≡ []
+  either : (count : ℕ) → AreFree count first → orders_of_moves count first ≡ []
   either zero all = refl
   either (suc count) all = absurd (false≢true (sym (free_first count first all.0 all.1) ∙ held))

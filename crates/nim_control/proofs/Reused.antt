@@ -9,9 +9,9 @@ use Rattle.nim_base.specs.declared.task.Func.{Func}
 use Rattle.nim_base.specs.declared.task.Func.TheVariants.{Set as Sets, Add, Sub, Max, Sum, Total, Count, Stencil, Merge, Split}
 use Rattle.nim_base.specs.declared.task.Task.{Task}
 use Rattle.nim_base.specs.declared.task.TaskForm.{TaskForm}
-use Rattle.nim_base.specs.Apply.{has_counts, most_reads, writes_of}
-use Rattle.nim_job.specs.Tasks.{task_of}
-use Rattle.nim_job.specs.Whole.{is_object, is_task}
+use Rattle.nim_base.specs.Apply.{has_counts, most_reads, result_count}
+use Rattle.nim_job.specs.Tasks.{task_with_args}
+use Rattle.nim_job.specs.Whole.{is_object_within, is_whole_task}
 use Rattle.nim_place.specs.declared.placement.Placement.{Placement}
 use Rattle.nim_place.specs.Directed.{Directed}
 use Rattle.nim_place.specs.Versions.{Versions}
@@ -29,7 +29,7 @@ use Rattle.nim_course.specs.OrdersGiven.{after_instance, flight_of, instance_at,
 use Rattle.nim_course.specs.Summaries.{reused_counted, single_counted}
 use Rattle.nim_control.specs.Form.{AreUsable}
 use Rattle.nim_control.specs.Given.{AreTasks, IsGiven, IsToGive, IsToRun, awaiting}
-use Rattle.nim_control.specs.Sites.{Sites, SitesStay, sites_of}
+use Rattle.nim_control.specs.Sites.{Sites, SitesStay, controller_sites}
 use Rattle.nim_control.proofs.Given.{flights_are}
 use Rattle.nim_control.proofs.Instances.{counts_writes, writes_some}
 
@@ -110,7 +110,7 @@ new_usable objects live blocks decisions is few_objects few some = λ block.
 
 -- ---- forms that fit
 
-few_writes : (func : Func) → writes_of func ≤ 2
+few_writes : (func : Func) → result_count func ≤ 2
 few_writes Split = omega arith
 few_writes func = omega arith
 
@@ -131,12 +131,12 @@ counts_reads : (func : Func) (params reads writes : ℕ) → has_counts func par
 counts_reads func params reads writes is = grind (arith, nat_tests)
 
 -- a form whose task fits
-form_fits : (objects : ℕ) (args : List ℤ) (form : TaskForm) → is_task objects (task_of args form) ≡ true → is_fit objects form ≡ true
+form_fits : (objects : ℕ) (args : List ℤ) (form : TaskForm) → is_whole_task objects (task_with_args args form) ≡ true → is_fit objects form ≡ true
 form_fits objects args form is =
-    let task : Task = task_of args form in
+    let task : Task = task_with_args args form in
     let counts : has_counts task.func (length task.params) (length task.reads) (length task.writes) ≡ true = grind (arith, nat_tests) in
-    let reads : list_all (is_object objects) task.reads ≡ true = grind (arith, nat_tests) in
-    let writes : list_all (is_object objects) task.writes ≡ true = grind (arith, nat_tests) in
+    let reads : list_all (is_object_within objects) task.reads ≡ true = grind (arith, nat_tests) in
+    let writes : list_all (is_object_within objects) task.writes ≡ true = grind (arith, nat_tests) in
     let wrote = counts_writes task.func (length task.params) (length task.reads) (length task.writes) counts in
     let read = counts_reads task.func (length task.params) (length task.reads) (length task.writes) counts in
     let some : nat_le 1 (length form.writes) ≡ true = le-leb 1 (length form.writes) (omega (arith, wrote, writes_some task.func)) in
@@ -149,11 +149,11 @@ form_fits objects args form is =
     and_from (nat_le 1 (length form.writes) && nat_le (length form.writes) 2 && nat_le (length form.reads) 8 && are_below objects form.writes)
     (are_below objects form.reads) four reads
 
-pub all_fit : (objects : ℕ) (args : List ℤ) (forms : List TaskForm) → list_all (is_task objects) (map (task_of args) forms) ≡ true
+pub all_fit : (objects : ℕ) (args : List ℤ) (forms : List TaskForm) → list_all (is_whole_task objects) (map (task_with_args args) forms) ≡ true
     → list_all (is_fit objects) forms ≡ true
 all_fit objects args [] all = refl
 all_fit objects args (form ∷ forms) all =
-    let each = and_parts (is_task objects (task_of args form)) (list_all (is_task objects) (map (task_of args) forms)) all in
+    let each = and_parts (is_whole_task objects (task_with_args args form)) (list_all (is_whole_task objects) (map (task_with_args args) forms)) all in
     and_from (is_fit objects form) (list_all (is_fit objects) forms) (form_fits objects args form each.0) (all_fit objects args forms each.1)
 
 -- ---- results
@@ -190,7 +190,7 @@ decisions_seen (Ok x) place live flags versions now at decisions next same is kn
 -- what is said of the instance, the sites and the decisions is said of the controller's
 of_next : {X : Type 0} (f : InstanceAt → Sites → Decisions → X) (c : Controller) (at : InstanceAt) (forms : List TaskForm) (sites : Sites)
     (decisions : Decisions) (summary : Summary) → IsToGive c at forms sites decisions summary
-    → f at sites decisions ≡ f (instance_at c at.block) (sites_of c) c.decisions
+    → f at sites decisions ≡ f (instance_at c at.block) (controller_sites c) c.decisions
 of_next f c at forms sites decisions summary is =
     ap (λ (a : InstanceAt). f a sites decisions) is.is_next
     ∙ ap₂ (λ (s : Sites) (d : Decisions). f (instance_at c at.block) s d) is.has_sites is.has_decisions
@@ -253,29 +253,29 @@ to_run c at forms sites decisions summary is = record {
 -- an instance that was given task by task, and its block recorded
 pub first_given : (c : Controller) (at : InstanceAt) (forms copied : List TaskForm) (args : List ℤ) (before after : List Directed) (old new : Sites)
     (decided next : Decisions) (counts later : Summary) (flight : Flight)
-    → AreTasks c 0 (map (task_of args) forms) before old after new → flight ≡ awaiting c (map (task_of args) forms) → copied ≡ forms
+    → AreTasks c 0 (map (task_with_args args) forms) before old after new → flight ≡ awaiting c (map (task_with_args args) forms) → copied ≡ forms
     → next ≡ after_recording (record { block = at.block; forms = copied }) decided → later ≡ single_counted counts
     → IsToGive c at forms old decided counts → IsGiven false c at.block args before after new next later flight
 first_given c at forms copied args before after old new decided next counts later flight are flies same knows counted is = record {
   orders =
       are.orders
-      ∙ ap₂ (λ (s : Sites) (fs : List TaskForm). before ++ instance_orders c 0 s.versions (map (task_of args) fs)) is.has_sites is.has_forms;
+      ∙ ap₂ (λ (s : Sites) (fs : List TaskForm). before ++ instance_orders c 0 s.versions (map (task_with_args args) fs)) is.has_sites is.has_forms;
   has_sites =
       are.sites
-      ∙ ap₂ (λ (s : Sites) (fs : List TaskForm). record s { versions = after_instance c 0 s.versions (map (task_of args) fs) }) is.has_sites is.has_forms;
+      ∙ ap₂ (λ (s : Sites) (fs : List TaskForm). record s { versions = after_instance c 0 s.versions (map (task_with_args args) fs) }) is.has_sites is.has_forms;
   has_decisions =
       knows
       ∙ ap₂ (λ (fs : List TaskForm) (d : Decisions). after_recording (record { block = at.block; forms = fs }) d) (same ∙ is.has_forms) is.has_decisions;
   has_counts = counted ∙ ap single_counted is.has_counts;
   has_flight =
-      flights_are c (map (task_of args) forms) flight (c.flight ++ (if is_in_flight flight then flight ∷ [] else [])) refl flies
-      ∙ ap (λ (fs : List TaskForm). c.flight ++ flight_of c (map (task_of args) fs)) is.has_forms;
+      flights_are c (map (task_with_args args) forms) flight (c.flight ++ (if is_in_flight flight then flight ∷ [] else [])) refl flies
+      ∙ ap (λ (fs : List TaskForm). c.flight ++ flight_of c (map (task_with_args args) fs)) is.has_forms;
 }
 
 -- what is decided then may be used
 pub first_usable : (old new : Sites) (decided next : Decisions) (block : ℕ) (args : List ℤ) (forms copied : List TaskForm) → SitesStay old new
     → AreUsable old.versions.objects old.live decided → length forms ≤ 1024
-    → list_all (is_task old.versions.objects) (map (task_of args) forms) ≡ true → copied ≡ forms
+    → list_all (is_whole_task old.versions.objects) (map (task_with_args args) forms) ≡ true → copied ≡ forms
     → next ≡ after_recording (record { block = block; forms = copied }) decided → AreUsable new.versions.objects new.live next
 first_usable old new decided next block args forms copied stay all few fit same knows =
     let recorded : ControllerTemplate = record { block = block; forms = copied } in

@@ -14,8 +14,8 @@ use Rattle.nim_reuse.specs.Decisions.{Decisions}
 use Rattle.nim_course.specs.declared.summary.Summary.{Summary}
 use Rattle.nim_course.specs.Controller.{Controller, Flight, is_in_flight}
 use Rattle.nim_course.specs.Moves.{orders_of_block, with_block}
-use Rattle.nim_course.specs.OrdersGiven.{after_instance, awaited_of, instance_at, instance_orders, single_for}
-use Rattle.nim_control.specs.Sites.{HasSites, Sites, sites_of}
+use Rattle.nim_course.specs.OrdersGiven.{after_instance, awaited_worker, instance_at, instance_orders, single_for}
+use Rattle.nim_control.specs.Sites.{HasSites, Sites, controller_sites}
 
 -- Commands were given, each alone in a Single, and the map took them in.
 pub record AreAlone (epoch : ℕ) (commands : List (Worker × Command)) (before : List Directed) (old : Sites)
@@ -39,14 +39,14 @@ pub record AreTasks (c : Controller) (number : ℕ) (tasks : List Task) (before 
 -- a report of each of an instance's tasks is awaited
 abbrev pub awaiting : Controller → List Task → Flight
 awaiting c tasks =
-    record { instance = c.instance; base = c.position; runs = map (awaited_of c) tasks; through = [] }
+    record { instance = c.instance; base = c.position; runs = map (awaited_worker c) tasks; through = [] }
 
 -- a controller is to give this instance of a block of these forms, with these sites, decisions and counts
 pub record IsToGive (c : Controller) (at : InstanceAt) (forms : List TaskForm) (sites : Sites) (decisions : Decisions)
     (summary : Summary) : Type 0 where
   pub is_next : at ≡ instance_at c at.block
   pub has_forms : forms ≡ block_forms_of c.job at.block
-  pub has_sites : sites ≡ sites_of c
+  pub has_sites : sites ≡ controller_sites c
   pub has_decisions : decisions ≡ c.decisions
   pub has_counts : summary ≡ c.summary
 
@@ -55,7 +55,7 @@ pub record IsToGive (c : Controller) (at : InstanceAt) (forms : List TaskForm) (
 pub record IsGiven (recorded : Bool) (c : Controller) (block : ℕ) (args : List ℤ) (before after : List Directed)
     (sites : Sites) (decisions : Decisions) (summary : Summary) (flight : Flight) : Type 0 where
   pub orders : after ≡ before ++ orders_of_block recorded c block args
-  pub has_sites : sites ≡ record (sites_of c) { versions = (with_block recorded c block args).versions }
+  pub has_sites : sites ≡ record (controller_sites c) { versions = (with_block recorded c block args).versions }
   pub has_decisions : decisions ≡ (with_block recorded c block args).decisions
   pub has_counts : summary ≡ (with_block recorded c block args).summary
   pub has_flight : c.flight ++ (if is_in_flight flight then flight ∷ [] else [])

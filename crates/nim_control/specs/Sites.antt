@@ -35,8 +35,8 @@ pub record SitesStay (old new : Sites) : Type 0 where
   pub objects : new.versions.objects ≡ old.versions.objects
 
 -- the sites of a controller
-abbrev pub sites_of : Controller → Sites
-sites_of c = record { place = c.place; live = c.live; versions = c.versions }
+abbrev pub controller_sites : Controller → Sites
+controller_sites c = record { place = c.place; live = c.live; versions = c.versions }
 
 -- a controller has these sites: the same rule, flags and objects, whatever lies where by now
 pub record HasSites (c : Controller) (sites : Sites) : Type 0 where

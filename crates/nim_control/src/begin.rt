@@ -8,7 +8,7 @@ ghost use Rattle.nim_place.specs.Placement.{home};
 ghost use Rattle.nim_course.specs.Controller.{Controller};
 ghost use Rattle.nim_place.specs.Directed.{directed};
 ghost use Rattle.nim_course.specs.OrdersGiven as spec;
-ghost use Rattle.nim_course.specs.OrdersGiven.{command_of, first_command, first_commands};
+ghost use Rattle.nim_course.specs.OrdersGiven.{lone_command, first_command, first_commands};
 ghost use Rattle.nim_control.specs.Given.{AreAlone};
 ghost use Rattle.nim_control.specs.Sites.{HasSites, SitesStay};
 
@@ -121,7 +121,7 @@ fn push_first(
 ) -> Result<(), NoMemory>
     requires { object.0 < sites.old.versions.objects }
     ensures given { let worker = home sites.old.place object sites.old.versions.objects sites.old.live in
-        OnOk result (AreAlone epoch ((worker, command_of kind) ∷ [])
+        OnOk result (AreAlone epoch ((worker, lone_command kind) ∷ [])
         orders.old.items sites.old orders.new.items sites.new) }
     ensures stay { SitesStay sites.old sites.new }
 {

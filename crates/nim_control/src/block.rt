@@ -1,8 +1,8 @@
 ghost use Rattle.std.specs.Prelude.{◌≡◌, ◌<◌, ◌≤◌, false, true, List, length, map, IfOk, IsTrue};
 ghost use Rattle.std.specs.List.{list_all};
 ghost use Rattle.nim_base.specs.declared.task.TaskForm.{TaskForm as task_form};
-ghost use Rattle.nim_job.specs.Tasks.{task_of};
-ghost use Rattle.nim_job.specs.Whole.{is_task};
+ghost use Rattle.nim_job.specs.Tasks.{task_with_args};
+ghost use Rattle.nim_job.specs.Whole.{is_whole_task};
 ghost use Rattle.nim_reuse.specs.Decisions.{is_recorded};
 ghost use Rattle.nim_course.specs.Controller.{Controller};
 ghost use Rattle.nim_control.specs.Form.{AreUsable};
@@ -32,7 +32,7 @@ pub(crate) fn give_block(
     args: &[i64],
 ) -> Result<InFlight, NoMemory>
     requires few { length forms.now ≤ 1024 }
-    requires fit { IsTrue (list_all (is_task sites.old.versions.objects) (map (task_of args.now) forms.now)) }
+    requires fit { IsTrue (list_all (is_whole_task sites.old.versions.objects) (map (task_with_args args.now) forms.now)) }
     requires decided { AreUsable sites.old.versions.objects sites.old.live decisions.old }
     ensures given { IfOk result (λ flight. (c : Controller) → IsToGive c at forms.now sites.old decisions.old summary.old
         → IsGiven (is_recorded decisions.old at.block) c at.block args.now
@@ -83,7 +83,7 @@ fn give_first(
     args: &[i64],
 ) -> Result<InFlight, NoMemory>
     requires few { length forms.now ≤ 1024 }
-    requires fit { IsTrue (list_all (is_task sites.old.versions.objects) (map (task_of args.now) forms.now)) }
+    requires fit { IsTrue (list_all (is_whole_task sites.old.versions.objects) (map (task_with_args args.now) forms.now)) }
     requires decided { AreUsable sites.old.versions.objects sites.old.live decisions.old }
     ensures given { IfOk result (λ flight. (c : Controller) → IsToGive c at forms.now sites.old decisions.old summary.old
         → IsGiven false c at.block args.now

@@ -6,7 +6,7 @@ ghost use Rattle.nim_job.specs.Objects.{parts_of};
 ghost use Rattle.nim_job.specs.Whole.{is_whole};
 ghost use Rattle.nim_place.specs.Extends.{is_live};
 ghost use Rattle.nim_course.specs.Controller.{new_controller};
-ghost use Rattle.nim_course.specs.Moves.{IsMoved, IsTurned, asked, done_with, fetching, is_held_up, is_open, moved};
+ghost use Rattle.nim_course.specs.Moves.{IsMoved, IsTurned, asked, after_pending, fetching, is_held_up, is_open, moved};
 ghost use Rattle.nim_course.specs.Moves.{objects_in, orders_asked, orders_of, orders_with};
 ghost use Rattle.nim_course.specs.OrdersGiven.{fetch_orders};
 ghost use Rattle.nim_course.specs.Summaries.{counted_on};
@@ -270,7 +270,7 @@ impl ControllerCore {
         requires { is_held_up self.old ≡ false }
         ensures orders { OnOk result (orders.new.items ≡ orders.old.items ++ orders_of self.old) }
         ensures least { OnOk result (length orders.old.items ≤ length orders.new.items) }
-        ensures done { OnOk result (self.new ≡ done_with self.old self.old.pending) }
+        ensures done { OnOk result (self.new ≡ after_pending self.old self.old.pending) }
         ensures keeps { Keeps self.old self.new }
     {
         match self.pending {
@@ -293,7 +293,7 @@ impl ControllerCore {
     fn begin(&mut self, orders: &mut Vec<(Worker, ToWorker)>) -> Result<(), NoMemory>
         requires { self.old.pending ≡ Pending.Begin }
         ensures orders { OnOk result (orders.new.items ≡ orders.old.items ++ orders_with self.old Pending.Begin) }
-        ensures begun { OnOk result (self.new ≡ done_with self.old Pending.Begin) }
+        ensures begun { OnOk result (self.new ≡ after_pending self.old Pending.Begin) }
         ensures keeps { Keeps self.old self.new }
     {
         push_resets(self.alloc, orders, &self.sites, self.epoch, &self.job)?;
@@ -380,7 +380,7 @@ impl ControllerCore {
     fn give(&mut self, orders: &mut Vec<(Worker, ToWorker)>) -> Result<(), NoMemory>
         ensures orders { IsBlock self.old.pending →
             OnOk result (orders.new.items ≡ orders.old.items ++ orders_of self.old) }
-        ensures given { IsBlock self.old.pending → OnOk result (self.new ≡ done_with self.old self.old.pending) }
+        ensures given { IsBlock self.old.pending → OnOk result (self.new ≡ after_pending self.old self.old.pending) }
         ensures keeps { Keeps self.old self.new }
     {
         if let Pending::Block { block, args } = &self.pending {
@@ -412,7 +412,7 @@ impl ControllerCore {
     /// Answers the driver by a cell of what was fetched.
     fn tell_cell(&mut self, row: u64, cell: u64)
         requires { self.old.pending ≡ Pending.Cell row cell }
-        ensures { self.new ≡ done_with self.old (Pending.Cell row cell) }
+        ensures { self.new ≡ after_pending self.old (Pending.Cell row cell) }
     {
         let told = cell_told(self.fetched.as_slice(), row, cell);
         self.machine.answer(told);
@@ -424,7 +424,7 @@ impl ControllerCore {
     fn print(&mut self, var: u8) -> Result<(), NoMemory>
         requires pending { self.old.pending ≡ Pending.Parts var }
         requires told { list_any is_open self.old.fetched ≡ false }
-        ensures printed { OnOk result (self.new ≡ done_with self.old (Pending.Parts var)) }
+        ensures printed { OnOk result (self.new ≡ after_pending self.old (Pending.Parts var)) }
         ensures keeps { Keeps self.old self.new }
     {
         let text = texts(self.alloc, self.name(var), self.fetched.as_slice())?;

@@ -1,7 +1,7 @@
 ghost use Rattle.std.specs.Prelude.{◌≡◌, ◌<◌, ◌++◌, length, map, IfOk, IsTrue, OnOk};
 ghost use Rattle.std.specs.List.{list_all};
 ghost use Rattle.nim_job.specs.Tasks as tasks;
-ghost use Rattle.nim_job.specs.Whole.{is_task};
+ghost use Rattle.nim_job.specs.Whole.{is_whole_task};
 ghost use Rattle.nim_command.specs.Numbers.{counted_from};
 ghost use Rattle.nim_place.specs.Extends.{singles_of};
 ghost use Rattle.nim_place.specs.Schedule.{owner_of, scheduled};
@@ -30,12 +30,12 @@ pub(crate) fn give_tasks(
     args: &[i64],
 ) -> Result<InFlight, NoMemory>
     requires few { length forms.now < 65536 }
-    requires fit { IsTrue (list_all (is_task sites.old.versions.objects) (map (tasks.task_of args.now) forms.now)) }
+    requires fit { IsTrue (list_all (is_whole_task sites.old.versions.objects) (map (tasks.task_with_args args.now) forms.now)) }
     ensures given { OnOk result ((c : Controller) → IsToRun c instance sites.old
-        → AreTasks c 0 (map (tasks.task_of args.now) forms.now)
+        → AreTasks c 0 (map (tasks.task_with_args args.now) forms.now)
         orders.old.items sites.old orders.new.items sites.new) }
     ensures flight { IfOk result (λ flight. (c : Controller) → IsToRun c instance sites.old
-        → flight ≡ awaiting c (map (tasks.task_of args.now) forms.now)) }
+        → flight ≡ awaiting c (map (tasks.task_with_args args.now) forms.now)) }
     ensures stay { SitesStay sites.old sites.new }
 {
     let mut flight = InFlight::new(alloc, instance.instance, instance.base);
@@ -58,7 +58,7 @@ fn give_task(
     number: u16,
     task: &Task,
 ) -> Result<(), NoMemory>
-    requires { IsTrue (is_task sites.old.versions.objects task.now) }
+    requires { IsTrue (is_whole_task sites.old.versions.objects task.now) }
     ensures orders { let commands = scheduled sites.old.versions task.now number (counted_from instance.base number)
         sites.old.place sites.old.live in
         OnOk result (orders.new.items ≡ orders.old.items
@@ -83,7 +83,7 @@ fn give_task(
 
 /// A task with the arguments put in.
 fn task_of(alloc: Global, args: &[i64], form: &TaskForm) -> Result<Task, NoMemory>
-    ensures { IfOk result (λ task. task ≡ tasks.task_of args.now form.now) }
+    ensures { IfOk result (λ task. task ≡ tasks.task_with_args args.now form.now) }
 {
     Ok(Task {
         func: form.func,

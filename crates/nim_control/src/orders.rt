@@ -16,7 +16,7 @@ const NO_INSTANCE: Instance = 4_294_967_295;
 
 /// One command alone, numbered 0.
 pub(crate) fn command_of(alloc: Global, kind: Kind) -> Command
-    ensures { result ≡ spec.command_of kind }
+    ensures { result ≡ spec.lone_command kind }
 {
     Command {
         id: 0,

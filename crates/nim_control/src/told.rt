@@ -1,7 +1,7 @@
 ghost use Rattle.std.specs.Prelude.{◌≡◌, ◌≤◌, ◌∷◌, ◌++◌, [], if◌then◌else◌, false, length, map, IfOk, OnOk};
 ghost use Rattle.std.specs.List.{list_any, position_or_len};
 ghost use Rattle.nim_base.specs.Value as grids;
-ghost use Rattle.nim_job.specs.Step.{texts_of};
+ghost use Rattle.nim_job.specs.Step.{part_texts};
 ghost use Rattle.nim_course.specs.Controller.{is_in_flight};
 ghost use Rattle.nim_course.specs.Moves as moves;
 ghost use Rattle.nim_course.specs.Moves.{is_open, value_in};
@@ -128,7 +128,7 @@ fn cell_of(value: &Value, row: u64, cell: u64) -> i64
 pub(crate) fn texts(alloc: Global, name: &str, fetched: &[Fetched]) -> Result<Vec<u8>, NoMemory>
     requires told { list_any is_open fetched.now ≡ false }
     requires few { length fetched.now ≤ 64 }
-    ensures { IfOk result (λ text. text.items ≡ texts_of name.now 0 (map value_in fetched.now)) }
+    ensures { IfOk result (λ text. text.items ≡ part_texts name.now 0 (map value_in fetched.now)) }
 {
     let mut text = Vec::new(alloc);
     let mut part = 0u32;

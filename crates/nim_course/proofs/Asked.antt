@@ -13,7 +13,7 @@ use Rattle.nim_course.specs.declared.outcome.Outcome.{Outcome}
 use Rattle.nim_course.specs.declared.pending.Pending.{Pending}
 use Rattle.nim_course.specs.Controller.{Controller}
 use Rattle.nim_place.specs.Directed.{Directed}
-use Rattle.nim_course.specs.Leads.{AreLeadingFor, IsFetchedAt, IsOpenAt, Leads, StandsFor, begun_by, does_fetch, is_key_from}
+use Rattle.nim_course.specs.Leads.{AreLeadingFor, IsFetchedAt, IsOpenAt, Leads, IsDriverAt, instances_begun, does_fetch, is_key_from}
 use Rattle.nim_course.specs.Moves.{asked, fetching, objects_in, orders_asked}
 use Rattle.nim_course.specs.OrdersGiven.{fetch_orders}
 use Rattle.nim_course.proofs.Alone.{AreLed}
@@ -35,12 +35,12 @@ record IsIdle (c : Controller) (given : List Directed) : Type 0 where
 idle_of : (c : Controller) (given : List Directed) → c.pending ≡ Pending.Idle → GoesOn c given → IsIdle c given
 idle_of c given is on = record {
   whole = on.whole;
-  opened = subst (StandsFor c.job c) is on.driver;
+  opened = subst (IsDriverAt c.job c) is on.driver;
   empty = on.unfetched (ap does_fetch is);
   some = on.some;
   workers = on.few;
   led = record { right = on.right; leading = subst (AreLeadingFor c.job c given) is on.leading };
-  few = subst (λ (pending : Pending). begun_by c pending ≤ c.machine.driver.count) is on.instances;
+  few = subst (λ (pending : Pending). instances_begun c pending ≤ c.machine.driver.count) is on.instances;
 }
 
 -- what is fetched of a controller that has nothing to do: nothing
@@ -73,9 +73,9 @@ run_leads c given block args none idle is =
 fetching_leads : (c : Controller) (given : List Directed) (objects : List Object) (pending : Pending) → c.outcome ≡ None → IsIdle c given
     → AreThere c.job objects
     → let next : Controller = fetching (record c { machine = after_ask c.machine }) objects pending in
-    StandsFor c.job next pending → AreLeadingFor c.job next (given ++ fetch_orders c objects) pending → does_fetch pending ≡ true
+    IsDriverAt c.job next pending → AreLeadingFor c.job next (given ++ fetch_orders c objects) pending → does_fetch pending ≡ true
     → (pending ≡ Pending.Ended → ⊥)
-    → begun_by next pending ≤ (after_ask c.machine).driver.count
+    → instances_begun next pending ≤ (after_ask c.machine).driver.count
     → Leads c.job next (given ++ fetch_orders c objects)
 fetching_leads c given objects pending none idle there driver leading fetches apart few =
     let next : Controller = fetching (record c { machine = after_ask c.machine }) objects pending in
@@ -133,7 +133,7 @@ checkpoint_leads c given none pending idle is =
     let next : Controller = asked c Ask.Checkpoint in
     goes_leads next given none (record {
       whole = idle.whole;
-      driver = subst (StandsFor c.job next) (sym pending)
+      driver = subst (IsDriverAt c.job next) (sym pending)
           (checkpoint_goes c.job c.machine (answered (after_ask c.machine) (pos 0)) c.position (pos 0) idle.whole idle.opened is refl);
       fetched = none_fetched c given idle;
       unfetched = λ fetches. idle.empty;
@@ -141,7 +141,7 @@ checkpoint_leads c given none pending idle is =
       few = idle.workers;
       right = idle.led.right;
       leading = subst (AreLeadingFor c.job next given) (sym pending) idle.led.leading;
-      instances = subst (λ (p : Pending). begun_by next p ≤ (after_ask c.machine).driver.count) (sym pending)
+      instances = subst (λ (p : Pending). instances_begun next p ≤ (after_ask c.machine).driver.count) (sym pending)
           (omega (arith, idle.few, asking_counts c.machine));
       all_run = λ ended. absurd (apart c pending ended);
     })
@@ -175,7 +175,7 @@ limit_leads c given pending idle is =
       few = idle.workers;
       right = idle.led.right;
       leading = subst (AreLeadingFor c.job next given) (sym pending) idle.led.leading;
-      instances = subst (λ (p : Pending). begun_by next p ≤ (after_ask c.machine).driver.count) (sym pending)
+      instances = subst (λ (p : Pending). instances_begun next p ≤ (after_ask c.machine).driver.count) (sym pending)
           (omega (arith, idle.few, asking_counts c.machine));
       all_run = λ ended. absurd (apart c pending ended);
       done = λ done. absurd cc;

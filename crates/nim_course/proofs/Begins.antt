@@ -19,8 +19,8 @@ use Rattle.nim_job.specs.Versions.{read_version}
 use Rattle.nim_job.specs.Whole.{is_whole}
 use Rattle.nim_plan.specs.Paired.{Key}
 use Rattle.nim_place.specs.Extends.{AskFor, HaveNone, longer, worker_of}
-use Rattle.nim_place.specs.Orders.{IsBegun, resets_of}
-use Rattle.nim_place.specs.Stands.{Stands}
+use Rattle.nim_place.specs.Orders.{IsEpochBegun, resets_of}
+use Rattle.nim_place.specs.Stands.{MapStands}
 use Rattle.nim_place.specs.Starts.{PutEach}
 use Rattle.nim_place.specs.Versions.{Versions, after_commands, after_kind, is_kept, no_versions, place_of, puts_of, version_of}
 use Rattle.nim_place.proofs.Begins.{resets_begin}
@@ -103,7 +103,7 @@ read_replicate (suc n) zero x = refl
 read_replicate (suc n) (suc k) x = read_replicate n k x
 
 -- a new map stands for nothing
-none_stand : (workers objects : ℕ) → Stands [] (no_versions workers objects)
+none_stand : (workers objects : ℕ) → MapStands [] (no_versions workers objects)
 none_stand workers objects = record {
   slots = length-replicate (objects * workers) None;
   all = length-replicate objects 0;
@@ -121,7 +121,7 @@ resets_come : (job : Job) (live : List Bool) (epoch : ℕ) (to_come : Key → Bo
 resets_come job live epoch to_come given right =
     let resets : ℕ → List ToWorker = resets_of live epoch (length live) (shapes_of job.vars) in
     let next : List Directed = given ++ directed (length live) resets in
-    let is : IsBegun live epoch (length live) (shapes_of job.vars) (by_number given) =
+    let is : IsEpochBegun live epoch (length live) (shapes_of job.vars) (by_number given) =
     resets_begin live epoch (length live) (shapes_of job.vars) (by_number given) in
     let same : by_number next ≡ longer (by_number given) resets =
     more_directed given (length live) resets

@@ -16,8 +16,8 @@ use Rattle.nim_job.specs.declared.block.Stage.{Stage}
 use Rattle.nim_job.specs.declared.job.Job.{Job}
 use Rattle.nim_job.specs.declared.job.Var.{Var}
 use Rattle.nim_job.specs.Objects.{objects_of}
-use Rattle.nim_job.specs.Tasks.{block_forms_of, block_tasks_of, form_of, forms_of, stage_forms, stages_of, task_count, task_of}
-use Rattle.nim_job.specs.Whole.{are_distinct, is_block, is_object, is_task, is_whole}
+use Rattle.nim_job.specs.Tasks.{block_forms_of, block_tasks_of, form_of, forms_of, stage_forms, stages_of, task_count, task_with_args}
+use Rattle.nim_job.specs.Whole.{are_distinct, is_whole_block, is_object_within, is_whole_task, is_whole}
 use Rattle.nim_job.proofs.Whole.{tasks_there, whole_blocks}
 use Rattle.nim_template.specs.Fits.{are_below, is_fit}
 use Rattle.nim_course.proofs.Counts.{counts_of, reads_few, task_counts, writes_few, writes_some}
@@ -37,14 +37,14 @@ length_forms vars (stage ∷ stages) =
       sum_by-cons (task_count vars) stage stages,
     )
 
-block_tasks_few : (vars : List Var) (block : Block) → is_block vars block ≡ true → sum_by (task_count vars) block.stages ≤ 1024
+block_tasks_few : (vars : List Var) (block : Block) → is_whole_block vars block ≡ true → sum_by (task_count vars) block.stages ≤ 1024
 block_tasks_few vars block is = grind (arith, nat_tests)
 
-tasks_at : (vars : List Var) (blocks : List Block) (block : ℕ) → list_all (is_block vars) blocks ≡ true
+tasks_at : (vars : List Var) (blocks : List Block) (block : ℕ) → list_all (is_whole_block vars) blocks ≡ true
     → sum_by (task_count vars) (option_map_or (λ (b : Block). b.stages) (slice_get blocks block) []) ≤ 1024
 tasks_at vars [] block all = omega arith
-tasks_at vars (b ∷ blocks) zero all = block_tasks_few vars b (and_parts (is_block vars b) (list_all (is_block vars) blocks) all).0
-tasks_at vars (b ∷ blocks) (suc block) all = tasks_at vars blocks block (and_parts (is_block vars b) (list_all (is_block vars) blocks) all).1
+tasks_at vars (b ∷ blocks) zero all = block_tasks_few vars b (and_parts (is_whole_block vars b) (list_all (is_whole_block vars) blocks) all).0
+tasks_at vars (b ∷ blocks) (suc block) all = tasks_at vars blocks block (and_parts (is_whole_block vars b) (list_all (is_whole_block vars) blocks) all).1
 
 -- a block has few forms
 pub forms_few : (job : Job) (block : ℕ) → is_whole job ≡ true → length (block_forms_of job block) ≤ 1024
@@ -55,7 +55,7 @@ pub block_few : (job : Job) (block : ℕ) (args : List ℤ) → is_whole job ≡
 block_few job block args whole =
     omega (
       arith,
-      length-map (block_forms_of job block) (task_of args),
+      length-map (block_forms_of job block) (task_with_args args),
       length_forms job.vars (stages_of job block),
       tasks_at job.vars job.blocks block (whole_blocks job whole),
     )
@@ -67,13 +67,13 @@ five_and a b c d e first second third fourth fifth =
     and_from (a && b && c && d) e (and_from (a && b && c) d (and_from (a && b) c (and_from a b first second) third) fourth) fifth
 
 -- a form fits where it is a task with any arguments
-form_fits : (objects : ℕ) (args : List ℤ) (form : TaskForm) → is_task objects (task_of args form) ≡ true → is_fit objects form ≡ true
+form_fits : (objects : ℕ) (args : List ℤ) (form : TaskForm) → is_whole_task objects (task_with_args args form) ≡ true → is_fit objects form ≡ true
 form_fits objects args form is =
-    let task : Task = task_of args form in
+    let task : Task = task_with_args args form in
     let counts = counts_of form.func (length task.params) (length form.reads) (length form.writes) (task_counts objects task is) in
     let func = has_counts form.func (length task.params) (length form.reads) (length form.writes) in
-    let reads = list_all (is_object objects) form.reads in
-    let writes = list_all (is_object objects) form.writes in
+    let reads = list_all (is_object_within objects) form.reads in
+    let writes = list_all (is_object_within objects) form.writes in
     let three = (and_parts (func && reads && writes) (are_distinct form.writes) is).0 in
     let two = and_parts (func && reads) writes three in
     five_and (nat_le 1 (length form.writes)) (nat_le (length form.writes) 2) (nat_le (length form.reads) 8) (are_below objects form.writes)
@@ -83,11 +83,11 @@ form_fits objects args form is =
     (le-leb (length form.reads) 8 (omega (arith, counts.0, reads_few form.func)))
     two.1 (and_parts func reads two.0).1
 
-all_fit : (objects : ℕ) (args : List ℤ) (forms : List TaskForm) → list_all (is_task objects) (map (task_of args) forms) ≡ true
+all_fit : (objects : ℕ) (args : List ℤ) (forms : List TaskForm) → list_all (is_whole_task objects) (map (task_with_args args) forms) ≡ true
     → list_all (is_fit objects) forms ≡ true
 all_fit objects args [] are = refl
 all_fit objects args (form ∷ forms) are =
-    let parts = and_parts (is_task objects (task_of args form)) (list_all (is_task objects) (map (task_of args) forms)) are in
+    let parts = and_parts (is_whole_task objects (task_with_args args form)) (list_all (is_whole_task objects) (map (task_with_args args) forms)) are in
     and_from (is_fit objects form) (list_all (is_fit objects) forms) (form_fits objects args form parts.0) (all_fit objects args forms parts.1)
 
 -- a whole job's blocks have forms that fit

@@ -25,7 +25,7 @@ use Rattle.nim_job.specs.declared.job.Job.{Job}
 use Rattle.nim_job.specs.declared.job.Var.{Var}
 use Rattle.nim_job.specs.Objects.{first_cell, initial_parts, initial_values, objects_of, shapes_of}
 use Rattle.nim_job.specs.Versions.{version_value}
-use Rattle.nim_job.specs.Whole.{has_init, is_filled, is_loaded, is_object, is_whole}
+use Rattle.nim_job.specs.Whole.{has_init, is_filled, is_loaded, is_object_within, is_whole}
 use Rattle.nim_job.proofs.Whole.{vars_sizes, whole_inits, whole_vars}
 use Rattle.nim_plan.specs.Legal.{IsLegalKind, is_version}
 use Rattle.nim_place.specs.Extends.{is_live}
@@ -109,7 +109,7 @@ first_legal job before object shape Iota part few there shaped valued =
     made_legal job object shape (iota_of shape (pos (first_cell shape part))) (λ s. created s true (pos (first_cell shape part))) few shaped valued refl
 first_legal job before object shape (Loaded values) part few there shaped valued = (
   ap (λ (o : Object). is_version job o 0) (main_of object few)
-      ∙ and_from (is_object (objects_of job.vars) object) true (lt-ltb object.0 (objects_of job.vars) there) refl,
+      ∙ and_from (is_object_within (objects_of job.vars) object) true (lt-ltb object.0 (objects_of job.vars) there) refl,
   sym (get_or_from_slice_get (initial_values job.vars) object.0 (get_or values part empty_grid) empty_grid valued)
       ∙ ap (λ (o : Object). version_value job o 0) (sym (main_of object few)),
 )

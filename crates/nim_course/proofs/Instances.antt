@@ -19,7 +19,7 @@ use Rattle.nim_course.specs.declared.pending.Pending.{Pending}
 use Rattle.nim_course.specs.declared.summary.Summary.{Summary}
 use Rattle.nim_course.specs.Controller.{Controller, Flight}
 use Rattle.nim_place.specs.Directed.{Directed, by_number}
-use Rattle.nim_course.specs.Leads.{AreLeading, AreLeadingFor, HasAsked, IsFetchedAt, IsOpenAt, Leads, StandsFor, begun_by, does_fetch, is_key_from}
+use Rattle.nim_course.specs.Leads.{AreLeading, AreLeadingFor, HasAsked, IsFetchedAt, IsOpenAt, Leads, IsDriverAt, instances_begun, does_fetch, is_key_from}
 use Rattle.nim_course.specs.Moves.{with_instance}
 use Rattle.nim_course.specs.OrdersGiven.{after_instance, flight_of, instance_orders, recorded_of}
 use Rattle.nim_course.specs.Summaries.{counted_on, single_counted}
@@ -157,7 +157,7 @@ behind_block c versions decisions position flight summary = record c {
 -- so many instances were begun as the block was asked for
 pub few_begun : (c : Controller) (given : List Directed) (block : ℕ) (args : List ℤ) → c.pending ≡ Pending.Block block args → GoesOn c given
     → c.instance + 1 ≤ c.machine.driver.count
-few_begun c given block args is on = subst (λ (pending : Pending). begun_by c pending ≤ c.machine.driver.count) is on.instances
+few_begun c given block args is on = subst (λ (pending : Pending). instances_begun c pending ≤ c.machine.driver.count) is on.instances
 
 -- it leads on where the orders lead behind the block's tasks
 pub behind_leads : (c : Controller) (given orders : List Directed) (block : ℕ) (args : List ℤ) (versions : Versions) (decisions : Decisions)
@@ -166,7 +166,7 @@ pub behind_leads : (c : Controller) (given orders : List Directed) (block : ℕ)
     → AreLed c.job c.place c.live c.epoch position (is_key_from c.epoch (counted_on c.instance 1)) orders versions decisions
     → Leads c.job (behind_block c versions decisions position flight summary) orders
 behind_leads c given orders block args versions decisions position flight summary none is on behind next led =
-    let asked : HasAsked c.job (Ask.Run block args) c.machine c.position = subst (StandsFor c.job c) is on.driver in
+    let asked : HasAsked c.job (Ask.Run block args) c.machine c.position = subst (IsDriverAt c.job c) is on.driver in
     let empty : c.fetched ≡ [] = on.unfetched (ap does_fetch is) in
     goes_leads (behind_block c versions decisions position flight summary) orders none (record {
       whole = on.whole;
@@ -191,7 +191,7 @@ instance_leads c given block args none is on =
     let orders : List Directed = given ++ instance_orders c 0 c.versions tasks in
     let after : Versions = after_instance c 0 c.versions tasks in
     let behind : ℕ = counted_from c.position (length tasks) in
-    let asked : HasAsked c.job (Ask.Run block args) c.machine c.position = subst (StandsFor c.job c) is on.driver in
+    let asked : HasAsked c.job (Ask.Run block args) c.machine c.position = subst (IsDriverAt c.job c) is on.driver in
     let counted = numbers_counted c given block args on asked (few_begun c given block args is on) in
     let led = instance_led c given tasks behind (counted_on c.instance 1) on (tasks_ready c given block args on asked)
     (subst (AreLeadingFor c.job c given) is on.leading) counted.position counted.instance in

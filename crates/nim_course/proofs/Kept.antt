@@ -10,7 +10,7 @@ use Rattle.nim_course.specs.declared.pending.Pending.TheVariants.{Begin, Idle, B
 use Rattle.nim_course.specs.declared.summary.Summary.{Summary}
 use Rattle.nim_course.specs.Controller.{Controller, Flight}
 use Rattle.nim_place.specs.Directed.{Directed}
-use Rattle.nim_course.specs.Leads.{AreLeadingFor, EndsBy, IsFetchedAt, Leads, StandsFor, begun_by}
+use Rattle.nim_course.specs.Leads.{AreLeadingFor, EndsBy, IsFetchedAt, Leads, IsDriverAt, instances_begun}
 
 -- with what was told and counted
 abbrev pub with_told : Controller → List Fetched → List Flight → Bool → Summary → Controller
@@ -18,7 +18,7 @@ with_told c fetched flight due summary = record c { fetched = fetched; flight = 
 
 stands_still : (job : Job) (c : Controller) (fetched : List Fetched) (flight : List Flight) (due : Bool) (summary : Summary) (pending : Pending)
     → map (λ (f : Fetched). f.object) fetched ≡ map (λ (f : Fetched). f.object) c.fetched
-    → StandsFor job c pending → StandsFor job (with_told c fetched flight due summary) pending
+    → IsDriverAt job c pending → IsDriverAt job (with_told c fetched flight due summary) pending
 stands_still job c fetched flight due summary Begin same stands = stands
 stands_still job c fetched flight due summary Idle same stands = stands
 stands_still job c fetched flight due summary (Block block args) same stands = stands
@@ -57,7 +57,7 @@ leading_still job c fetched flight due summary outcome given (Parts var) leading
 leading_still job c fetched flight due summary outcome given Ended leading = leading
 
 -- as many instances were begun
-pub begun_still : (c next : Controller) (pending : Pending) → next.instance ≡ c.instance → begun_by next pending ≡ begun_by c pending
+pub begun_still : (c next : Controller) (pending : Pending) → next.instance ≡ c.instance → instances_begun next pending ≡ instances_begun c pending
 begun_still c next Begin same = same
 begun_still c next Idle same = same
 begun_still c next (Block block args) same = ap (λ (n : ℕ). n + 1) same

@@ -17,7 +17,7 @@ use Rattle.nim_job.specs.declared.item.Item.{Item}
 use Rattle.nim_job.specs.Driver.{Driver, output_limit}
 use Rattle.nim_job.specs.Machine.{Machine, after_ask, appended, ask_of, asked_now, before_ask, items_asked, quiet_steps}
 use Rattle.nim_job.specs.Quiet.{is_quiet, quiet_step}
-use Rattle.nim_job.specs.Step.{texts_of}
+use Rattle.nim_job.specs.Step.{part_texts}
 use Rattle.nim_place.specs.Extends.{is_live}
 use Rattle.nim_place.specs.Versions.{Versions}
 use Rattle.nim_reuse.specs.Decisions.{is_recorded}
@@ -26,10 +26,10 @@ use Rattle.nim_course.specs.declared.pending.Pending.{Pending}
 use Rattle.nim_course.specs.declared.pending.Pending.TheVariants.{Begin, Idle, Block, Cell, Parts, Ended}
 use Rattle.nim_course.specs.Controller.{Controller, new_controller}
 use Rattle.nim_place.specs.Directed.{Directed}
-use Rattle.nim_course.specs.Moves.{AreFree, IsTurned, after_moves, asked, does_wait, done_with, is_open, objects_in, value_in, with_block}
+use Rattle.nim_course.specs.Moves.{AreFree, IsTurned, after_moves, asked, does_wait, after_pending, is_open, objects_in, value_in, with_block}
 use Rattle.nim_course.specs.OrdersGiven.{fetched_of}
-use Rattle.nim_course.specs.Printed.{Happened, IsAmong, IsOfValues, LeadsTo, Part, PrintsWhatIsTold, Reported, Turned, part_text, value_of, values_by}
-use Rattle.nim_course.specs.Reports.{after_report, flight_after, flight_through, is_asked, reported, told, told_at}
+use Rattle.nim_course.specs.Printed.{Happened, IsAmong, IsOfValues, LeadsTo, PrintedPart, PrintsWhatIsTold, Reported, Turned, part_text, value_of, values_by}
+use Rattle.nim_course.specs.Reports.{after_report, flight_after, flight_through, is_asked, reported, value_reported, told_at}
 use Rattle.nim_course.proofs.Standing.{held_parts}
 
 -- ---- values among others
@@ -43,15 +43,15 @@ among_last : (value : Grid) (values : List Grid) → IsAmong value (values ++ va
 among_last value [] = inl refl
 among_last value (one ∷ values) = inr (among_last value values)
 
-parts_more : (values more : List Grid) (parts : List Part) → AllByRecursion (λ (part : Part). IsAmong part.value values) parts
-    → AllByRecursion (λ (part : Part). IsAmong part.value (values ++ more)) parts
+parts_more : (values more : List Grid) (parts : List PrintedPart) → AllByRecursion (λ (part : PrintedPart). IsAmong part.value values) parts
+    → AllByRecursion (λ (part : PrintedPart). IsAmong part.value (values ++ more)) parts
 parts_more values more [] all = tt
 parts_more values more (part ∷ parts) all = (among_more part.value values more all.0, parts_more values more parts all.1)
 
 text_more : (values more : List Grid) (text : List ℕ) → IsOfValues values text → IsOfValues (values ++ more) text
 text_more values more text is = record { parts = is.parts; is = is.is; told = parts_more values more is.parts is.told }
 
-both_parts : (P : Part → Type 0) (first second : List Part) → AllByRecursion P first → AllByRecursion P second → AllByRecursion P (first ++ second)
+both_parts : (P : PrintedPart → Type 0) (first second : List PrintedPart) → AllByRecursion P first → AllByRecursion P second → AllByRecursion P (first ++ second)
 both_parts P [] second all also = also
 both_parts P (part ∷ first) second all also = (all.0, both_parts P first second all.1 also)
 
@@ -130,11 +130,11 @@ asked_tells values c Ask.Limit tells =
 -- ---- what is printed
 
 -- the parts of what was fetched, the first of this number
-abbrev parts_from : List ℕ → ℕ → List Fetched → List Part
+abbrev parts_from : List ℕ → ℕ → List Fetched → List PrintedPart
 parts_from name number [] = []
 parts_from name number (f ∷ fs) = record { name = name; number = number; value = value_in f } ∷ parts_from name (number + 1) fs
 
-text_parts : (name : List ℕ) (number : ℕ) (fs : List Fetched) → texts_of name number (map value_in fs) ≡ flat_map part_text (parts_from name number fs)
+text_parts : (name : List ℕ) (number : ℕ) (fs : List Fetched) → part_texts name number (map value_in fs) ≡ flat_map part_text (parts_from name number fs)
 text_parts name number [] = refl
 text_parts name number (f ∷ fs) = ap (λ (t : List ℕ). text_of name number (value_in f) ++ t) (text_parts name (number + 1) fs)
 
@@ -144,20 +144,20 @@ value_told values None is told = absurd cc
 value_told values (Some value) is told = is
 
 parts_told : (values : List Grid) (name : List ℕ) (number : ℕ) (fs : List Fetched) → AllByRecursion (IsToldOf values) fs → list_any is_open fs ≡ false
-    → AllByRecursion (λ (part : Part). IsAmong part.value values) (parts_from name number fs)
+    → AllByRecursion (λ (part : PrintedPart). IsAmong part.value values) (parts_from name number fs)
 parts_told values name number [] all none = tt
 parts_told values name number (f ∷ fs) all none =
     let parts = or_parts (is_open f) (list_any is_open fs) none in
     (value_told values f.value all.0 parts.0, parts_told values name (number + 1) fs all.1 parts.1)
 
 text_printed : (values : List Grid) (output : List ℕ) (name : List ℕ) (fs : List Fetched) → IsOfValues values output → AllByRecursion (IsToldOf values) fs
-    → list_any is_open fs ≡ false → IsOfValues values (output ++ texts_of name 0 (map value_in fs))
+    → list_any is_open fs ≡ false → IsOfValues values (output ++ part_texts name 0 (map value_in fs))
 text_printed values output name fs is all told =
     let more : List Part = parts_from name 0 fs in
     record {
       parts = is.parts ++ more;
       is = ap₂ (λ (a b : List ℕ). a ++ b) is.is (text_parts name 0 fs) ∙ sym (flat_map-append part_text is.parts more);
-      told = both_parts (λ (part : Part). IsAmong part.value values) is.parts more is.told (parts_told values name 0 fs all told);
+      told = both_parts (λ (part : PrintedPart). IsAmong part.value values) is.parts more is.told (parts_told values name 0 fs all told);
     }
 
 appended_prints : (values : List Grid) (m : Machine) (text : List ℕ) → IsOfValues values m.driver.output → IsOfValues values (m.driver.output ++ text)
@@ -169,7 +169,7 @@ appended_prints values m text before after =
 
 -- ---- a move
 
-move_tells : (values : List Grid) (c : Controller) (pending : Pending) → does_wait c pending ≡ false → Tells values c → Tells values (done_with c pending)
+move_tells : (values : List Grid) (c : Controller) (pending : Pending) → does_wait c pending ≡ false → Tells values c → Tells values (after_pending c pending)
 move_tells values c Begin free tells = record { printed = tells.printed; fetched = tells.fetched }
 move_tells values c Idle free tells = asked_tells values c (ask_of c.machine) tells
 move_tells values c (Block block args) free tells = either (is_recorded c.decisions block) where
@@ -180,7 +180,7 @@ move_tells values c (Cell row cell) free tells = record { printed = tells.printe
 move_tells values c (Parts var) free tells =
     let name : List ℕ = option_map_or (λ v. v.name) (slice_get c.job.vars var) [] in
     record {
-      printed = appended_prints values c.machine (texts_of name 0 (map value_in c.fetched)) tells.printed
+      printed = appended_prints values c.machine (part_texts name 0 (map value_in c.fetched)) tells.printed
           (text_printed values c.machine.driver.output name c.fetched tells.printed tells.fetched free);
       fetched = tt;
     }
@@ -191,7 +191,7 @@ moves_tell values c zero free tells = tells
 moves_tell values c (suc count) free tells =
     let now : Controller = after_moves count c in
     let parts = held_parts now.outcome (does_wait now now.pending) free.1 in
-    let next : Tells values (done_with now now.pending) = move_tells values now now.pending parts.1 (moves_tell values c count free.0 tells) in
+    let next : Tells values (after_pending now now.pending) = move_tells values now now.pending parts.1 (moves_tell values c count free.0 tells) in
     record { printed = next.printed; fetched = next.fetched }
 
 turn_tells : (values : List Grid) (before after : Controller) (orders : List Directed) → IsTurned before orders after → Tells values before → Tells values after
@@ -218,7 +218,7 @@ at_told values fs place object version value all is = either (slice_get fs place
       (λ asked. set_told values fs place f value all is) (λ other. all)
 
 told_tells : (values : List Grid) (c : Controller) (ticket : ℕ) (object : Object) (version : ℕ) (value : Grid) → Tells values c → IsAmong value values
-    → Tells values (record c { fetched = told c ticket object version value })
+    → Tells values (record c { fetched = value_reported c ticket object version value })
 told_tells values c ticket object version value tells is = record {
   printed = tells.printed;
   fetched = cond_both (nat_le c.first ticket) (told_at c.fetched (ticket - c.first) object version value) c.fetched (AllByRecursion (IsToldOf values))
@@ -233,7 +233,7 @@ live_tells : (values : List Grid) (c : Controller) (from : Worker) (report : Fro
     → Tells (values ++ value_of report) (reported c from report)
 live_tells values c from (Value epoch ticket object version value) tells =
     let more : Tells (values ++ value ∷ []) c = tells_more values (value ∷ []) c tells in
-    cond_both (epoch == c.epoch) (record c { fetched = told c ticket object version value }) c (Tells (values ++ value ∷ []))
+    cond_both (epoch == c.epoch) (record c { fetched = value_reported c ticket object version value }) c (Tells (values ++ value ∷ []))
     (λ now. told_tells (values ++ value ∷ []) c ticket object version value more (among_last value values)) (λ other. more)
 live_tells values c from (Ran epoch position reads) tells =
     let more : Tells (values ++ []) c = tells_more values [] c tells in

@@ -32,7 +32,7 @@ use Rattle.nim_template.specs.Instance.{half_of}
 use Rattle.nim_patch.specs.declared.patch.PatchCopy.{PatchCopy}
 use Rattle.nim_patch.specs.Given.{install_parts, run_parts}
 use Rattle.nim_patch.specs.Parts.{patch_parts_of, versions_taken}
-use Rattle.nim_patch.specs.Patches.{after_copies, copies_of}
+use Rattle.nim_patch.specs.Patches.{after_copies, patch_copies}
 use Rattle.nim_reuse.specs.declared.decided.Decided.{Decided}
 use Rattle.nim_reuse.specs.declared.decided.Decided.TheVariants.{Open, Recorded, Installed}
 use Rattle.nim_reuse.specs.declared.instance.InstanceAt.{InstanceAt}
@@ -250,7 +250,7 @@ again_for : (decisions : Decisions) (worker : Worker) (workers : ℕ) (at : Inst
     ComeToTasks at.epoch (given ++ orders) (tasks + sum_by (tasks_for decisions worker) orders)
 again_for decisions worker workers at args new patched versions template given tasks below has runs =
     let half : List Entry = half_of template worker.0 in
-    let copies : List PatchCopy = copies_of versions template.preconditions in
+    let copies : List PatchCopy = patch_copies versions template.preconditions in
     let before : Object → ℕ = latest_of (after_copies versions copies) in
     let a : List ToWorker = template_installs new at.epoch template worker.0 in
     let b : List ToWorker = patch_installs patched at.epoch copies worker.0 in

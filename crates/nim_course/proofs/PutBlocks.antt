@@ -8,7 +8,7 @@ use Rattle.nim_job.specs.Objects.{objects_of}
 use Rattle.nim_job.specs.Tasks.{block_forms_of, block_tasks_of}
 use Rattle.nim_place.specs.Directed.{Directed, orders_to}
 use Rattle.nim_patch.specs.Patches.{failing_in}
-use Rattle.nim_patch.specs.Uses.{Use, key_of}
+use Rattle.nim_patch.specs.Uses.{Use, patch_key}
 use Rattle.nim_reuse.specs.declared.decided.Decided.{Decided}
 use Rattle.nim_reuse.specs.declared.decided.Decided.TheVariants.{Installed}
 use Rattle.nim_reuse.specs.declared.reused.Patched.{Patched}
@@ -95,7 +95,7 @@ by_uses : (c : Controller) (moves : List Controller) (block : ℕ) → RestOn mo
     (patched_in_move c block)
 by_uses c moves block rests =
     subst (λ (n : ℕ). IsByUses (failing_in c.versions (template_in c block).preconditions) (uses_by moves) (last_block moves) block (copies_before c block)
-    (patched_by (key_of n block) c.versions c.decisions.patches (template_in c block))) (sym rests.previous)
+    (patched_by (patch_key n block) c.versions c.decisions.patches (template_in c block))) (sym rests.previous)
     (patch_by_uses (last_block moves) block c.versions (template_in c block) (uses_by moves) c.decisions.patches rests.uses)
 
 -- from the third on it is short

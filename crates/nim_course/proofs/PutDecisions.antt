@@ -12,8 +12,8 @@ use Rattle.nim_patch.specs.declared.kept.Key.{Key}
 use Rattle.nim_patch.specs.declared.kept.Kept.{Kept}
 use Rattle.nim_patch.specs.declared.patch.PatchCopy.{PatchCopy}
 use Rattle.nim_patch.specs.Cache.{number_for}
-use Rattle.nim_patch.specs.Patches.{copies_of, failing_in}
-use Rattle.nim_patch.specs.Uses.{StandsFor, Use, hit, is_hit, keys_in, key_of, same_copies, same_key, since, use_of}
+use Rattle.nim_patch.specs.Patches.{patch_copies, failing_in}
+use Rattle.nim_patch.specs.Uses.{StandsFor, Use, hit, is_hit, keys_in, patch_key, same_copies, same_key, since, use_of}
 use Rattle.nim_reuse.specs.declared.decided.Decided.{Decided}
 use Rattle.nim_reuse.specs.declared.decided.Decided.TheVariants.{Open, Recorded, Installed}
 use Rattle.nim_reuse.specs.declared.reused.Patched.{Patched}
@@ -153,10 +153,10 @@ first_rests c moves blocks block args is below new rests =
 
 -- the use with an instance is one more
 used_stands : (previous block : ℕ) (copies : List PatchCopy) (patched : Patched) (uses kept : List Use) → StandsFor uses kept
-    → StandsFor (use_with previous block copies patched ++ uses) (patches_after (key_of previous block) copies kept patched)
+    → StandsFor (use_with previous block copies patched ++ uses) (patches_after (patch_key previous block) copies kept patched)
 used_stands previous block copies Not uses kept stands = stands
-used_stands previous block copies (Repeated number) uses kept stands = stands_used (use_of (key_of previous block) number copies) uses kept stands
-used_stands previous block copies (Made number) uses kept stands = stands_used (use_of (key_of previous block) number copies) uses kept stands
+used_stands previous block copies (Repeated number) uses kept stands = stands_used (use_of (patch_key previous block) number copies) uses kept stands
+used_stands previous block copies (Made number) uses kept stands = stands_used (use_of (patch_key previous block) number copies) uses kept stands
 
 -- what has no number is no hit
 none_hit : (key : Key) (copies : List PatchCopy) (uses : List Use) → hit key copies uses ≡ None → is_hit key copies uses ≡ false
@@ -172,18 +172,18 @@ none_hit key copies uses none = by (lookup (same_key key) uses) (nat_lt (keys_in
 
 -- the patch before an instance is as the uses say
 pub patch_by_uses : (previous block : ℕ) (versions : Versions) (template : WorkerTemplate) (uses kept : List Use) → StandsFor uses kept
-    → IsByUses (failing_in versions template.preconditions) uses previous block (copies_of versions template.preconditions)
-    (patched_by (key_of previous block) versions kept template)
+    → IsByUses (failing_in versions template.preconditions) uses previous block (patch_copies versions template.preconditions)
+    (patched_by (patch_key previous block) versions kept template)
 patch_by_uses previous block versions template uses kept stands =
     either (failing_in versions template.preconditions == 0) refl where
       copies : List PatchCopy
-      copies = copies_of versions template.preconditions
+      copies = patch_copies versions template.preconditions
 
       failing : ℕ
       failing = failing_in versions template.preconditions
 
       key : Key
-      key = key_of previous block
+      key = patch_key previous block
 
       found_by : 1 ≤ failing → (o : Option ℕ) → hit key copies uses ≡ o
           → IsByUses failing uses previous block copies (option_map_or Repeated o (Made (number_for key kept)))
@@ -211,9 +211,9 @@ again_rests c moves blocks block args is below old rests =
       previous = sym (ap (λ (p : Pending). block_after p (last_block moves)) is);
       uses =
           subst (λ (us : List Use). StandsFor (us ++ uses_by moves)
-          (patches_after (key_of c.decisions.previous block) (copies_before c block) c.decisions.patches (patched_in_move c block))) (sym one)
+          (patches_after (patch_key c.decisions.previous block) (copies_before c block) c.decisions.patches (patched_in_move c block))) (sym one)
           (subst (λ (n : ℕ). StandsFor (latest ++ uses_by moves)
-          (patches_after (key_of n block) (copies_before c block) c.decisions.patches (patched_in_move c block))) (sym rests.previous)
+          (patches_after (patch_key n block) (copies_before c block) c.decisions.patches (patched_in_move c block))) (sym rests.previous)
           (used_stands (last_block moves) block (copies_before c block) (patched_in_move c block) (uses_by moves) c.decisions.patches rests.uses));
       many = length-set c.decisions.blocks block (Installed (template_in c block)) ∙ rests.many;
       decided = λ other there.

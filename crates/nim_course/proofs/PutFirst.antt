@@ -222,7 +222,7 @@ instance_first epoch instance block base args before (entry ∷ entries) = (tt, 
 pub again_none : (workers : ℕ) (at : InstanceAt) (args : List ℤ) (new : Bool) (patched : Patched) (versions : Versions) (template : WorkerTemplate)
     → All (λ (d : Directed). HasNoFirst d.1) (orders_by workers at args new patched versions template)
 again_none workers at args new patched versions template =
-    let copies : List PatchCopy = patches.copies_of versions template.preconditions in
+    let copies : List PatchCopy = patches.patch_copies versions template.preconditions in
     let after : Versions = patches.after_copies versions copies in
     let P : Directed → Type 0 = λ d. HasNoFirst d.1 in
     let a : List Directed = directed workers (template_installs new at.epoch template) in

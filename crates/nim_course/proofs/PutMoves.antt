@@ -24,7 +24,7 @@ use Rattle.nim_course.specs.declared.summary.Summary.{Summary}
 use Rattle.nim_course.specs.declared.summary.WorkerLine.{WorkerLine}
 use Rattle.nim_course.specs.Controller.{Controller}
 use Rattle.nim_course.specs.Leads.{AreLeading, AreLeadingFor, Leads, is_key_from}
-use Rattle.nim_course.specs.Moves.{asked, done_with, orders_of, orders_asked, orders_with, with_counted}
+use Rattle.nim_course.specs.Moves.{asked, after_pending, orders_of, orders_asked, orders_with, with_counted}
 use Rattle.nim_course.specs.OrdersGiven.{epoch_orders, first_commands, single_for}
 use Rattle.nim_course.specs.PutLists.{ArePut, HasNoFirst, IsMove, is_begin, last_block, line_for, orders_by_moves, turns_given, uses_by}
 use Rattle.nim_course.specs.Summaries.{tasks_for}
@@ -206,11 +206,11 @@ nothing_first = All-nil (λ (d : Directed). HasNoFirst d.1)
 
 -- the epoch is begun
 pub begin_step : (c : Controller) (given : List Directed) (put : ArePut c given) → c.pending ≡ Begin
-    → IsStep c (done_with c Begin) given (orders_with c Begin) put.moves
+    → IsStep c (after_pending c Begin) given (orders_with c Begin) put.moves
 begin_step c given put is =
     let first : put.moves ≡ [] = put.first (ap is_begin is) in
     let none : given ≡ [] = put.orders ∙ ap orders_by_moves first in
-    quiet_step c (done_with c Begin) given (epoch_orders c) put (subst (IsQuiet c) (sym is) (quiet_begin c))
+    quiet_step c (after_pending c Begin) given (epoch_orders c) put (subst (IsQuiet c) (sym is) (quiet_begin c))
     (subst (IsMove put.moves c) (sym is) (record { first = first; orders = ap (orders_with c) is }))
     (record { live = refl; job = refl; begun = refl; decisions = refl; summary = refl })
     (λ decisions. subst (λ (ds : List Directed). AddTasks c decisions ds (epoch_orders c)) (sym none) (start_tasks c decisions))
@@ -226,12 +226,12 @@ idle_still c Ask.Limit is = record { live = refl; job = refl; begun = ap is_begi
 
 -- what the driver asks leads to its orders
 pub idle_step : (c : Controller) (given : List Directed) (put : ArePut c given) → Leads c.job c given → c.pending ≡ Idle
-    → IsStep c (done_with c Idle) given (orders_with c Idle) put.moves
+    → IsStep c (after_pending c Idle) given (orders_with c Idle) put.moves
 idle_step c given put leads is =
     let orders : List Directed = orders_asked c (ask_of c.machine) in
     let plain : ArePlainOf c.epoch orders = asked_plain c (ask_of c.machine) in
     let leading = subst (AreLeadingFor c.job c given) is leads.leading in
-    quiet_step c (done_with c Idle) given orders put (subst (IsQuiet c) (sym is) (quiet_idle c))
+    quiet_step c (after_pending c Idle) given orders put (subst (IsQuiet c) (sym is) (quiet_idle c))
     (subst (IsMove put.moves c) (sym is)
     (subst (All (λ (d : Directed). HasNoFirst d.1)) (sym (ap (orders_with c) is)) (plain_none c.epoch orders plain)))
     (idle_still c (ask_of c.machine) is)
@@ -239,24 +239,24 @@ idle_step c given put leads is =
 
 -- a cell was told
 pub cell_step : (c : Controller) (given : List Directed) (put : ArePut c given) (row cell : ℕ) → c.pending ≡ Cell row cell
-    → IsStep c (done_with c (Cell row cell)) given [] put.moves
+    → IsStep c (after_pending c (Cell row cell)) given [] put.moves
 cell_step c given put row cell is =
-    quiet_step c (done_with c (Cell row cell)) given [] put (subst (IsQuiet c) (sym is) (quiet_cell c row cell))
+    quiet_step c (after_pending c (Cell row cell)) given [] put (subst (IsQuiet c) (sym is) (quiet_cell c row cell))
     (subst (IsMove put.moves c) (sym is) (subst (All (λ (d : Directed). HasNoFirst d.1)) (sym (ap (orders_with c) is)) nothing_first))
     (record { live = refl; job = refl; begun = refl; decisions = refl; summary = refl }) (λ decisions. none_tasks c decisions given)
 
 -- the parts of a variable were printed
 pub parts_step : (c : Controller) (given : List Directed) (put : ArePut c given) (var : ℕ) → c.pending ≡ Parts var
-    → IsStep c (done_with c (Parts var)) given [] put.moves
+    → IsStep c (after_pending c (Parts var)) given [] put.moves
 parts_step c given put var is =
-    quiet_step c (done_with c (Parts var)) given [] put (subst (IsQuiet c) (sym is) (quiet_parts c var))
+    quiet_step c (after_pending c (Parts var)) given [] put (subst (IsQuiet c) (sym is) (quiet_parts c var))
     (subst (IsMove put.moves c) (sym is) (subst (All (λ (d : Directed). HasNoFirst d.1)) (sym (ap (orders_with c) is)) nothing_first))
     (record { live = refl; job = refl; begun = refl; decisions = refl; summary = refl }) (λ decisions. none_tasks c decisions given)
 
 -- the job is done
 pub ended_step : (c : Controller) (given : List Directed) (put : ArePut c given) → c.pending ≡ Ended
-    → IsStep c (done_with c Ended) given [] put.moves
+    → IsStep c (after_pending c Ended) given [] put.moves
 ended_step c given put is =
-    quiet_step c (done_with c Ended) given [] put (subst (IsQuiet c) (sym is) (quiet_ended c))
+    quiet_step c (after_pending c Ended) given [] put (subst (IsQuiet c) (sym is) (quiet_ended c))
     (subst (IsMove put.moves c) (sym is) (subst (All (λ (d : Directed). HasNoFirst d.1)) (sym (ap (orders_with c) is)) nothing_first))
     (record { live = refl; job = refl; begun = ap is_begin is; decisions = refl; summary = refl }) (λ decisions. none_tasks c decisions given)

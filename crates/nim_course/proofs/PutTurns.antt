@@ -8,7 +8,7 @@ use Rattle.std.proofs.lemmas.List.Sums.{sum_by-cons}
 use Rattle.nim_patch.specs.declared.kept.Key.{Key}
 use Rattle.nim_patch.specs.declared.kept.Kept.{Kept}
 use Rattle.nim_patch.specs.declared.patch.PatchCopy.{PatchCopy}
-use Rattle.nim_patch.specs.Uses.{Use, hit, is_hit, key_of, same_key}
+use Rattle.nim_patch.specs.Uses.{Use, hit, is_hit, patch_key, same_key}
 use Rattle.nim_reuse.specs.declared.reused.Patched.{Patched}
 use Rattle.nim_reuse.specs.declared.reused.Patched.TheVariants.{Not, Repeated, Made}
 use Rattle.nim_course.specs.declared.summary.Summary.{Summary}
@@ -134,7 +134,7 @@ pub patch_counts : (failing previous block : ℕ) (copies : List PatchCopy) (pat
     → AreCountsOf turns (use_with previous block copies patched ++ uses) (reused_counted new patched s)
 patch_counts failing previous block copies Not new turns uses s by are = are
 patch_counts failing previous block copies (Repeated number) new turns uses s by are =
-    let key : Key = key_of previous block in
+    let key : Key = patch_key previous block in
     let found : Option ℕ = option_map (λ (k : Kept). k.number) (lookup (same_key key) uses) in
     let hits : is_hit key copies uses ≡ true = hit_is (is_hit key copies uses) found number by.1 in
     let now : ℕ = (if is_hit key copies uses then 1 else 0) + hits_in uses in
@@ -153,7 +153,7 @@ patch_counts failing previous block copies (Repeated number) new turns uses s by
       rollbacks = are.rollbacks;
     }
 patch_counts failing previous block copies (Made number) new turns uses s by are =
-    let key : Key = key_of previous block in
+    let key : Key = patch_key previous block in
     let now : ℕ = (if is_hit key copies uses then 1 else 0) + hits_in uses in
     let same : now ≡ hits_in uses = ap (λ (b : Bool). (if b then 1 else 0) + hits_in uses) by.1 ∙ omega arith in
     let few = few_hits uses in

@@ -17,10 +17,10 @@ use Rattle.nim_course.specs.declared.pending.Pending.{Pending}
 use Rattle.nim_course.specs.declared.pending.Pending.TheVariants.{Begin, Idle, Block, Cell, Parts, Ended}
 use Rattle.nim_course.specs.declared.setup.Setup.{Setup}
 use Rattle.nim_course.specs.Controller.{Controller, Flight, new_controller}
-use Rattle.nim_course.specs.Leads.{HasAsked, Leads, StandsFor}
-use Rattle.nim_course.specs.Moves.{AreFree, IsTurned, after_moves, does_wait, done_with, is_held_up, moved, orders_in, orders_of, orders_of_block, orders_with, with_block}
+use Rattle.nim_course.specs.Leads.{HasAsked, Leads, IsDriverAt}
+use Rattle.nim_course.specs.Moves.{AreFree, IsTurned, after_moves, does_wait, after_pending, is_held_up, moved, orders_of_moves, orders_of, orders_of_block, orders_with, with_block}
 use Rattle.nim_course.specs.PutLists.{ArePut, ControllersPut, line_for}
-use Rattle.nim_course.specs.Reports.{after_report, flight_after, flight_through, reported, told}
+use Rattle.nim_course.specs.Reports.{after_report, flight_after, flight_through, reported, value_reported}
 use Rattle.nim_course.proofs.Asking.{run_allowed}
 use Rattle.nim_course.proofs.Homes.{live_below}
 use Rattle.nim_course.proofs.Standing.{held_parts}
@@ -34,12 +34,12 @@ use Rattle.nim_course.proofs.PutMoves.{IsStep, begin_step, cell_step, counted_pu
 block_there : (c : Controller) (given : List Directed) (block : ℕ) (args : List ℤ) → c.outcome ≡ None → c.pending ≡ Block block args → Leads c.job c given
     → block < length c.job.blocks
 block_there c given block args none is leads =
-    let asked : HasAsked c.job (Ask.Run block args) c.machine c.position = subst (StandsFor c.job c) is (leads.driver none) in
+    let asked : HasAsked c.job (Ask.Run block args) c.machine c.position = subst (IsDriverAt c.job c) is (leads.driver none) in
     (run_allowed c.job asked.before c.position block args leads.whole asked.opened asked.asks).0
 
 -- an instance of a block, as a whole where the block was recorded
 block_step : (c : Controller) (given : List Directed) (put : ArePut c given) (block : ℕ) (args : List ℤ) → c.outcome ≡ None → Leads c.job c given
-    → c.pending ≡ Block block args → IsStep c (done_with c (Block block args)) given (orders_with c (Block block args)) put.moves
+    → c.pending ≡ Block block args → IsStep c (after_pending c (Block block args)) given (orders_with c (Block block args)) put.moves
 block_step c given put block args none leads is = either (is_recorded c.decisions block) refl where
   below : block < length c.job.blocks
   below = block_there c given block args none is leads
@@ -50,7 +50,7 @@ block_step c given put block args none leads is = either (is_recorded c.decision
 
 -- whatever is pending
 each_step : (c : Controller) (given : List Directed) (put : ArePut c given) (pending : Pending) → c.outcome ≡ None → Leads c.job c given
-    → c.pending ≡ pending → IsStep c (done_with c pending) given (orders_with c pending) put.moves
+    → c.pending ≡ pending → IsStep c (after_pending c pending) given (orders_with c pending) put.moves
 each_step c given put Begin none leads is = begin_step c given put is
 each_step c given put Idle none leads is = idle_step c given put leads is
 each_step c given put (Block block args) none leads is = block_step c given put block args none leads is
@@ -63,19 +63,19 @@ move_put : (job : Job) (c : Controller) (given : List Directed) → Leads job c 
     → ArePut (moved c) (given ++ orders_of c)
 move_put job c given leads free put =
     let own : Leads c.job c given = subst (λ (j : Job). Leads j c given) (sym leads.is_job) leads in
-    counted_put c (done_with c c.pending) given put
+    counted_put c (after_pending c c.pending) given put
     (each_step c given put c.pending (held_parts c.outcome (does_wait c c.pending) free).0 own refl)
 
 -- ---- a turn
 
 -- one move after another
 moves_put : (job : Job) (c : Controller) (given : List Directed) (count : ℕ) → Leads job c given → AreFree count c → ArePut c given
-    → ArePut (after_moves count c) (given ++ orders_in count c)
+    → ArePut (after_moves count c) (given ++ orders_of_moves count c)
 moves_put job c given zero leads free put = subst (ArePut c) (sym (append-nil given)) put
 moves_put job c given (suc count) leads free put =
     let now : Controller = after_moves count c in
-    subst (ArePut (moved now)) (append_assoc given (orders_in count c) (orders_of now))
-    (move_put job now (given ++ orders_in count c) (moves_lead job c given count leads free.0) free.1 (moves_put job c given count leads free.0 put))
+    subst (ArePut (moved now)) (append_assoc given (orders_of_moves count c) (orders_of now))
+    (move_put job now (given ++ orders_of_moves count c) (moves_lead job c given count leads free.0) free.1 (moves_put job c given count leads free.0 put))
 
 -- where nothing changes but what was told
 still_put : (c : Controller) (given : List Directed) (fetched : List Fetched) (flight : List Flight) (due : Bool) (outcome : Option Outcome) → ArePut c given
@@ -99,7 +99,7 @@ turn_put job before after given orders leads turned put =
     let moves = turned.moved in
     let end : ArePut turned.end (given ++ orders) =
     subst (λ (ds : List Directed). ArePut turned.end (given ++ ds)) (sym moves.gave)
-    (subst (λ (c : Controller). ArePut c (given ++ orders_in moves.count before)) (sym moves.state)
+    (subst (λ (c : Controller). ArePut c (given ++ orders_of_moves moves.count before)) (sym moves.state)
     (moves_put job before given moves.count leads moves.free put)) in
     subst (λ (c : Controller). ArePut c (given ++ orders)) (sym turned.rests)
     (still_put turned.end (given ++ orders) turned.end.fetched turned.end.flight false turned.end.outcome end)
@@ -115,7 +115,7 @@ if_put false one other given first second = second
 -- a report of a live worker
 reported_put : (c : Controller) (given : List Directed) (from : Worker) (report : FromWorker) → ArePut c given → ArePut (reported c from report) given
 reported_put c given from (Value epoch ticket object version value) put =
-    if_put (epoch == c.epoch) _ c given (still_put c given (told c ticket object version value) c.flight c.due c.outcome put) put
+    if_put (epoch == c.epoch) _ c given (still_put c given (value_reported c ticket object version value) c.flight c.due c.outcome put) put
 reported_put c given from (Ran epoch position reads) put =
     if_put (epoch == c.epoch) _ c given (still_put c given c.fetched (flight_after from position c.flight) c.due c.outcome put) put
 reported_put c given from (Through epoch instance) put =

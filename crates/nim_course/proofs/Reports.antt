@@ -21,7 +21,7 @@ use Rattle.nim_course.specs.Controller.{Controller}
 use Rattle.nim_place.specs.Directed.{Directed}
 use Rattle.nim_course.specs.Leads.{IsFetchedAt, Leads}
 use Rattle.nim_course.specs.Moves.{is_open}
-use Rattle.nim_course.specs.Reports.{after_report, flight_after, flight_through, is_asked, reported, told, told_at}
+use Rattle.nim_course.specs.Reports.{after_report, flight_after, flight_through, is_asked, reported, value_reported, told_at}
 use Rattle.nim_course.proofs.Kept.{begun_still, due_leads, leading_still, told_leads}
 use Rattle.nim_course.proofs.Standing.{over_leads}
 
@@ -79,18 +79,18 @@ at_told job position fs place object version value all good = either (slice_get 
       (λ is. set_told job position fs place f object version value all there is good) (λ not. none_told job position fs all)
 
 value_told : (job : Job) (c : Controller) (ticket : ℕ) (object : Object) (version : ℕ) (value : Grid) → All (IsFetchedAt job c.position) c.fetched
-    → value ≡ version_value job object version → AreTold job c.position c.fetched (told c ticket object version value)
+    → value ≡ version_value job object version → AreTold job c.position c.fetched (value_reported c ticket object version value)
 value_told job c ticket object version value all good =
     let each = recursion_from_All (IsFetchedAt job c.position) c.fetched all in
     cond_both (nat_le c.first ticket) (told_at c.fetched (ticket - c.first) object version value) c.fetched (AreTold job c.position c.fetched)
     (λ behind. at_told job c.position c.fetched (ticket - c.first) object version value each good) (λ before. none_told job c.position c.fetched each)
 
 value_leads : (job : Job) (c : Controller) (given : List Directed) (ticket : ℕ) (object : Object) (version : ℕ) (value : Grid) → Leads job c given
-    → value ≡ version_value job object version → Leads job (record c { fetched = told c ticket object version value }) given
+    → value ≡ version_value job object version → Leads job (record c { fetched = value_reported c ticket object version value }) given
 value_leads job c given ticket object version value leads good =
     let now = value_told job c ticket object version value leads.fetched good in
-    told_leads job c given (told c ticket object version value) c.flight now.objects
-    (All-from_recursion (IsFetchedAt job c.position) (told c ticket object version value) now.all) now.empty leads
+    told_leads job c given (value_reported c ticket object version value) c.flight now.objects
+    (All-from_recursion (IsFetchedAt job c.position) (value_reported c ticket object version value) now.all) now.empty leads
 
 -- ---- no memory
 
@@ -116,7 +116,7 @@ memory_leads c given leads =
 live_leads : (job : Job) (c : Controller) (given : List Directed) (from : Worker) (report : FromWorker) → Leads job c given → IsGood job report
     → Leads job (reported c from report) given
 live_leads job c given from (Value epoch ticket object version value) leads good =
-    cond_both (epoch == c.epoch) (record c { fetched = told c ticket object version value }) c (λ (next : Controller). Leads job next given)
+    cond_both (epoch == c.epoch) (record c { fetched = value_reported c ticket object version value }) c (λ (next : Controller). Leads job next given)
     (λ now. value_leads job c given ticket object version value leads good.1) (λ other. leads)
 live_leads job c given from (Ran epoch position reads) leads good =
     cond_both (epoch == c.epoch) (record c { flight = flight_after from position c.flight }) c (λ (next : Controller). Leads job next given)

@@ -14,7 +14,7 @@ use Rattle.nim_job.specs.declared.ask.Ask.{Ask}
 use Rattle.nim_job.specs.declared.job.Job.{Job}
 use Rattle.nim_job.specs.Objects.{objects_of}
 use Rattle.nim_job.specs.Serial.{tasks_of}
-use Rattle.nim_job.specs.Tasks.{block_forms_of, block_tasks_of, task_of}
+use Rattle.nim_job.specs.Tasks.{block_forms_of, block_tasks_of, task_with_args}
 use Rattle.nim_job.proofs.FewTasks.{few_tasks}
 use Rattle.nim_job.proofs.Whole.{vars_sizes, whole_vars}
 use Rattle.nim_place.specs.Directed.{Directed, by_number}
@@ -32,7 +32,7 @@ use Rattle.nim_reuse.specs.GoesOn.{HasGoneOn, MayGoOn, is_key_at}
 use Rattle.nim_reuse.specs.Reuse.{commands_at, decisions_at, reused_at, template_at, versions_at}
 use Rattle.nim_course.specs.declared.pending.Pending.{Pending}
 use Rattle.nim_course.specs.Controller.{Controller}
-use Rattle.nim_course.specs.Leads.{AreLeading, AreLeadingFor, HasAsked, Leads, StandsFor, is_key_from}
+use Rattle.nim_course.specs.Leads.{AreLeading, AreLeadingFor, HasAsked, Leads, IsDriverAt, is_key_from}
 use Rattle.nim_course.specs.Moves.{with_reused}
 use Rattle.nim_course.specs.OrdersGiven.{instance_at, reused_flight, reused_orders}
 use Rattle.nim_course.specs.Summaries.{counted_on, reused_counted}
@@ -65,12 +65,12 @@ taken_from (x ∷ xs) ys (suc from) same =
     taken_from xs ys from (λ k below. let later : suc (from + k) ≡ suc from + k = omega arith in ap (slice_get (x ∷ xs)) later ∙ same k below)
 
 -- the job's next tasks are the block's, of these forms
-tasks_at : (job : Job) (position : ℕ) (args : List ℤ) (forms all : List TaskForm) → all ≡ forms → AreNext job position (map (task_of args) forms)
-    → take (length all) (drop position (tasks_of job)) ≡ map (task_of args) all
+tasks_at : (job : Job) (position : ℕ) (args : List ℤ) (forms all : List TaskForm) → all ≡ forms → AreNext job position (map (task_with_args args) forms)
+    → take (length all) (drop position (tasks_of job)) ≡ map (task_with_args args) all
 tasks_at job position args forms all same next =
-    subst (λ (fs : List TaskForm). take (length fs) (drop position (tasks_of job)) ≡ map (task_of args) fs) (sym same)
-    (ap (λ (n : ℕ). take n (drop position (tasks_of job))) (sym (length-map forms (task_of args)))
-    ∙ taken_from (tasks_of job) (map (task_of args) forms) position next)
+    subst (λ (fs : List TaskForm). take (length fs) (drop position (tasks_of job)) ≡ map (task_with_args args) fs) (sym same)
+    (ap (λ (n : ℕ). take n (drop position (tasks_of job))) (sym (length-map forms (task_with_args args)))
+    ∙ taken_from (tasks_of job) (map (task_with_args args) forms) position next)
 
 -- ---- keys
 
@@ -165,9 +165,9 @@ pub reused_leads : (c : Controller) (given : List Directed) (block : ℕ) (args 
 reused_leads c given block args none is recorded on =
     let at : InstanceAt = instance_at c block in
     let reused : Reused = reused_at c.place c.live at c.versions c.decisions in
-    let asked : HasAsked c.job (Ask.Run block args) c.machine c.position = subst (StandsFor c.job c) is on.driver in
+    let asked : HasAsked c.job (Ask.Run block args) c.machine c.position = subst (IsDriverAt c.job c) is on.driver in
     let counted = numbers_counted c given block args on asked (few_begun c given block args is on) in
-    let many : length (block_tasks_of c.job block args) ≡ length (block_forms_of c.job block) = length-map (block_forms_of c.job block) (task_of args) in
+    let many : length (block_tasks_of c.job block args) ≡ length (block_forms_of c.job block) = length-map (block_forms_of c.job block) (task_with_args args) in
     let behind : counted_from c.position (length (block_forms_of c.job block)) ≡ c.position + length (block_tasks_of c.job block args) =
     ap (counted_from c.position) (sym many) ∙ counted.position in
     let leading : AreLeading c.job c.place c.live c.epoch c.position (is_key_from c.epoch c.instance) given c.versions c.decisions =

@@ -10,19 +10,19 @@ use Rattle.nim_course.specs.declared.outcome.Outcome.{Outcome}
 use Rattle.nim_course.specs.declared.pending.Pending.{Pending}
 use Rattle.nim_course.specs.Controller.{Controller}
 use Rattle.nim_place.specs.Directed.{Directed}
-use Rattle.nim_course.specs.Leads.{AreLeadingFor, AreRight, EndsBy, IsFetchedAt, Leads, StandsFor, begun_by, does_fetch}
+use Rattle.nim_course.specs.Leads.{AreLeadingFor, AreRight, EndsBy, IsFetchedAt, Leads, IsDriverAt, instances_begun, does_fetch}
 
 -- a controller that goes on leads its job
 pub record GoesOn (c : Controller) (given : List Directed) : Type 0 where
   pub whole : is_whole c.job ≡ true
-  pub driver : StandsFor c.job c c.pending
+  pub driver : IsDriverAt c.job c c.pending
   pub fetched : All (IsFetchedAt c.job c.position) c.fetched
   pub unfetched : does_fetch c.pending ≡ false → c.fetched ≡ []
   pub some : list_any (λ (flag : Bool). flag) c.live ≡ true
   pub few : length c.live ≤ 16
   pub right : AreRight c.job c.live given
   pub leading : AreLeadingFor c.job c given c.pending
-  pub instances : begun_by c c.pending ≤ c.machine.driver.count
+  pub instances : instances_begun c c.pending ≤ c.machine.driver.count
   pub all_run : c.pending ≡ Pending.Ended → c.position ≡ length (tasks_of c.job)
 
 some_apart : {X : Type 0} (x : X) → Some x ≡ None → ⊥
@@ -77,7 +77,7 @@ pub record IsOver (c : Controller) (given : List Directed) (outcome : Outcome) :
   pub few : length c.live ≤ 16
   pub right : AreRight c.job c.live given
   pub leading : AreLeadingFor c.job c given c.pending
-  pub instances : begun_by c c.pending ≤ c.machine.driver.count
+  pub instances : instances_begun c c.pending ≤ c.machine.driver.count
   pub all_run : c.pending ≡ Pending.Ended → c.position ≡ length (tasks_of c.job)
   pub done : outcome ≡ Outcome.Done → c.pending ≡ Pending.Ended
 

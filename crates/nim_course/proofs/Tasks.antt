@@ -16,7 +16,7 @@ use Rattle.nim_message.specs.declared.order.ToWorker.{ToWorker}
 use Rattle.nim_job.specs.declared.job.Job.{Job}
 use Rattle.nim_job.specs.Objects.{objects_of}
 use Rattle.nim_job.specs.Serial.{tasks_of}
-use Rattle.nim_job.specs.Whole.{is_task, is_whole}
+use Rattle.nim_job.specs.Whole.{is_whole_task, is_whole}
 use Rattle.nim_plan.specs.Paired.{Key}
 use Rattle.nim_place.specs.declared.placement.Placement.{Placement}
 use Rattle.nim_place.specs.Extends.{AskFor, HaveNone, LongerIsPaired, is_live, longer, single_with, singles_of, worker_of}
@@ -108,7 +108,7 @@ copies_quiet versions number owner past (next ∷ reads) =
 
 pub task_leads : (job : Job) (place : Placement) (live : List Bool) (epoch instance number position : ℕ) (given : List Directed) (versions : Versions)
     (decisions : Decisions) (task : Task)
-    → list_any (λ (flag : Bool). flag) live ≡ true → is_task (objects_of job.vars) task ≡ true → IsTaskAt job position task → number < 65536
+    → list_any (λ (flag : Bool). flag) live ≡ true → is_whole_task (objects_of job.vars) task ≡ true → IsTaskAt job position task → number < 65536
     → AreLed job place live epoch position (is_to_come epoch instance number) given versions decisions
     → AreLed job place live epoch (position + 1) (is_to_come epoch instance (number + 1))
     (given ++ directed (length live) (singles_of epoch instance (scheduled versions task number position place live)))
@@ -185,7 +185,7 @@ next_rest job position task tasks next = λ k below.
 -- what is pending: the tasks from one on are next, and fit the job
 pub record AreReady (job : Job) (position number : ℕ) (tasks : List Task) : Type 0 where
   pub whole : is_whole job ≡ true
-  pub fit : list_all (is_task (objects_of job.vars)) tasks ≡ true
+  pub fit : list_all (is_whole_task (objects_of job.vars)) tasks ≡ true
   pub next : AreNext job (position + number) tasks
   pub few : number + length tasks ≤ 65536
 
@@ -201,7 +201,7 @@ rest_ready job position number task tasks ready =
     let on : position + number + 1 ≡ position + (number + 1) = omega arith in
     record {
       whole = ready.whole;
-      fit = (and_parts (is_task (objects_of job.vars) task) (list_all (is_task (objects_of job.vars)) tasks) ready.fit).1;
+      fit = (and_parts (is_whole_task (objects_of job.vars) task) (list_all (is_whole_task (objects_of job.vars)) tasks) ready.fit).1;
       next = subst (λ (p : ℕ). AreNext job p tasks) on (next_rest job (position + number) task tasks ready.next);
       few = omega (arith, ready.few);
     }
@@ -225,7 +225,7 @@ tasks_lead c number given versions (task ∷ tasks) some ready led =
     let end : number + 1 + length tasks ≡ number + length (task ∷ tasks) = omega arith in
     let commands : List (Worker × Command) = scheduled versions task number (counted_from c.position number) c.place c.live in
     let orders : List Directed = directed (length c.live) (singles_of c.epoch c.instance commands) in
-    let fits = (and_parts (is_task (objects_of c.job.vars) task) (list_all (is_task (objects_of c.job.vars)) tasks) ready.fit).0 in
+    let fits = (and_parts (is_whole_task (objects_of c.job.vars) task) (list_all (is_whole_task (objects_of c.job.vars)) tasks) ready.fit).0 in
     let one : AreLed c.job c.place c.live c.epoch (at + 1) (is_to_come c.epoch c.instance (number + 1)) (given ++ orders)
     (after_commands versions commands) c.decisions =
     subst (λ (p : ℕ). AreLed c.job c.place c.live c.epoch (at + 1) (is_to_come c.epoch c.instance (number + 1))

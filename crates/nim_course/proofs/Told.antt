@@ -12,7 +12,7 @@ use Rattle.nim_base.specs.Value.{Grid, cell_of, empty_grid}
 use Rattle.nim_job.specs.declared.job.Job.{Job}
 use Rattle.nim_job.specs.declared.job.Var.{Var}
 use Rattle.nim_job.specs.Objects.{first_object, objects_of, parts_of, value_at}
-use Rattle.nim_job.specs.Step.{output_of, texts_of}
+use Rattle.nim_job.specs.Step.{output_of, part_texts}
 use Rattle.nim_job.specs.Versions.{read_version, values_after, version_value}
 use Rattle.nim_job.specs.Whole.{is_whole}
 use Rattle.nim_job.proofs.TaskLeaves.{length-values}
@@ -118,7 +118,7 @@ text_is c position var whole all told are =
     let first : ℕ = first_object c.job.vars var in
     let parts : ℕ = parts_of c.job.vars var in
     let from : first + 0 ≡ first = omega arith in
-    ap (texts_of (option_map_or (λ v. v.name) (slice_get c.job.vars var) []) 0)
+    ap (part_texts (option_map_or (λ v. v.name) (slice_get c.job.vars var) []) 0)
     (all_told c.job position c.fetched (objects_in c var) all told are
     ∙ items_taken values first 0 parts (omega (arith, vars_within c.job.vars var, length-values c.job position whole))
     ∙ ap (λ (k : ℕ). take parts (drop k values)) from)

@@ -66,13 +66,13 @@ pub record HasAskedParts (job : Job) (c : Controller) (var : ℕ) : Type 0 where
   pub asked : HasAsked job (Ask.Output var) c.machine c.position
 
 -- where the driver stands, by what is pending
-abbrev pub StandsFor : Job → Controller → Pending → Type 0
-StandsFor job c Begin = IsOpenAt job c.machine c.position
-StandsFor job c Idle = IsOpenAt job c.machine c.position
-StandsFor job c (Block block args) = HasAsked job (Ask.Run block args) c.machine c.position
-StandsFor job c (Cell row cell) = HasAskedCell job c row cell
-StandsFor job c (Parts var) = HasAskedParts job c var
-StandsFor job c Ended = serial_of job ≡ record { status = 0; bytes = c.machine.driver.output }
+abbrev pub IsDriverAt : Job → Controller → Pending → Type 0
+IsDriverAt job c Begin = IsOpenAt job c.machine c.position
+IsDriverAt job c Idle = IsOpenAt job c.machine c.position
+IsDriverAt job c (Block block args) = HasAsked job (Ask.Run block args) c.machine c.position
+IsDriverAt job c (Cell row cell) = HasAskedCell job c row cell
+IsDriverAt job c (Parts var) = HasAskedParts job c var
+IsDriverAt job c Ended = serial_of job ≡ record { status = 0; bytes = c.machine.driver.output }
 
 -- how the job ends, by the outcome
 abbrev pub EndsBy : Job → Controller → Outcome → Type 0
@@ -137,16 +137,16 @@ does_fetch (Parts var) = true
 does_fetch pending = false
 
 -- how many instances were begun or are about to be: one that waits for room was asked for
-abbrev pub begun_by : Controller → Pending → ℕ
-begun_by c (Block block args) = c.instance + 1
-begun_by c pending = c.instance
+abbrev pub instances_begun : Controller → Pending → ℕ
+instances_begun c (Block block args) = c.instance + 1
+instances_begun c pending = c.instance
 
 -- A controller leads a whole job by these orders, all that it gave.
 pub record Leads (job : Job) (c : Controller) (given : List Directed) : Type 0 where
   pub whole : is_whole job ≡ true
   pub is_job : c.job ≡ job
   -- where its driver stands, and how the job ends
-  pub driver : c.outcome ≡ None → StandsFor job c c.pending
+  pub driver : c.outcome ≡ None → IsDriverAt job c c.pending
   pub end : IfSome c.outcome (EndsBy job c)
   pub fetched : All (IsFetchedAt job c.position) c.fetched
   pub unfetched : does_fetch c.pending ≡ false → c.fetched ≡ []
@@ -155,7 +155,7 @@ pub record Leads (job : Job) (c : Controller) (given : List Directed) : Type 0 w
   pub few : length c.live ≤ 16
   pub right : AreRight job c.live given
   pub leading : AreLeadingFor job c given c.pending
-  pub instances : begun_by c c.pending ≤ c.machine.driver.count
+  pub instances : instances_begun c c.pending ≤ c.machine.driver.count
   -- at the driver's end, and so once the job is done, all its tasks were run
   pub all_run : c.pending ≡ Ended → c.position ≡ length (tasks_of job)
   pub done : c.outcome ≡ Some Done → c.pending ≡ Ended

@@ -9,7 +9,7 @@ use Rattle.nim_command.specs.Numbers.{counted_from}
 use Rattle.nim_job.specs.declared.ask.Ask.{Ask}
 use Rattle.nim_job.specs.Machine.{after_ask, answered, appended, ask_of}
 use Rattle.nim_job.specs.Objects.{first_object, parts_of}
-use Rattle.nim_job.specs.Step.{texts_of}
+use Rattle.nim_job.specs.Step.{part_texts}
 use Rattle.nim_job.specs.Tasks.{block_forms_of, block_tasks_of}
 use Rattle.nim_place.specs.Directed.{Directed}
 use Rattle.nim_place.specs.Versions.{after_commands}
@@ -50,8 +50,8 @@ is_held_up c = option_map_or (λ (outcome : Outcome). true) c.outcome (does_wait
 -- ---- one move
 
 -- the epoch is begun
-abbrev pub begun : Controller → Controller
-begun c = record c { versions = after_commands c.versions (first_commands c 0 c.job.vars); pending = Idle }
+abbrev pub epoch_begun : Controller → Controller
+epoch_begun c = record c { versions = after_commands c.versions (first_commands c 0 c.job.vars); pending = Idle }
 
 -- an instance of a block was given task by task, and the block recorded
 abbrev pub with_instance : Controller → ℕ → List Task → Controller
@@ -121,18 +121,18 @@ cell_told fetched row cell = cell_of (slice_index_or (map value_in fetched) 0 em
 
 -- what is printed of a variable whose parts were fetched
 abbrev pub text_told : Controller → ℕ → List ℕ
-text_told c var = texts_of (option_map_or (λ v. v.name) (slice_get c.job.vars var) []) 0 (map value_in c.fetched)
+text_told c var = part_texts (option_map_or (λ v. v.name) (slice_get c.job.vars var) []) 0 (map value_in c.fetched)
 
 -- what a controller does with what is pending
-abbrev pub done_with : Controller → Pending → Controller
-done_with c Begin = begun c
-done_with c Idle = asked c (ask_of c.machine)
-done_with c (Block block args) = with_block (is_recorded c.decisions block) c block args
-done_with c (Cell row cell) =
+abbrev pub after_pending : Controller → Pending → Controller
+after_pending c Begin = epoch_begun c
+after_pending c Idle = asked c (ask_of c.machine)
+after_pending c (Block block args) = with_block (is_recorded c.decisions block) c block args
+after_pending c (Cell row cell) =
     record c { machine = answered c.machine (cell_told c.fetched row cell); pending = Idle; fetched = [] }
-done_with c (Parts var) =
+after_pending c (Parts var) =
     record c { machine = appended c.machine (text_told c var); pending = Idle; fetched = [] }
-done_with c Ended = record c { outcome = Some Outcome.Done }
+after_pending c Ended = record c { outcome = Some Outcome.Done }
 
 -- the orders that an ask leads to
 abbrev pub orders_asked : Controller → Ask → List Directed
@@ -162,7 +162,7 @@ with_counted orders c = record c { summary = orders_counted c.decisions orders c
 
 -- one move, its orders counted
 abbrev pub moved : Controller → Controller
-moved c = with_counted (orders_of c) (done_with c c.pending)
+moved c = with_counted (orders_of c) (after_pending c c.pending)
 
 -- ---- a turn
 
@@ -172,9 +172,9 @@ after_moves zero c = c
 after_moves (suc count) c = moved (after_moves count c)
 
 -- the orders that they give
-abbrev pub orders_in : ℕ → Controller → List Directed
-orders_in zero c = []
-orders_in (suc count) c = orders_in count c ++ orders_of (after_moves count c)
+abbrev pub orders_of_moves : ℕ → Controller → List Directed
+orders_of_moves zero c = []
+orders_of_moves (suc count) c = orders_of_moves count c ++ orders_of (after_moves count c)
 
 -- before none of them the controller is held up
 abbrev pub AreFree : ℕ → Controller → Type 0
@@ -185,7 +185,7 @@ AreFree (suc count) c = AreFree count c × (is_held_up (after_moves count c) ≡
 pub record IsMoved (before : Controller) (orders : List Directed) (after : Controller) : Type 0 where
   pub count : ℕ
   pub free : AreFree count before
-  pub gave : orders ≡ orders_in count before
+  pub gave : orders ≡ orders_of_moves count before
   pub state : after ≡ after_moves count before
 
 -- A turn goes as far as it can: it moves until the controller is held up, and none is due then.

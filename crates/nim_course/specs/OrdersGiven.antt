@@ -35,8 +35,8 @@ abbrev pub no_instance : ℕ
 no_instance = 4294967295
 
 -- one command alone, numbered 0
-abbrev pub command_of : Kind → Command
-command_of kind = record { id = 0; kind = kind; before = [] }
+abbrev pub lone_command : Kind → Command
+lone_command kind = record { id = 0; kind = kind; before = [] }
 
 -- a command alone in a Single, which is of no instance
 abbrev pub single_for : ℕ → Worker × Command → Directed
@@ -54,7 +54,7 @@ first_kind shape (Loaded values) part object = Load (main_slot object) 0 (slice_
 abbrev pub first_command : Controller → Var → ℕ → ℕ → Worker × Command
 first_command c v first part =
     let object : Object = record { 0 = first + part } in
-    (home c.place object c.versions.objects c.live, command_of (first_kind v.shape v.init part object))
+    (home c.place object c.versions.objects c.live, lone_command (first_kind v.shape v.init part object))
 
 -- those of all parts of variables, where the first of them is this object
 abbrev pub first_commands : Controller → ℕ → List Var → List (Worker × Command)
@@ -90,14 +90,14 @@ instance_orders c number versions (task ∷ tasks) =
     ++ instance_orders c (number + 1) (after_commands versions commands) tasks
 
 -- who runs a task, and is to report it
-abbrev pub awaited_of : Controller → Task → Option Worker
-awaited_of c task = Some (owner_of c.place task c.versions.objects c.live)
+abbrev pub awaited_worker : Controller → Task → Option Worker
+awaited_worker c task = Some (owner_of c.place task c.versions.objects c.live)
 
 -- the instance in flight; a block without tasks never is
 abbrev pub flight_of : Controller → List Task → List Flight
 flight_of c [] = []
 flight_of c tasks =
-    record { instance = c.instance; base = c.position; runs = map (awaited_of c) tasks; through = [] } ∷ []
+    record { instance = c.instance; base = c.position; runs = map (awaited_worker c) tasks; through = [] } ∷ []
 
 -- what is recorded of a block
 abbrev pub recorded_of : Controller → ℕ → ControllerTemplate
@@ -126,7 +126,7 @@ fetched_of versions object = record { object = object; version = latest_of versi
 
 -- the command that fetches an object under a ticket, at a worker
 abbrev pub fetch_at : ℕ → Object → Worker → Worker × Command
-fetch_at ticket object worker = (worker, command_of (Fetch (main_slot object) ticket))
+fetch_at ticket object worker = (worker, lone_command (Fetch (main_slot object) ticket))
 
 -- those that fetch objects, each from the lowest worker that holds its latest version, the first under this ticket
 abbrev pub fetch_commands : Versions → ℕ → List Object → List (Worker × Command)

@@ -45,20 +45,20 @@ IsAmong value [] = ⊥
 IsAmong value (one ∷ values) = (value ≡ one) ⊎ IsAmong value values
 
 -- a part of a variable that is printed: the variable's name, the part's number, and its value
-pub record Part : Type 0 where
+pub record PrintedPart : Type 0 where
   pub name : List ℕ
   pub number : ℕ
   pub value : Grid
 
 -- its text
-abbrev pub part_text : Part → List ℕ
+abbrev pub part_text : PrintedPart → List ℕ
 part_text part = text_of part.name part.number part.value
 
 -- A text is that of parts, one after another, whose values are all among these.
 pub record IsOfValues (values : List Grid) (text : List ℕ) : Type 0 where
-  pub parts : List Part
+  pub parts : List PrintedPart
   pub is : text ≡ flat_map part_text parts
-  pub told : AllByRecursion (λ (part : Part). IsAmong part.value values) parts
+  pub told : AllByRecursion (λ (part : PrintedPart). IsAmong part.value values) parts
 
 -- Whatever happens at a controller, it prints nothing but texts of values that were reported to it.
 abbrev pub PrintsWhatIsTold : Type 0

@@ -18,8 +18,8 @@ use Rattle.nim_place.specs.Directed.{Directed, orders_to}
 use Rattle.nim_place.specs.Extends.{is_live}
 use Rattle.nim_template.specs.declared.template.ControllerTemplate.{ControllerTemplate}
 use Rattle.nim_patch.specs.declared.patch.PatchCopy.{PatchCopy}
-use Rattle.nim_patch.specs.Patches.{copies_of, failing_in}
-use Rattle.nim_patch.specs.Uses.{StandsFor, Use, hit, is_hit, key_of, use_of}
+use Rattle.nim_patch.specs.Patches.{patch_copies, failing_in}
+use Rattle.nim_patch.specs.Uses.{StandsFor, Use, hit, is_hit, patch_key, use_of}
 use Rattle.nim_reuse.specs.declared.decided.Decided.{Decided}
 use Rattle.nim_reuse.specs.declared.decided.Decided.TheVariants.{Open, Recorded, Installed}
 use Rattle.nim_reuse.specs.declared.reused.Patched.{Patched}
@@ -87,13 +87,13 @@ patched_in_move c block = patched_at c.place c.live (instance_at c block) c.vers
 
 -- the copies that the instance needs before it
 abbrev pub copies_before : Controller → ℕ → List PatchCopy
-copies_before c block = copies_of c.versions (template_in c block).preconditions
+copies_before c block = patch_copies c.versions (template_in c block).preconditions
 
 -- the use that a patch is, behind the instance of a block
 abbrev pub use_with : ℕ → ℕ → List PatchCopy → Patched → List Use
 use_with previous block copies Not = []
-use_with previous block copies (Repeated number) = use_of (key_of previous block) number copies ∷ []
-use_with previous block copies (Made number) = use_of (key_of previous block) number copies ∷ []
+use_with previous block copies (Repeated number) = use_of (patch_key previous block) number copies ∷ []
+use_with previous block copies (Made number) = use_of (patch_key previous block) number copies ∷ []
 
 -- the use with what is pending, where it is an instance of a block that was recorded
 abbrev pub use_in : Controller → Pending → ℕ → List Use
@@ -116,9 +116,9 @@ hits_in (latest ∷ past) = (if is_hit latest.0 latest.1.patch.copies past then 
 abbrev pub IsByUses : ℕ → List Use → ℕ → ℕ → List PatchCopy → Patched → Type 0
 IsByUses failing past previous block copies Not = failing ≡ 0
 IsByUses failing past previous block copies (Repeated number) =
-    (1 ≤ failing) × (hit (key_of previous block) copies past ≡ Some number)
+    (1 ≤ failing) × (hit (patch_key previous block) copies past ≡ Some number)
 IsByUses failing past previous block copies (Made number) =
-    (1 ≤ failing) × (is_hit (key_of previous block) copies past ≡ false)
+    (1 ≤ failing) × (is_hit (patch_key previous block) copies past ≡ false)
 
 -- ---- what each move gives
 

@@ -26,8 +26,8 @@ told_at fetched place object version value =
     (slice_get fetched place) fetched
 
 -- a value is reported under a ticket
-abbrev pub told : Controller → ℕ → Object → ℕ → Grid → List Fetched
-told c ticket object version value =
+abbrev pub value_reported : Controller → ℕ → Object → ℕ → Grid → List Fetched
+value_reported c ticket object version value =
     if nat_le c.first ticket then told_at c.fetched (ticket - c.first) object version value else c.fetched
 
 -- whether a run is awaited of a worker
@@ -60,7 +60,7 @@ flight_after from position flight = filter is_in_flight (map (after_ran from pos
 -- A report of a live worker: a Value, a Ran and a Through count where they are of this epoch.
 abbrev pub reported : Controller → Worker → FromWorker → Controller
 reported c from (Value epoch ticket object version value) =
-    if epoch == c.epoch then record c { fetched = told c ticket object version value } else c
+    if epoch == c.epoch then record c { fetched = value_reported c ticket object version value } else c
 reported c from (Ran epoch position reads) =
     if epoch == c.epoch then record c { flight = flight_after from position c.flight } else c
 reported c from (Through epoch instance) =

@@ -9,12 +9,12 @@ use Rattle.nim_data.specs.declared.fault.DataFault.{DataFault}
 use Rattle.nim_data.specs.declared.fault.DataFault.TheVariants.{At, NoMemory}
 use Rattle.nim_data.specs.declared.wanted.Wanted.{Wanted}
 use Rattle.nim_data.specs.Fault.{told}
-use Rattle.nim_data.specs.Reading.{Gave, nothing, read_from}
-use Rattle.nim_data.specs.Wanted.{refusal_of, values_in}
+use Rattle.nim_data.specs.Reading.{GaveValues, nothing, read_from}
+use Rattle.nim_data.specs.Wanted.{data_file_refusal, values_in}
 use Rattle.nim_data.proofs.Kept.{judge, read_is}
 
 pub of_file : (ws : List Wanted) (bytes : List ℕ) → nat_lt 33554432 (length bytes) ≡ false
-    → read_from (line_count bytes + 1) ws nothing (lines_of bytes) ≡ judge (refusal_of ws bytes) (values_in bytes)
+    → read_from (line_count bytes + 1) ws nothing (lines_of bytes) ≡ judge (data_file_refusal ws bytes) (values_in bytes)
 of_file ws bytes short = read_is (line_count bytes + 1) ws (lines_of bytes) ∙ (rw short refl)
 
 pub refused_by : (o : Option Refusal) (values : List Grid) (refusal : Refusal) → judge o values ≡ Err refusal → o ≡ Some refusal
@@ -25,12 +25,12 @@ taken_by : (o : Option Refusal) (values all : List Grid) → judge o values ≡ 
 taken_by None values all is = let same : all ≡ values = cc in (refl, same)
 taken_by (Some other) values all is = cc
 
-pub gave_answers : (o : Option Refusal) (values : List Grid) (result : Result (List Grid) DataFault) → Gave (judge o values) result → Answers told o result
+pub gave_answers : (o : Option Refusal) (values : List Grid) (result : Result (List Grid) DataFault) → GaveValues (judge o values) result → Answers told o result
 gave_answers o values (Ok all) gave = (taken_by o values all gave).0
 gave_answers o values (Err (At refusal)) gave = refused_by o values refusal gave
 gave_answers o values (Err NoMemory) gave = tt
 
-pub gave_values : (o : Option Refusal) (values : List Grid) (result : Result (List Grid) DataFault) → Gave (judge o values) result
+pub gave_values : (o : Option Refusal) (values : List Grid) (result : Result (List Grid) DataFault) → GaveValues (judge o values) result
     → IfOk result (λ all. all ≡ values)
 gave_values o values (Ok all) gave = (taken_by o values all gave).1
 gave_values o values (Err fault) gave = tt

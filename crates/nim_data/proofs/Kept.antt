@@ -14,15 +14,15 @@ use Rattle.nim_data.specs.declared.reading.Last.TheVariants.{Kept, Passed}
 use Rattle.nim_data.specs.declared.reading.Reading.{Reading}
 use Rattle.nim_data.specs.declared.wanted.Wanted.{Wanted}
 use Rattle.nim_data.specs.Lines.{heading, is_bare, row}
-use Rattle.nim_data.specs.Parts.{Loaded, Loading, Part, data_after, data_from, data_rule, longer, parts_of, row_of, unless, with_heading, with_row as with_row_of}
+use Rattle.nim_data.specs.Parts.{Loaded, Loading, Part, data_after, data_from, data_rule, with_next_row, parts_loaded, last_part_row, unless, with_heading, with_row as with_row_of}
 use Rattle.nim_data.specs.Parts as part
-use Rattle.nim_data.specs.Reading.{after, after_row, begun, begun_by, closed, ended, given, lacks, line_rule, no_part, read_from, width_of}
-use Rattle.nim_data.specs.Wanted.{first_fault, header_of, next_of, parts_in, refusal_by, rule_at, values_of}
+use Rattle.nim_data.specs.Reading.{after_data_line, after_row, with_part_begun, begun_by, part_closed, ended, given, lacks, line_rule, no_part, read_from, last_width}
+use Rattle.nim_data.specs.Wanted.{first_fault, part_heading, next_wanted, parts_in, refusal_by, rule_at, values_of}
 
 -- ---- the headers so far
 
 abbrev planned_of : Part → ℕ × Heading
-planned_of p = (p.line, header_of p)
+planned_of p = (p.line, part_heading p)
 
 -- the last part, with the rows that its header says
 abbrev planned_last : Option Loading → List (ℕ × Heading)
@@ -35,18 +35,18 @@ planned parts last = map planned_of parts ++ planned_last last
 -- the first header that a rule refuses
 abbrev fault_in : List Wanted → List (ℕ × Heading) → Option Refusal
 fault_in ws [] = None
-fault_in ws (p ∷ ps) = option_or (refused p.0 (rule_at (next_of ws) p.1)) (fault_in (drop 1 ws) ps)
+fault_in ws (p ∷ ps) = option_or (refused p.0 (rule_at (next_wanted ws) p.1)) (fault_in (drop 1 ws) ps)
 
-drop_none : (k : ℕ) → next_of (drop k []) ≡ None
+drop_none : (k : ℕ) → next_wanted (drop k []) ≡ None
 drop_none zero = refl
 drop_none (suc k) = refl
 
-next_at : (ws : List Wanted) (k : ℕ) → next_of (drop k ws) ≡ slice_get ws k
+next_at : (ws : List Wanted) (k : ℕ) → next_wanted (drop k ws) ≡ slice_get ws k
 next_at [] k = drop_none k
 next_at (w ∷ ws) zero = refl
 next_at (w ∷ ws) (suc k) = next_at ws k
 
-drop_one : (k : ℕ) (ws : List Wanted) → next_of (drop k (drop 1 ws)) ≡ next_of (drop (suc k) ws)
+drop_one : (k : ℕ) (ws : List Wanted) → next_wanted (drop k (drop 1 ws)) ≡ next_wanted (drop (suc k) ws)
 drop_one k [] = drop_none k
 drop_one k (w ∷ ws) = refl
 
@@ -60,12 +60,12 @@ or_assoc (Some r) p q = refl
 
 -- one more header
 fault_snoc : (ws : List Wanted) (ps : List (ℕ × Heading)) (p : ℕ × Heading)
-    → fault_in ws (ps ++ p ∷ []) ≡ option_or (fault_in ws ps) (refused p.0 (rule_at (next_of (drop (length ps) ws)) p.1))
-fault_snoc ws [] p = or_none (refused p.0 (rule_at (next_of ws) p.1))
+    → fault_in ws (ps ++ p ∷ []) ≡ option_or (fault_in ws ps) (refused p.0 (rule_at (next_wanted (drop (length ps) ws)) p.1))
+fault_snoc ws [] p = or_none (refused p.0 (rule_at (next_wanted ws) p.1))
 fault_snoc ws (q ∷ ps) p =
-    let first = refused q.0 (rule_at (next_of ws) q.1) in
+    let first = refused q.0 (rule_at (next_wanted ws) q.1) in
     ap (option_or first) (fault_snoc (drop 1 ws) ps p)
-    ∙ or_assoc first (fault_in (drop 1 ws) ps) (refused p.0 (rule_at (next_of (drop (length ps) (drop 1 ws))) p.1))
+    ∙ or_assoc first (fault_in (drop 1 ws) ps) (refused p.0 (rule_at (next_wanted (drop (length ps) (drop 1 ws))) p.1))
     ∙ ap (λ (w : Option Wanted). option_or (option_or first (fault_in (drop 1 ws) ps)) (refused p.0 (rule_at w p.1))) (drop_one (length ps) ws)
 
 -- ---- what is kept
@@ -100,7 +100,7 @@ same_lacks None parts (Some l) = refl
 same_lacks (Some f) parts None = refl
 same_lacks (Some f) parts (Some l) = lt_sub (length l.part.value.rows) l.wanted
 
-same_width : (f : Option Refusal) (parts : List Part) (l : Loading) → width_of (kept_by f parts (Some l)).last ≡ l.part.value.width
+same_width : (f : Option Refusal) (parts : List Part) (l : Loading) → last_width (kept_by f parts (Some l)).last ≡ l.part.value.width
 same_width None parts l = refl
 same_width (Some f) parts l = refl
 
@@ -125,7 +125,7 @@ rule_same f parts (Some l) text =
 -- ---- one more line
 
 row_kept : (f : Option Refusal) (parts : List Part) (l : Loading) (cells : List ℤ)
-    → after_row (kept_by f parts (Some l)) (Some cells) ≡ kept_by f parts (Some (longer l cells))
+    → after_row (kept_by f parts (Some l)) (Some cells) ≡ kept_by f parts (Some (with_next_row l cells))
 row_kept None parts l cells = refl
 row_kept (Some f) parts l cells =
     let less : (l.wanted - length l.part.value.rows) - 1 ≡ l.wanted - length (l.part.value.rows ++ cells ∷ []) =
@@ -134,7 +134,7 @@ row_kept (Some f) parts l cells =
 
 -- the parts that are closed, all of whose rows have come
 full : (parts : List Part) (last : Option Loading) → part.lacks last ≡ false → Within last
-    → map planned_of (parts_of (record { parts = parts; last = last })) ≡ planned parts last
+    → map planned_of (parts_loaded (record { parts = parts; last = last })) ≡ planned parts last
 full parts None closed within = sym (append-nil (map planned_of parts))
 full parts (Some l) closed within =
     let all : length l.part.value.rows ≡ l.wanted = grind (arith, nat_tests) in
@@ -143,13 +143,13 @@ full parts (Some l) closed within =
 
 -- the values of the parts that are closed
 closed_kept : (parts : List Part) (last : Option Loading)
-    → closed (kept_by None parts last) ≡ record { values = values_of (parts_of (record { parts = parts; last = last })); last = no_part; refused = None }
+    → part_closed (kept_by None parts last) ≡ record { values = values_of (parts_loaded (record { parts = parts; last = last })); last = no_part; refused = None }
 closed_kept parts None = refl
 closed_kept parts (Some l) =
     ap (λ (values : List Grid). record { values = values; last = no_part; refused = None }) (sym (map-append (λ (p : Part). p.value) parts (l.part ∷ [])))
 
 closed_passed : (f : Refusal) (parts : List Part) (last : Option Loading)
-    → closed (kept_by (Some f) parts last) ≡ record { values = []; last = no_part; refused = Some f }
+    → part_closed (kept_by (Some f) parts last) ≡ record { values = []; last = no_part; refused = Some f }
 closed_passed f parts None = refl
 closed_passed f parts (Some l) = refl
 
@@ -160,44 +160,44 @@ abbrev passing : Refusal → Heading → ℕ → Reading
 passing f h n = record { values = []; last = Passed n h.width; refused = Some f }
 
 begins : (ps : List Part) (number : ℕ) (h : Heading) (rule : Option ℕ)
-    → begun_by rule (record { values = values_of ps; last = no_part; refused = None }) number h ≡ kept_by (refused number rule) ps (Some (part.begun number h))
+    → begun_by rule (record { values = values_of ps; last = no_part; refused = None }) number h ≡ kept_by (refused number rule) ps (Some (part.part_begun number h))
 begins ps number h None = refl
 begins ps number h (Some rule) = ap (passing (record { line = number; rule = rule }) h) (sym (no_less h.rows))
 
 begun_kept : (f : Option Refusal) (ws : List Wanted) (parts : List Part) (last : Option Loading) (number : ℕ) (h : Heading)
-    → begun ws (closed (kept_by f parts last)) number h
-    ≡ kept_by (option_or f (refused number (rule_at (next_of (drop (length (parts_of (record { parts = parts; last = last }))) ws)) h)))
-    (parts_of (record { parts = parts; last = last })) (Some (part.begun number h))
+    → with_part_begun ws (part_closed (kept_by f parts last)) number h
+    ≡ kept_by (option_or f (refused number (rule_at (next_wanted (drop (length (parts_loaded (record { parts = parts; last = last }))) ws)) h)))
+    (parts_loaded (record { parts = parts; last = last })) (Some (part.part_begun number h))
 begun_kept None ws parts last number h =
-    let ps : List Part = parts_of (record { parts = parts; last = last }) in
-    ap (λ (r : Reading). begun ws r number h) (closed_kept parts last)
+    let ps : List Part = parts_loaded (record { parts = parts; last = last }) in
+    ap (λ (r : Reading). with_part_begun ws r number h) (closed_kept parts last)
     ∙ ap (λ (n : ℕ). begun_by (rule_at (slice_get ws n) h) (record { values = values_of ps; last = no_part; refused = None }) number h)
     (length-map ps (λ (p : Part). p.value))
     ∙ ap (λ (w : Option Wanted). begun_by (rule_at w h) (record { values = values_of ps; last = no_part; refused = None }) number h)
     (sym (next_at ws (length ps)))
-    ∙ begins ps number h (rule_at (next_of (drop (length ps) ws)) h)
+    ∙ begins ps number h (rule_at (next_wanted (drop (length ps) ws)) h)
 begun_kept (Some f) ws parts last number h =
-    ap (λ (r : Reading). begun ws r number h) (closed_passed f parts last) ∙ ap (passing f h) (sym (no_less h.rows))
+    ap (λ (r : Reading). with_part_begun ws r number h) (closed_passed f parts last) ∙ ap (passing f h) (sym (no_less h.rows))
 
 heading_kept : (ws : List Wanted) (parts : List Part) (last : Option Loading) (number : ℕ) (h : Heading) → part.lacks last ≡ false → Within last
-    → begun ws (closed (kept ws (record { parts = parts; last = last }))) number h
-    ≡ kept ws (record { parts = parts_of (record { parts = parts; last = last }); last = Some (part.begun number h) })
+    → with_part_begun ws (part_closed (kept ws (record { parts = parts; last = last }))) number h
+    ≡ kept ws (record { parts = parts_loaded (record { parts = parts; last = last }); last = Some (part.part_begun number h) })
 heading_kept ws parts last number h closed_all within =
-    let ps : List Part = parts_of (record { parts = parts; last = last }) in
+    let ps : List Part = parts_loaded (record { parts = parts; last = last }) in
     let before : map planned_of ps ≡ planned parts last = full parts last closed_all within in
     let count : length (planned parts last) ≡ length ps = sym (ap (λ (xs : List (ℕ × Heading)). length xs) before) ∙ length-map ps planned_of in
     let now : fault_in ws (map planned_of ps ++ (number, h) ∷ []) ≡ option_or (fault_in ws (planned parts last))
-    (refused number (rule_at (next_of (drop (length ps) ws)) h)) =
+    (refused number (rule_at (next_wanted (drop (length ps) ws)) h)) =
     ap (λ (xs : List (ℕ × Heading)). fault_in ws (xs ++ (number, h) ∷ [])) before
     ∙ fault_snoc ws (planned parts last) (number, h)
-    ∙ ap (λ (n : ℕ). option_or (fault_in ws (planned parts last)) (refused number (rule_at (next_of (drop n ws)) h))) count in
+    ∙ ap (λ (n : ℕ). option_or (fault_in ws (planned parts last)) (refused number (rule_at (next_wanted (drop n ws)) h))) count in
     begun_kept (fault_in ws (planned parts last)) ws parts last number h
-    ∙ ap (λ (f : Option Refusal). kept_by f ps (Some (part.begun number h))) (sym now)
+    ∙ ap (λ (f : Option Refusal). kept_by f ps (Some (part.part_begun number h))) (sym now)
 
 -- ---- the state behind a line that no rule refuses
 
 record Follows (ws : List Wanted) (st : Loaded) (number : ℕ) (text : List ℕ) : Type 0 where
-  same : after ws (kept ws st) number text ≡ kept ws (data_after st number text)
+  same : after_data_line ws (kept ws st) number text ≡ kept ws (data_after st number text)
   within : Within (data_after st number text).last
 
 none_of : (o : Option ℕ) (x : ℕ) → Some x ≡ o → o ≡ None → ⊥
@@ -207,7 +207,7 @@ none_of (Some y) x is none = cc
 follows_row : (ws : List Wanted) (parts : List Part) (l : Loading) (number : ℕ) (text : List ℕ) → is_bare text ≡ false → part.lacks (Some l) ≡ true
     → (cells : Option (List ℤ)) → row l.part.value.width text ≡ cells → data_rule (record { parts = parts; last = Some l }) text ≡ None → Within (Some l)
     → Follows ws (record { parts = parts; last = Some l }) number text
-unfolding data_rule data_after after
+unfolding data_rule data_after after_data_line
 follows_row ws parts l number text some lacking None read sound within = absurd (let no : Some 72 ≡ None = (rw (some, lacking, read) at sound) in cc)
 follows_row ws parts l number text some lacking (Some cells) read sound within =
     let f : Option Refusal = fault_in ws (planned parts (Some l)) in
@@ -219,7 +219,7 @@ follows_row ws parts l number text some lacking (Some cells) read sound within =
 follows_heading : (ws : List Wanted) (parts : List Part) (last : Option Loading) (number : ℕ) (text : List ℕ) → is_bare text ≡ false → part.lacks last ≡ false
     → (h : Option Heading) → heading text ≡ h → data_rule (record { parts = parts; last = last }) text ≡ None → Within last
     → Follows ws (record { parts = parts; last = last }) number text
-unfolding data_rule data_after after
+unfolding data_rule data_after after_data_line
 follows_heading ws parts last number text some closed_all None read sound within =
     absurd (let no : Some 71 ≡ None = (rw (some, closed_all, read) at sound) in cc)
 follows_heading ws parts last number text some closed_all (Some h) read sound within =
@@ -229,7 +229,7 @@ follows_heading ws parts last number text some closed_all (Some h) read sound wi
     }
 
 follows_bare : (ws : List Wanted) (st : Loaded) (number : ℕ) (text : List ℕ) → is_bare text ≡ true → Within st.last → Follows ws st number text
-unfolding data_after after
+unfolding data_after after_data_line
 follows_bare ws st number text bare within = record { same = rw bare refl; within = rw bare within }
 
 follows : (ws : List Wanted) (parts : List Part) (last : Option Loading) (number : ℕ) (text : List ℕ)
@@ -281,7 +281,7 @@ first_is : (end : ℕ) (ws : List Wanted) (parts : List Part) → first_fault en
 first_is end [] [] = refl
 first_is end (w ∷ ws) [] = let some : nat_lt 0 (length (w ∷ ws)) ≡ true = grind (arith, nat_tests) in rw some refl
 first_is end ws (p ∷ parts) =
-    let first = refused p.line (rule_at (next_of ws) (header_of p)) in
+    let first = refused p.line (rule_at (next_wanted ws) (part_heading p)) in
     ap (option_or first) (first_is end (drop 1 ws) parts)
     ∙ or_assoc first (fault_in (drop 1 ws) (map planned_of parts)) (missing end (drop 1 ws) (length parts))
     ∙ ap (λ (t : Bool). option_or (option_or first (fault_in (drop 1 ws) (map planned_of parts))) (cond t (Some (record { line = end; rule = 73 })) None))
@@ -293,11 +293,11 @@ given_is true end values = refl
 given_is false end values = refl
 
 gives : (f : Option Refusal) (end : ℕ) (ws : List Wanted) (parts : List Part) (last : Option Loading)
-    → given end ws (closed (kept_by f parts last))
-    ≡ judge (option_or f (missing end ws (length (parts_of (record { parts = parts; last = last })))))
-    (values_of (parts_of (record { parts = parts; last = last })))
+    → given end ws (part_closed (kept_by f parts last))
+    ≡ judge (option_or f (missing end ws (length (parts_loaded (record { parts = parts; last = last })))))
+    (values_of (parts_loaded (record { parts = parts; last = last })))
 gives None end ws parts last =
-    let ps : List Part = parts_of (record { parts = parts; last = last }) in
+    let ps : List Part = parts_loaded (record { parts = parts; last = last }) in
     ap (given end ws) (closed_kept parts last)
     ∙ ap (λ (n : ℕ). cond (nat_lt n (length ws)) (Err (record { line = end; rule = 73 })) (Ok (values_of ps))) (length-map ps (λ (p : Part). p.value))
     ∙ given_is (nat_lt (length ps) (length ws)) end (values_of ps)
@@ -307,7 +307,7 @@ ended_is : (end : ℕ) (ws : List Wanted) (parts : List Part) (last : Option Loa
     → ended end ws (kept ws (record { parts = parts; last = last })) ≡ judged end ws (data_from end (record { parts = parts; last = last }) [])
 ended_is end ws parts last within =
     let f : Option Refusal = fault_in ws (planned parts last) in
-    let ps : List Part = parts_of (record { parts = parts; last = last }) in
+    let ps : List Part = parts_loaded (record { parts = parts; last = last }) in
     elim (part.lacks last) as (λ t. part.lacks last ≡ t → ended end ws (kept ws (record { parts = parts; last = last }))
     ≡ judged end ws (data_from end (record { parts = parts; last = last }) [])) [
       | true ↦ λ lacking. rw (same_lacks f parts last, lacking) refl
@@ -326,9 +326,9 @@ reads_is end ws parts last (line ∷ rest) within =
     let st : Loaded = record { parts = parts; last = last } in
     let next : Loaded = data_after st line.number line.bytes in
     let same : line_rule (kept ws st) line.bytes ≡ data_rule st line.bytes = rule_same (fault_in ws (planned parts last)) parts last line.bytes in
-    ap (λ (o : Option ℕ). unless (refused line.number o) (read_from end ws (after ws (kept ws st) line.number line.bytes) rest)) same
+    ap (λ (o : Option ℕ). unless (refused line.number o) (read_from end ws (after_data_line ws (kept ws st) line.number line.bytes) rest)) same
     ∙ elim (data_rule st line.bytes) as (λ (o : Option ℕ). data_rule st line.bytes ≡ o
-    → unless (refused line.number o) (read_from end ws (after ws (kept ws st) line.number line.bytes) rest)
+    → unless (refused line.number o) (read_from end ws (after_data_line ws (kept ws st) line.number line.bytes) rest)
     ≡ judged end ws (unless (refused line.number o) (data_from end next rest))) [
       | None ↦ λ sound.
           let on = follows ws parts last line.number line.bytes sound within in

@@ -5,7 +5,7 @@ use Rattle.nim_lex.specs.Source.{Line}
 use Rattle.nim_data.specs.declared.reading.Reading.{Reading}
 use Rattle.nim_data.specs.declared.wanted.Wanted.{Wanted}
 use Rattle.nim_data.specs.Parts.{Loaded, data_after, data_from, data_rule}
-use Rattle.nim_data.specs.Reading.{after, line_rule, read_from}
+use Rattle.nim_data.specs.Reading.{after_data_line, line_rule, read_from}
 
 -- a line that a rule refuses, and one that none does
 pub refused_here : (end : ℕ) (ws : List Wanted) (r : Reading) (line : Line) (rest : List Line) (rule : ℕ) → line_rule r line.bytes ≡ Some rule
@@ -13,7 +13,7 @@ pub refused_here : (end : ℕ) (ws : List Wanted) (r : Reading) (line : Line) (r
 refused_here end ws r line rest rule broken = rw broken refl
 
 pub passed_here : (end : ℕ) (ws : List Wanted) (r : Reading) (line : Line) (rest : List Line) → line_rule r line.bytes ≡ None
-    → read_from end ws r (line ∷ rest) ≡ read_from end ws (after ws r line.number line.bytes) rest
+    → read_from end ws r (line ∷ rest) ≡ read_from end ws (after_data_line ws r line.number line.bytes) rest
 passed_here end ws r line rest sound = rw sound refl
 
 -- the same of the parts

@@ -3,7 +3,7 @@ use Rattle.std.specs.Prelude.{ℕ, zero, suc, ◌==◌, nat_le, nat_lt, ◌&&◌
 use Rattle.std.specs.List.{list_all, prefix_len}
 use Rattle.std.specs.Char.{is_ascii_alphabetic, is_ascii_digit}
 use Rattle.nim_lex.specs.Bytes.{is_blank, is_name_byte}
-use Rattle.nim_lex.specs.Numbers.{in_range, number_of, signed}
+use Rattle.nim_lex.specs.Numbers.{in_range, decimal_value, signed}
 use Rattle.nim_data.specs.declared.lines.Heading.{Heading}
 
 -- a byte that isn't a space, a tab or a carriage return
@@ -19,8 +19,8 @@ unfoldable pub word : List ℕ → List ℕ
 word text = take (prefix_len is_word_byte (unblanked text)) (unblanked text)
 
 -- the text behind its first word
-unfoldable pub behind : List ℕ → List ℕ
-behind text = drop (prefix_len is_word_byte (unblanked text)) (unblanked text)
+unfoldable pub behind_first_word : List ℕ → List ℕ
+behind_first_word text = drop (prefix_len is_word_byte (unblanked text)) (unblanked text)
 
 -- a text without words
 abbrev pub is_bare : List ℕ → Bool
@@ -37,12 +37,12 @@ is_numeral text = not (length text == 0) && list_all is_ascii_digit text
 
 -- digits, of a number that is at most this
 unfoldable pub bounded : ℕ → List ℕ → Option ℕ
-bounded most digits = if is_numeral digits && nat_le (number_of digits) most then Some (number_of digits) else None
+bounded most digits = if is_numeral digits && nat_le (decimal_value digits) most then Some (decimal_value digits) else None
 
 -- digits behind a sign, of a number in the range
 unfoldable pub whole : Bool → List ℕ → Option ℤ
-whole negative digits = if is_numeral digits && in_range negative (number_of digits)
-    then Some (signed negative (number_of digits)) else None
+whole negative digits = if is_numeral digits && in_range negative (decimal_value digits)
+    then Some (signed negative (decimal_value digits)) else None
 
 -- an optional `-` directly followed by digits
 unfoldable pub cell : List ℕ → Option ℤ
@@ -52,7 +52,7 @@ cell (b ∷ rest) = if b == 45 then whole true rest else whole false (b ∷ rest
 -- so many cells, and no word behind them
 unfoldable pub cells_from : ℕ → List ℤ → List ℕ → Option (List ℤ)
 cells_from zero found text = if is_bare text then Some found else None
-cells_from (suc n) found text = then_read (cell (word text)) (λ x. cells_from n (found ++ x ∷ []) (behind text))
+cells_from (suc n) found text = then_read (cell (word text)) (λ x. cells_from n (found ++ x ∷ []) (behind_first_word text))
 
 -- a row of a width
 abbrev pub row : ℕ → List ℕ → Option (List ℤ)
@@ -71,7 +71,7 @@ heading_of name rest part rows width =
 -- NAME PART ROWS WIDTH, and no word behind them
 unfoldable pub heading : List ℕ → Option Heading
 heading text =
-    then_read (bounded 63 (word (behind text))) (λ part.
-    then_read (bounded 65536 (word (behind (behind text)))) (λ rows.
-    then_read (bounded 65536 (word (behind (behind (behind text))))) (λ width.
-    heading_of (word text) (behind (behind (behind (behind text)))) part rows width)))
+    then_read (bounded 63 (word (behind_first_word text))) (λ part.
+    then_read (bounded 65536 (word (behind_first_word (behind_first_word text)))) (λ rows.
+    then_read (bounded 65536 (word (behind_first_word (behind_first_word (behind_first_word text))))) (λ width.
+    heading_of (word text) (behind_first_word (behind_first_word (behind_first_word (behind_first_word text)))) part rows width)))

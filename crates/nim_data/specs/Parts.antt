@@ -36,33 +36,33 @@ lacks None = false
 lacks (Some l) = nat_lt (length l.part.value.rows) l.wanted
 
 -- all the parts
-abbrev pub parts_of : Loaded → List Part
-parts_of st = all_parts st.parts st.last where
+abbrev pub parts_loaded : Loaded → List Part
+parts_loaded st = all_parts st.parts st.last where
   all_parts : List Part → Option Loading → List Part
   all_parts parts None = parts
   all_parts parts (Some l) = parts ++ l.part ∷ []
 
 -- a part without rows yet
-abbrev pub begun : ℕ → Heading → Loading
-begun line h = record {
+abbrev pub part_begun : ℕ → Heading → Loading
+part_begun line h = record {
   wanted = h.rows;
   part = record { line = line; name = h.name; part = h.part; value = record { width = h.width; rows = [] } };
 }
 
 -- a part with one more row
-abbrev pub longer : Loading → List ℤ → Loading
-longer l cells =
+abbrev pub with_next_row : Loading → List ℤ → Loading
+with_next_row l cells =
     record l { part = record l.part { value = record l.part.value { rows = l.part.value.rows ++ cells ∷ [] } } }
 
 -- a part with the row that was read, if one was
 abbrev pub longer_by : Loading → Option (List ℤ) → Option Loading
 longer_by l None = None
-longer_by l (Some cells) = Some (longer l cells)
+longer_by l (Some cells) = Some (with_next_row l cells)
 
 -- the row of the last part that a line is
-abbrev pub row_of : Option Loading → List ℕ → Option (List ℤ)
-row_of None text = None
-row_of (Some l) text = row l.part.value.width text
+abbrev pub last_part_row : Option Loading → List ℕ → Option (List ℤ)
+last_part_row None text = None
+last_part_row (Some l) text = row l.part.value.width text
 
 -- ---- the rules
 
@@ -72,7 +72,7 @@ rule_71 st text = not (lacks st.last) && is_none (heading text)
 
 -- a row line that isn't as many numbers in the range as the part is wide
 abbrev pub rule_72 : Loaded → List ℕ → Bool
-rule_72 st text = lacks st.last && is_none (row_of st.last text)
+rule_72 st text = lacks st.last && is_none (last_part_row st.last text)
 
 -- the rule that refuses a line; one without words is skipped
 unfoldable pub data_rule : Loaded → List ℕ → Option ℕ
@@ -83,18 +83,18 @@ data_rule st text =
 -- after one more line
 abbrev pub with_heading : Loaded → ℕ → Option Heading → Loaded
 with_heading st line None = st
-with_heading st line (Some h) = record { parts = parts_of st; last = Some (begun line h) }
+with_heading st line (Some h) = record { parts = parts_loaded st; last = Some (part_begun line h) }
 
 -- after a row of the last part; where none was read, as before
 abbrev pub with_row : Loaded → Option Loading → Option (List ℤ) → Loaded
-with_row st (Some l) (Some cells) = record st { last = Some (longer l cells) }
+with_row st (Some l) (Some cells) = record st { last = Some (with_next_row l cells) }
 with_row st _ _ = st
 
 -- after one more line, which is a row where the last part lacks one, and else a header
 unfoldable pub data_after : Loaded → ℕ → List ℕ → Loaded
 data_after st line text =
     if is_bare text then st
-    else (if lacks st.last then with_row st st.last (row_of st.last text) else with_heading st line (heading text))
+    else (if lacks st.last then with_row st st.last (last_part_row st.last text) else with_heading st line (heading text))
 
 -- ---- a data file
 
@@ -105,7 +105,7 @@ unless None outcome = outcome
 
 -- a file that ends before a row has the line behind the last
 abbrev pub data_from : ℕ → Loaded → List Line → Result (List Part) Refusal
-data_from end st [] = if lacks st.last then Err (record { line = end; rule = 72 }) else Ok (parts_of st)
+data_from end st [] = if lacks st.last then Err (record { line = end; rule = 72 }) else Ok (parts_loaded st)
 data_from end st (line ∷ rest) =
     unless (refused line.number (data_rule st line.bytes)) (data_from end (data_after st line.number line.bytes) rest)
 

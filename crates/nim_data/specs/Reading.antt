@@ -29,9 +29,9 @@ lacks (Kept wanted value) = nat_lt (length value.rows) wanted
 lacks (Passed left width) = nat_lt 0 left
 
 -- how many cells a row of the last part has
-abbrev pub width_of : Last → ℕ
-width_of (Kept wanted value) = value.width
-width_of (Passed left width) = width
+abbrev pub last_width : Last → ℕ
+last_width (Kept wanted value) = value.width
+last_width (Passed left width) = width
 
 -- the last part with one more row, which is kept, or only counted off where the part isn't kept
 abbrev pub with_row : List ℤ → Last → Last
@@ -52,7 +52,7 @@ heading_rule h = if is_none h then Some 71 else None
 unfoldable pub line_rule : Reading → List ℕ → Option ℕ
 line_rule r text =
     if is_bare text then None
-    else (if lacks r.last then row_rule (row (width_of r.last) text) else heading_rule (heading text))
+    else (if lacks r.last then row_rule (row (last_width r.last) text) else heading_rule (heading text))
 
 -- after a row of the last part; where none was read, as before
 abbrev pub after_row : Reading → Option (List ℤ) → Reading
@@ -60,39 +60,39 @@ after_row r None = r
 after_row r (Some cells) = record r { last = with_row cells r.last }
 
 -- the last part behind the others, if it is kept
-abbrev pub closed : Reading → Reading
-closed r = close r.last where
+abbrev pub part_closed : Reading → Reading
+part_closed r = close r.last where
   close : Last → Reading
   close (Kept wanted value) = record r { values = r.values ++ value ∷ []; last = no_part }
   close (Passed left width) = record r { last = no_part }
 
 -- a part that isn't kept: as many rows of a width are to come as its header says
-abbrev pub passed : Heading → Last
-passed h = Passed h.rows h.width
+abbrev pub part_passed : Heading → Last
+part_passed h = Passed h.rows h.width
 
 -- a part that is kept where no rule refuses its header
 abbrev pub begun_by : Option ℕ → Reading → ℕ → Heading → Reading
 begun_by None r line h = record r { last = Kept h.rows (record { width = h.width; rows = [] }) }
 begun_by (Some rule) r line h =
-    record { values = []; last = passed h; refused = Some (record { line = line; rule = rule }) }
+    record { values = []; last = part_passed h; refused = Some (record { line = line; rule = rule }) }
 
 -- a part begins behind those that are closed
-abbrev pub begun : List Wanted → Reading → ℕ → Heading → Reading
-begun ws r line h = begin r.refused where
+abbrev pub with_part_begun : List Wanted → Reading → ℕ → Heading → Reading
+with_part_begun ws r line h = begin r.refused where
   begin : Option Refusal → Reading
   begin None = begun_by (rule_at (slice_get ws (length r.values)) h) r line h
-  begin (Some refusal) = record r { last = passed h }
+  begin (Some refusal) = record r { last = part_passed h }
 
 -- after a header, which ends the part before it; where none was read, as before
 abbrev pub after_heading : List Wanted → Reading → ℕ → Option Heading → Reading
 after_heading ws r line None = r
-after_heading ws r line (Some h) = begun ws (closed r) line h
+after_heading ws r line (Some h) = with_part_begun ws (part_closed r) line h
 
 -- after one more line
-unfoldable pub after : List Wanted → Reading → ℕ → List ℕ → Reading
-after ws r line text =
+unfoldable pub after_data_line : List Wanted → Reading → ℕ → List ℕ → Reading
+after_data_line ws r line text =
     if is_bare text then r
-    else (if lacks r.last then after_row r (row (width_of r.last) text) else after_heading ws r line (heading text))
+    else (if lacks r.last then after_row r (row (last_width r.last) text) else after_heading ws r line (heading text))
 
 -- ---- a file
 
@@ -105,16 +105,16 @@ given end ws r = give r.refused where
 
 -- what a file gives that ends here, which is refused where the last part lacks a row
 abbrev pub ended : ℕ → List Wanted → Reading → Result (List Grid) Refusal
-ended end ws r = if lacks r.last then Err (record { line = end; rule = 72 }) else given end ws (closed r)
+ended end ws r = if lacks r.last then Err (record { line = end; rule = 72 }) else given end ws (part_closed r)
 
 -- what the lines give that are left
 abbrev pub read_from : ℕ → List Wanted → Reading → List Line → Result (List Grid) Refusal
 read_from end ws r [] = ended end ws r
 read_from end ws r (line ∷ rest) =
-    unless (refused line.number (line_rule r line.bytes)) (read_from end ws (after ws r line.number line.bytes) rest)
+    unless (refused line.number (line_rule r line.bytes)) (read_from end ws (after_data_line ws r line.number line.bytes) rest)
 
 -- what a call gave is this, unless memory was refused
-abbrev pub Gave : Result (List Grid) Refusal → Result (List Grid) DataFault → Type 0
-Gave outcome (Ok values) = outcome ≡ Ok values
-Gave outcome (Err (At refusal)) = outcome ≡ Err refusal
-Gave outcome (Err NoMemory) = Unit {0}
+abbrev pub GaveValues : Result (List Grid) Refusal → Result (List Grid) DataFault → Type 0
+GaveValues outcome (Ok values) = outcome ≡ Ok values
+GaveValues outcome (Err (At refusal)) = outcome ≡ Err refusal
+GaveValues outcome (Err NoMemory) = Unit {0}

@@ -36,13 +36,13 @@ rule_at (Some w) h = header_rule w h
 -- ---- the parts of a file
 
 -- the header of a part that has all its rows
-abbrev pub header_of : Part → Heading
-header_of part = record { name = part.name; part = part.part; rows = length part.value.rows; width = part.value.width }
+abbrev pub part_heading : Part → Heading
+part_heading part = record { name = part.name; part = part.part; rows = length part.value.rows; width = part.value.width }
 
 -- the part that is to be loaded next, if one is left
-abbrev pub next_of : List Wanted → Option Wanted
-next_of [] = None
-next_of (w ∷ ws) = Some w
+abbrev pub next_wanted : List Wanted → Option Wanted
+next_wanted [] = None
+next_wanted (w ∷ ws) = Some w
 
 -- The first part that a rule refuses, where these parts are to be loaded. One that is missing is refused at the line
 -- behind the last.
@@ -50,7 +50,7 @@ abbrev pub first_fault : ℕ → List Wanted → List Part → Option Refusal
 first_fault end [] [] = None
 first_fault end (w ∷ ws) [] = Some (record { line = end; rule = 73 })
 first_fault end ws (part ∷ parts) =
-    option_or (refused part.line (rule_at (next_of ws) (header_of part))) (first_fault end (drop 1 ws) parts)
+    option_or (refused part.line (rule_at (next_wanted ws) (part_heading part))) (first_fault end (drop 1 ws) parts)
 
 -- the lines of the file come first, then its parts
 abbrev pub refusal_by : ℕ → List Wanted → Result (List Part) Refusal → Option Refusal
@@ -58,8 +58,8 @@ refusal_by end ws (Err refusal) = Some refusal
 refusal_by end ws (Ok parts) = first_fault end ws parts
 
 -- why a data file is refused where these parts are to be loaded, if it is
-abbrev pub refusal_of : List Wanted → List ℕ → Option Refusal
-refusal_of ws bytes = refusal_by (line_count bytes + 1) ws (data_of bytes)
+abbrev pub data_file_refusal : List Wanted → List ℕ → Option Refusal
+data_file_refusal ws bytes = refusal_by (line_count bytes + 1) ws (data_of bytes)
 
 -- the values of parts, in order
 abbrev pub values_of : List Part → List Grid

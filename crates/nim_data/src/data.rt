@@ -1,8 +1,8 @@
 ghost use Rattle.std.specs.Prelude.{◌≡◌, IfOk};
 ghost use Rattle.nim_lex.specs.Refusals.{Answers};
 ghost use Rattle.nim_data.specs.Fault.{told};
-ghost use Rattle.nim_data.specs.Reading.{Gave, ended};
-ghost use Rattle.nim_data.specs.Wanted.{refusal_of, values_in};
+ghost use Rattle.nim_data.specs.Reading.{GaveValues, ended};
+ghost use Rattle.nim_data.specs.Wanted.{data_file_refusal, values_in};
 
 use crate::reading::{NO_ROW, Reading};
 use crate::wanted::NOT_NEXT;
@@ -24,7 +24,7 @@ const TOO_LONG: u8 = 70;
 /// line: the form of all lines comes first. Rules 70 to 72 are defined in `specs/Parts.antt`, 73 to 75 in
 /// `specs/Wanted.antt`. Any bytes are taken. Want of memory may come in place of any answer.
 pub fn read_data(alloc: Global, bytes: &[u8], wanted: &[Wanted]) -> Result<Seq<Value>, DataFault>
-    ensures answers { Answers told (refusal_of wanted.now bytes.now) result }
+    ensures answers { Answers told (data_file_refusal wanted.now bytes.now) result }
     ensures values { IfOk result (λ values. values ≡ values_in bytes.now) }
 {
     if bytes.len() > MOST_BYTES {
@@ -52,7 +52,7 @@ pub fn read_data(alloc: Global, bytes: &[u8], wanted: &[Wanted]) -> Result<Seq<V
 
 /// What the lines give where the file ends behind them.
 fn ended(reading: Reading, wanted: &[Wanted], end: u32) -> Result<Seq<Value>, DataFault>
-    ensures { Gave (ended end wanted.now reading) result }
+    ensures { GaveValues (ended end wanted.now reading) result }
 {
     if reading.lacks() {
         return Err(DataFault::At(Refusal {

@@ -107,7 +107,7 @@ fn word_len(text: &[u8]) -> usize
 #[tactic(auto, unfolding(crate::specs::Lines::word, crate::specs::Lines::behind))]
 fn next_word(text: &[u8]) -> (&[u8], &[u8])
     ensures word { result.0.now ≡ spec.word text.now }
-    ensures behind { result.1.now ≡ spec.behind text.now }
+    ensures behind { result.1.now ≡ spec.behind_first_word text.now }
 {
     let (_, text) = text.split_at(blanks_len(text));
     text.split_at(word_len(text))

@@ -49,7 +49,7 @@ impl Last {
     }
 
     fn width(&self) -> u32
-        ensures { result ≡ spec.width_of self.now }
+        ensures { result ≡ spec.last_width self.now }
     {
         match self {
             Last::Kept { value, .. } => value.width(),
@@ -58,7 +58,7 @@ impl Last {
     }
 
     fn push(&mut self, row: &[i64]) -> Result<(), NoMemory>
-        requires width { length row.now ≡ spec.width_of self.old }
+        requires width { length row.now ≡ spec.last_width self.old }
         requires lacks { spec.lacks self.old ≡ true }
         ensures { OnOk result (self.new ≡ spec.with_row row.now self.old) }
     {
@@ -97,7 +97,7 @@ impl Reading {
 
     /// Puts the last part, if it is kept, behind the others.
     pub fn close(&mut self) -> Result<(), NoMemory>
-        ensures { OnOk result (self.new ≡ spec.closed self.old) }
+        ensures { OnOk result (self.new ≡ spec.part_closed self.old) }
     {
         let last = mem::replace(&mut self.last, Last::Passed { left: 0, width: 1 });
         if let Last::Kept { value, .. } = last {
@@ -117,7 +117,7 @@ impl Reading {
         row: &mut Vec<i64>,
     ) -> Result<Option<u8>, NoMemory>
         ensures rule { IfOk result (λ rule. rule ≡ spec.line_rule self.old line.now) }
-        ensures next { IfOk result (λ rule. rule ≡ None → self.new ≡ spec.after wanted.now self.old number line.now) }
+        ensures next { IfOk result (λ rule. rule ≡ None → self.new ≡ spec.after_data_line wanted.now self.old number line.now) }
     {
         if is_bare(line) {
             return Ok(None);
@@ -131,9 +131,9 @@ impl Reading {
 
     fn take_row(&mut self, line: &[u8], buffer: &mut Vec<i64>) -> Result<Option<u8>, NoMemory>
         requires { spec.lacks self.old.last ≡ true }
-        ensures rule { IfOk result (λ rule. rule ≡ spec.row_rule (row (spec.width_of self.old.last) line.now)) }
+        ensures rule { IfOk result (λ rule. rule ≡ spec.row_rule (row (spec.last_width self.old.last) line.now)) }
         ensures next { IfOk result (λ rule. rule ≡ None
-            → self.new ≡ spec.after_row self.old (row (spec.width_of self.old.last) line.now)) }
+            → self.new ≡ spec.after_row self.old (row (spec.last_width self.old.last) line.now)) }
     {
         match read_row(self.last.width(), line, buffer) {
             Ok(()) => {
@@ -170,7 +170,7 @@ impl Reading {
     /// A part begins behind those that are closed.
     fn begin(&mut self, alloc: Global, wanted: &[Wanted], number: u32, heading: &Heading)
         requires { 1 ≤ heading.now.width }
-        ensures { self.new ≡ spec.begun wanted.now self.old number heading.now }
+        ensures { self.new ≡ spec.with_part_begun wanted.now self.old number heading.now }
     {
         if self.refused.is_some() {
             self.pass(heading);
@@ -187,7 +187,7 @@ impl Reading {
     }
 
     fn pass(&mut self, heading: &Heading)
-        ensures { self.new ≡ record self.old { last = spec.passed heading.now } }
+        ensures { self.new ≡ record self.old { last = spec.part_passed heading.now } }
     {
         self.last = Last::Passed {
             left: heading.rows,

@@ -14,7 +14,7 @@ use Rattle.nim_command.specs.declared.template.WorkerTemplate.{WorkerTemplate}
 use Rattle.nim_command.specs.Edits.{first_reads, forward_receive, forward_send, return_receives, return_sends, run_over}
 use Rattle.nim_command.specs.Expansion.{kind_for}
 use Rattle.nim_command.specs.Numbers.{entry_number}
-use Rattle.nim_command.specs.Ranks.{is_later, stage_of}
+use Rattle.nim_command.specs.Ranks.{is_later, rank_stage}
 use Rattle.nim_template.proofs.ByRank.{RanksAscend, ascends_lower, ascends_then, order_of}
 use Rattle.nim_edit.specs.Form.{IsInForm}
 use Rattle.nim_edit.specs.Moves.{mask_for, spec_of, worker_at}
@@ -88,7 +88,7 @@ stage_if b = if b then 2 else 3
 
 -- a command of a low number is of the last stage
 last_stage : (before : Object → ℕ) (base : ℕ) (args : List ℤ) (e : Entry) → e.id < 131072
-    → stage_of (bare_command before base args e).id (bare_command before base args e).kind ≡ 3
+    → rank_stage (bare_command before base args e).id (bare_command before base args e).kind ≡ 3
 last_stage before base args e few = by_kind e.kind where
   small : stage_if (nat_le 131072 e.id) ≡ 3
   small = either (nat_le 131072 e.id) refl where
@@ -96,7 +96,7 @@ last_stage before base args e few = by_kind e.kind where
     either true is = absurd (omega (arith, few, leb-true 131072 e.id is))
     either false is = refl
 
-  by_kind : (kind : EntryKind) → stage_of e.id (kind_for base args (named before kind) e.id kind) ≡ 3
+  by_kind : (kind : EntryKind) → rank_stage e.id (kind_for base args (named before kind) e.id kind) ≡ 3
   by_kind (EntryKind.Send slot peer entry) = small
   by_kind (EntryKind.Receive slot offset) = small
   by_kind (EntryKind.Copy from to) = refl

@@ -30,7 +30,7 @@ use Rattle.nim_template.proofs.Again.{home_within}
 use Rattle.nim_template.proofs.Numbers.{Between, built_ascend, closing_between, closings_apart, closings_few, filter_few, for_append, slots_long}
 use Rattle.nim_edit.specs.Cells.{kind_at}
 use Rattle.nim_edit.specs.Form.{IsInForm, is_worker_below}
-use Rattle.nim_edit.specs.Halves.{edits_at, half_of, halves_for}
+use Rattle.nim_edit.specs.Halves.{edits_at, edited_half, halves_for}
 use Rattle.nim_edit.specs.Moves.{no_task, read_behind, spec_of, worker_at}
 use Rattle.nim_edit.proofs.Cells.{over, ruled_again, ruled_at}
 use Rattle.nim_edit.proofs.Migrations.{same_list, with_home}
@@ -94,11 +94,11 @@ no_edits f from (suc n) none = ap₂ (λ (xs ys : List Edit). xs ++ ys) (none fr
 pub at_home : (template : WorkerTemplate) → template.built ≡ halves_for template template.homes
 at_home template =
     same_list [] template.built (halves_for template template.homes) (sym long)
-    (λ i less. sym (get_or-map-range_with_len (λ (n : ℕ). half_of template template.homes (record { 0 = n })) 0 (length template.built) i i [] less
+    (λ i less. sym (get_or-map-range_with_len (λ (n : ℕ). edited_half template template.homes (record { 0 = n })) 0 (length template.built) i i [] less
     (omega arith)
     ∙ ap (λ (es : List Edit). edited_by es (slice_index_or template.built i [])) (none (record { 0 = i })))) where
       long : length (halves_for template template.homes) ≡ length template.built
-      long = length-map-range_with_len (λ (n : ℕ). half_of template template.homes (record { 0 = n })) 0 (length template.built)
+      long = length-map-range_with_len (λ (n : ℕ). edited_half template template.homes (record { 0 = n })) 0 (length template.built)
 
       none : (worker : Worker) → flat_map (edits_at template template.homes worker) (range_with_len 0 (length template.forms)) ≡ []
       none worker =

@@ -10,7 +10,7 @@ use Rattle.nim_command.specs.declared.template.WorkerTemplate.{WorkerTemplate}
 use Rattle.nim_command.specs.Ruled.{entries_by_rule}
 use Rattle.nim_template.specs.Ascends.{does_ascend}
 use Rattle.nim_edit.specs.Form.{IsInForm}
-use Rattle.nim_edit.specs.Halves.{edits_at, half_of}
+use Rattle.nim_edit.specs.Halves.{edits_at, edited_half}
 use Rattle.nim_edit.specs.Moves.{worker_at}
 use Rattle.nim_edit.proofs.Cells.{Ascend, ascend_from}
 use Rattle.nim_edit.proofs.Forms.{halves_long}
@@ -31,7 +31,7 @@ all_of p d (x ∷ xs) each =
 -- a half of a template in form
 half_is : (template : WorkerTemplate) (form : IsInForm template) (i : ℕ) → i < length template.built
     → AreAll (edits_at template template.owners (record { 0 = i })) 0 (length template.forms) (slice_index_or template.built i [])
-    (half_of template template.owners (record { 0 = i }))
+    (edited_half template template.owners (record { 0 = i }))
 half_is template form i below =
     after_tasks (edits_at template template.owners (record { 0 = i })) 0 (length template.forms) (slice_index_or template.built i [])
     (ascend_from 0 (slice_index_or template.built i []) (all_at (does_ascend 0) template.built i [] form.ascend below))
@@ -39,17 +39,17 @@ half_is template form i below =
     (task_short template.forms t form.fit (omega (arith, less))))
 
 pub half_at : (template : WorkerTemplate) (form : IsInForm template) (i : ℕ) → i < length template.built
-    → get_or template.halves i [] ≡ half_of template template.owners (record { 0 = i })
+    → get_or template.halves i [] ≡ edited_half template template.owners (record { 0 = i })
 half_at template form i below =
     ap (λ (hs : List (List Entry)). get_or hs i []) form.halves
-    ∙ get_or-map-range_with_len (λ (n : ℕ). half_of template template.owners (record { 0 = n })) 0 (length template.built) i i [] below (omega arith)
+    ∙ get_or-map-range_with_len (λ (n : ℕ). edited_half template template.owners (record { 0 = n })) 0 (length template.built) i i [] below (omega arith)
 
 pub halves_ascend : (template : WorkerTemplate) → IsInForm template → list_all (does_ascend 0) template.halves ≡ true
 halves_ascend template form =
     all_of (does_ascend 0) [] template.halves
     (λ i less. let below : i < length template.built = subst (λ (n : ℕ). i < n) (halves_long template form) less in
     ap (does_ascend 0) (half_at template form i below)
-    ∙ ascend_to 0 (half_of template template.owners (record { 0 = i })) (half_is template form i below).ascend)
+    ∙ ascend_to 0 (edited_half template template.owners (record { 0 = i })) (half_is template form i below).ascend)
 
 pub halves_ruled : (template : WorkerTemplate) → IsInForm template → map (entries_by_rule []) template.halves ≡ template.halves
 halves_ruled template form =

@@ -19,7 +19,7 @@ use Rattle.nim_command.specs.Numbers.{counted_from, entry_number, main_slot, off
 use Rattle.nim_command.specs.Slots.{is_among, object_of}
 use Rattle.nim_job.specs.declared.job.Job.{Job}
 use Rattle.nim_plan.specs.Legal.{is_version}
-use Rattle.nim_place.specs.Sound.{AreFound, Frame, Plane, sent_to, step_of, walked, with_slots}
+use Rattle.nim_place.specs.Sound.{AreFound, Frame, Plane, sent_to, step_of, plane_left, with_slots}
 use Rattle.nim_place.proofs.History.{one_left}
 use Rattle.nim_place.proofs.Legal.{main_of}
 use Rattle.nim_template.proofs.Planes.{AreSent, Below, below_append, below_more, first_sent, skip_all}
@@ -159,10 +159,10 @@ IsKnown job before base version owner slots f =
 pub record HaveCome (job : Job) (version : Object → ℕ) (owner : Worker) (plane : Plane) (commands : List (Worker × Command)) (fs : List FirstRead) : Type 0
   where
     pub found : AreFound job plane commands
-    pub main : (worker : Worker) (slot : Slot) → slot.0 < 512 → (walked plane commands).slots worker slot ≡ plane.slots worker slot
-    pub filled : AllByRecursion (λ (f : FirstRead). IsFilled version owner (walked plane commands).slots f.object) fs
-    pub keeps : (object : Object) → object.0 < 512 → IsFilled version owner plane.slots object → IsFilled version owner (walked plane commands).slots object
-    pub frames : (walked plane commands).frames ≡ plane.frames
+    pub main : (worker : Worker) (slot : Slot) → slot.0 < 512 → (plane_left plane commands).slots worker slot ≡ plane.slots worker slot
+    pub filled : AllByRecursion (λ (f : FirstRead). IsFilled version owner (plane_left plane commands).slots f.object) fs
+    pub keeps : (object : Object) → object.0 < 512 → IsFilled version owner plane.slots object → IsFilled version owner (plane_left plane commands).slots object
+    pub frames : (plane_left plane commands).frames ≡ plane.frames
 
 pub come : (job : Job) (before : Object → ℕ) (base : ℕ) (args : List ℤ) (version : Object → ℕ) (task : ℕ) (owner : Worker) (slots : Worker → Slot → Content)
     (low : ℕ) (past : List Frame) (plane : Plane) (fs : List FirstRead) → task < 1024
@@ -208,15 +208,15 @@ come job before base args version task owner slots low past plane (f ∷ fs) few
         record {
           found = (first.0, subst (λ (p : Plane). AreFound job p rest) (sym step) later.found);
           main = λ worker slot main.
-              ap (λ (p : Plane). (walked p rest).slots worker slot) step ∙ later.main worker slot main ∙ put.main worker slot main;
-          filled = subst (λ (p : Plane). AllByRecursion (λ (g : FirstRead). IsFilled version owner (walked p rest).slots g.object) (f ∷ fs)) (sym step) (
+              ap (λ (p : Plane). (plane_left p rest).slots worker slot) step ∙ later.main worker slot main ∙ put.main worker slot main;
+          filled = subst (λ (p : Plane). AllByRecursion (λ (g : FirstRead). IsFilled version owner (plane_left p rest).slots g.object) (f ∷ fs)) (sym step) (
             later.keeps f.object known.0.0 put.filled,
             later.filled,
           );
           keeps = λ object small was.
-              subst (λ (p : Plane). IsFilled version owner (walked p rest).slots object) (sym step)
+              subst (λ (p : Plane). IsFilled version owner (plane_left p rest).slots object) (sym step)
               (later.keeps object small (put.keeps object small was));
-          frames = ap (λ (p : Plane). (walked p rest).frames) step ∙ later.frames;
+          frames = ap (λ (p : Plane). (plane_left p rest).frames) step ∙ later.frames;
         }
 
     mains_next : (content : Content) → content ≡ version_content version f.object
@@ -298,10 +298,10 @@ sends_back job before base args task home owner version slots frames index (obje
 pub record HaveReturned (job : Job) (home : Worker) (version : ℕ) (plane : Plane) (commands : List (Worker × Command)) (objects : List Object) : Type 0 where
   pub found : AreFound job plane commands
   pub slots : (worker : Worker) (slot : Slot)
-      → (walked plane commands).slots worker slot
+      → (plane_left plane commands).slots worker slot
       ≡ (if worker.0 == home.0 then (if is_among (written_slots false objects) slot then content_at slot version else plane.slots home slot)
       else plane.slots worker slot)
-  pub frames : (walked plane commands).frames ≡ plane.frames
+  pub frames : (plane_left plane commands).frames ≡ plane.frames
 
 pub come_back : (job : Job) (before : Object → ℕ) (base : ℕ) (args : List ℤ) (task : ℕ) (home : Worker) (index : ℕ) (past : List Frame) (plane : Plane)
     (objects : List Object) (version : ℕ) → task < 1024 → index + length objects ≤ 8

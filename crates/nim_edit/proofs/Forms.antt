@@ -19,7 +19,7 @@ use Rattle.nim_place.specs.Extends.{is_live}
 use Rattle.nim_edit.specs.declared.fault.EditRefused.{EditRefused}
 use Rattle.nim_edit.specs.declared.fault.EditRefused.TheVariants.{NoSuchTask, NotLive, SamePlace, TooMany}
 use Rattle.nim_edit.specs.Form.{IsInForm, is_worker_below}
-use Rattle.nim_edit.specs.Halves.{half_of, halves_for}
+use Rattle.nim_edit.specs.Halves.{edited_half, halves_for}
 use Rattle.nim_edit.specs.Moves.{edits_away, edits_home, edits_of, mask_for, migrated, spec_of, with_edit, worker_at}
 use Rattle.nim_edit.specs.Refusals.{are_too_many, refusal_of}
 use Rattle.nim_edit.proofs.Migrations.{IsMove, aside_half, away_half, gone_half, here_half, home_half, same_list}
@@ -50,19 +50,19 @@ long_edits halves (edit ∷ edits) =
 pub halves_long : (template : WorkerTemplate) → IsInForm template → length template.halves ≡ length template.built
 halves_long template form =
     ap (λ (hs : List (List Entry)). length hs) form.halves
-    ∙ length-map-range_with_len (λ (n : ℕ). half_of template template.owners (record { 0 = n })) 0 (length template.built)
+    ∙ length-map-range_with_len (λ (n : ℕ). edited_half template template.owners (record { 0 = n })) 0 (length template.built)
 
 module _ (template : WorkerTemplate) (task : ℕ) (to : Worker) (move : IsMove template task to) where
-  half_at : (i : ℕ) → i < length template.built → get_or template.halves i [] ≡ half_of template template.owners (record { 0 = i })
+  half_at : (i : ℕ) → i < length template.built → get_or template.halves i [] ≡ edited_half template template.owners (record { 0 = i })
   half_at i below =
       ap (λ (hs : List (List Entry)). get_or hs i []) move.form.halves
-      ∙ get_or-map-range_with_len (λ (n : ℕ). half_of template template.owners (record { 0 = n })) 0 (length template.built) i i [] below (omega arith)
+      ∙ get_or-map-range_with_len (λ (n : ℕ). edited_half template template.owners (record { 0 = n })) 0 (length template.built) i i [] below (omega arith)
 
   -- back to the home
   back_at : (to.0 == (worker_at template.homes task).0) ≡ true → (i : ℕ) → i < length template.built
       → get_or (fold with_edit template.halves (edits_home task (worker_at template.homes task) (worker_at template.owners task) (spec_of template.forms task)))
       i []
-      ≡ half_of template (slice_set template.owners task to) (record { 0 = i })
+      ≡ edited_half template (slice_set template.owners task to) (record { 0 = i })
   back_at to_home i below = either (i == owner.0) (i == home.0) refl refl where
     home : Worker
     home = worker_at template.homes task
@@ -84,7 +84,7 @@ module _ (template : WorkerTemplate) (task : ℕ) (to : Worker) (move : IsMove t
         eqb-false owner.0 to.0 move.apart (sym (eqb-true i owner.0 one) ∙ eqb-true i home.0 other ∙ sym (eqb-true to.0 home.0 to_home))
 
     either : (b c : Bool) → (i == owner.0) ≡ b → (i == home.0) ≡ c
-        → get_or (with_edit (with_edit template.halves gone) back) i [] ≡ half_of template (slice_set template.owners task to) (record { 0 = i })
+        → get_or (with_edit (with_edit template.halves gone) back) i [] ≡ edited_half template (slice_set template.owners task to) (record { 0 = i })
     either true true one other = absurd (apart one other)
     either true false one other =
         other_edit (with_edit template.halves gone) back i other ∙ here_edit template.halves gone i one within
@@ -102,7 +102,7 @@ module _ (template : WorkerTemplate) (task : ℕ) (to : Worker) (move : IsMove t
   away_at : (to.0 == (worker_at template.homes task).0) ≡ false → (i : ℕ) → i < length template.built
       → get_or (fold with_edit template.halves (edits_away task (mask_for template task to) (spec_of template.forms task)
       (worker_at template.homes task) (worker_at template.owners task) to)) i []
-      ≡ half_of template (slice_set template.owners task to) (record { 0 = i })
+      ≡ edited_half template (slice_set template.owners task to) (record { 0 = i })
   away_at to_away i below = between (owner.0 == home.0) refl where
     home : Worker
     home = worker_at template.homes task
@@ -120,7 +120,7 @@ module _ (template : WorkerTemplate) (task : ℕ) (to : Worker) (move : IsMove t
     here = (to, Here task home (mask_for template task to) (spec_of template.forms task))
 
     new : List Entry
-    new = half_of template (slice_set template.owners task to) (record { 0 = i })
+    new = edited_half template (slice_set template.owners task to) (record { 0 = i })
 
     within : i < length template.halves
     within = omega (arith, halves_long template move.form, below)
@@ -180,7 +180,7 @@ module _ (template : WorkerTemplate) (task : ℕ) (to : Worker) (move : IsMove t
         ∙ around is (i == home.0) (i == owner.0) (i == to.0) refl refl refl
 
   each_at : (i : ℕ) → i < length template.built
-      → get_or (migrated template task to).halves i [] ≡ half_of template (slice_set template.owners task to) (record { 0 = i })
+      → get_or (migrated template task to).halves i [] ≡ edited_half template (slice_set template.owners task to) (record { 0 = i })
   each_at i below = either (to.0 == (worker_at template.homes task).0) refl where
     home : Worker
     home = worker_at template.homes task
@@ -191,7 +191,7 @@ module _ (template : WorkerTemplate) (task : ℕ) (to : Worker) (move : IsMove t
     either : (b : Bool) → (to.0 == (worker_at template.homes task).0) ≡ b
         → get_or (fold with_edit template.halves (if to.0 == home.0 then edits_home task home owner (spec_of template.forms task)
         else edits_away task (mask_for template task to) (spec_of template.forms task) home owner to)) i []
-        ≡ half_of template (slice_set template.owners task to) (record { 0 = i })
+        ≡ edited_half template (slice_set template.owners task to) (record { 0 = i })
     either true is =
         ap (λ (b : Bool). get_or (fold with_edit template.halves (if b then edits_home task home owner (spec_of template.forms task)
         else edits_away task (mask_for template task to) (spec_of template.forms task) home owner to)) i []) is
@@ -204,9 +204,9 @@ module _ (template : WorkerTemplate) (task : ℕ) (to : Worker) (move : IsMove t
   migrated_halves : (migrated template task to).halves ≡ halves_for template (slice_set template.owners task to)
   migrated_halves =
       same_list [] (migrated template task to).halves (halves_for template (slice_set template.owners task to))
-      (long ∙ sym (length-map-range_with_len (λ (n : ℕ). half_of template (slice_set template.owners task to) (record { 0 = n })) 0 (length template.built)))
+      (long ∙ sym (length-map-range_with_len (λ (n : ℕ). edited_half template (slice_set template.owners task to) (record { 0 = n })) 0 (length template.built)))
       (λ i less. each_at i (omega (arith, long, less))
-      ∙ sym (get_or-map-range_with_len (λ (n : ℕ). half_of template (slice_set template.owners task to) (record { 0 = n })) 0 (length template.built) i i []
+      ∙ sym (get_or-map-range_with_len (λ (n : ℕ). edited_half template (slice_set template.owners task to) (record { 0 = n })) 0 (length template.built) i i []
       (omega (arith, long, less)) (omega arith))) where
         long : length (migrated template task to).halves ≡ length template.built
         long = long_edits template.halves (edits_of template task to) ∙ halves_long template move.form

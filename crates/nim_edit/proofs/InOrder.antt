@@ -14,14 +14,14 @@ use Rattle.nim_command.specs.declared.edit.Spec.{Spec}
 use Rattle.nim_command.specs.declared.entry.Entry.{Entry}
 use Rattle.nim_command.specs.declared.template.WorkerTemplate.{WorkerTemplate}
 use Rattle.nim_command.specs.Edits.{put_by, run_over}
-use Rattle.nim_place.specs.Sound.{commands_at, commands_from}
+use Rattle.nim_place.specs.Sound.{commands_of_half, commands_from}
 use Rattle.nim_place.specs.Stands.{commands_for}
 use Rattle.nim_place.proofs.Held.{for_append}
 use Rattle.nim_template.specs.Built.{entries_for}
 use Rattle.nim_template.specs.Tasks.{without_before}
 use Rattle.nim_template.proofs.Sames.{AreSame}
 use Rattle.nim_edit.specs.Form.{IsInForm, is_worker_below}
-use Rattle.nim_edit.specs.Halves.{half_of}
+use Rattle.nim_edit.specs.Halves.{edited_half}
 use Rattle.nim_edit.specs.Moves.{mask_for, spec_of, worker_at}
 use Rattle.nim_edit.proofs.Between.{all_onward, onward}
 use Rattle.nim_edit.proofs.Cells.{bare}
@@ -214,7 +214,7 @@ named_bare before base args [] = refl
 named_bare before base args (e ∷ half) = ap (λ (cs : List Command). bare_command before base args e ∷ cs) (named_bare before base args half)
 
 one_half : (before : Object → ℕ) (base : ℕ) (args : List ℤ) (worker : Worker) (number : ℕ) (half : List Entry) (b : Bool) → (number == worker.0) ≡ b
-    → AreOfHalf before base args worker (commands_at before base args (record { 0 = number }) half) (if b then half else [])
+    → AreOfHalf before base args worker (commands_of_half before base args (record { 0 = number }) half) (if b then half else [])
 one_half before base args worker number half b is =
     ap (λ (cs : List Command). map without_before (commands_for worker (map (λ (c : Command). (let here : Worker = record { 0 = number } in (here, c))) cs)))
     (commands_named before base args [] half)
@@ -229,7 +229,7 @@ none_of : (before : Object → ℕ) (base : ℕ) (args : List ℤ) (worker : Wor
     → AreOfHalf before base args worker (commands_from before base args number halves) []
 none_of before base args worker number [] below = refl
 none_of before base args worker number (half ∷ halves) below =
-    half_append before base args worker (commands_at before base args (record { 0 = number }) half) (commands_from before base args (number + 1) halves) [] []
+    half_append before base args worker (commands_of_half before base args (record { 0 = number }) half) (commands_from before base args (number + 1) halves) [] []
     (one_half before base args worker number half false (ne_eqb number worker.0 (λ same. absurd (omega (arith, same, below)))))
     (none_of before base args worker (number + 1) halves (omega (arith, below)))
 
@@ -239,12 +239,12 @@ half_from before base args worker number zero [] at = refl
 half_from before base args worker number (suc i) [] at = refl
 half_from before base args worker number zero (half ∷ halves) at =
     subst (AreOfHalf before base args worker (commands_from before base args number (half ∷ halves))) (append-nil half)
-    (half_append before base args worker (commands_at before base args (record { 0 = number }) half) (commands_from before base args (number + 1) halves) half
+    (half_append before base args worker (commands_of_half before base args (record { 0 = number }) half) (commands_from before base args (number + 1) halves) half
     []
     (one_half before base args worker number half true (eq-eqb number worker.0 (omega (arith, at))))
     (none_of before base args worker (number + 1) halves (omega (arith, at))))
 half_from before base args worker number (suc i) (half ∷ halves) at =
-    half_append before base args worker (commands_at before base args (record { 0 = number }) half) (commands_from before base args (number + 1) halves) []
+    half_append before base args worker (commands_of_half before base args (record { 0 = number }) half) (commands_from before base args (number + 1) halves) []
     (slice_index_or halves i [])
     (one_half before base args worker number half false (ne_eqb number worker.0 (λ same. absurd (omega (arith, same, at)))))
     (half_from before base args worker (number + 1) i halves (omega (arith, at)))
@@ -313,7 +313,7 @@ in_order_same template form before base args listed are worker =
       built = slice_index_or template.built worker.0 []
 
       half : List Entry
-      half = half_of template template.owners worker
+      half = edited_half template template.owners worker
 
       asked : List Entry → List Command
       asked es = map (bare_command before base args) es

@@ -21,7 +21,7 @@ use Rattle.nim_command.specs.Holds.{version_after}
 use Rattle.nim_command.specs.Numbers.{counted_from, entry_number, main_slot, offset_after, scratch_slot, task_of}
 use Rattle.nim_command.specs.Slots.{object_of}
 use Rattle.nim_place.specs.declared.placement.Placement.{Placement}
-use Rattle.nim_place.specs.Sound.{commands_at, commands_from, version_named}
+use Rattle.nim_place.specs.Sound.{commands_of_half, commands_from, version_named}
 use Rattle.nim_place.specs.Versions.{Versions, after_commands, after_effect, after_kind, is_kept, latest_of, place_of, with_version}
 use Rattle.nim_place.proofs.Puts.{kept_bounds}
 use Rattle.nim_template.specs.declared.template.ControllerTemplate.{ControllerTemplate}
@@ -114,7 +114,7 @@ placed_after before base args worker versions (entry ∷ half) =
     placed_after before base args worker (map_after before base args worker versions entry.id entry.kind) half
 
 pub half_leaves : (before : Object → ℕ) (base : ℕ) (args : List ℤ) (worker : Worker) (versions : Versions) (half : List Entry)
-    → after_commands versions (commands_at before base args worker half) ≡ after_entries (map_after before base args worker) versions half
+    → after_commands versions (commands_of_half before base args worker half) ≡ after_entries (map_after before base args worker) versions half
 half_leaves before base args worker versions half =
     ap (λ (cs : List Command). after_commands versions (map (λ (c : Command). (worker, c)) cs)) (commands_named before base args [] half)
     ∙ placed_after before base args worker versions half
@@ -253,7 +253,7 @@ same_from before base args number (x ∷ xs) (y ∷ ys) versions long room each 
           → after_commands versions (commands_from before base args number (half ∷ halves))
           ≡ after_commands (after_entries (step number) versions half) (commands_from before base args (number + 1) halves)
       parts half halves =
-          fold-append (λ (v : Versions) (c : Worker × Command). after_kind c.0 v c.1.kind) versions (commands_at before base args (record { 0 = number }) half)
+          fold-append (λ (v : Versions) (c : Worker × Command). after_kind c.0 v c.1.kind) versions (commands_of_half before base args (record { 0 = number }) half)
           (commands_from before base args (number + 1) halves)
           ∙ ap (λ (v : Versions). after_commands v (commands_from before base args (number + 1) halves))
           (half_leaves before base args (record { 0 = number }) versions half)

@@ -24,7 +24,7 @@ use Rattle.nim_job.specs.Whole.{is_whole}
 use Rattle.nim_plan.specs.Legal.{AreLegal, IsLegalKind}
 use Rattle.nim_place.specs.declared.placement.Placement.{Placement}
 use Rattle.nim_place.specs.Sound.{AreFound, IsFound, Plane, by_rank, commands_from, first_plane, sent_to, step_of}
-use Rattle.nim_place.specs.Stands.{Stands, commands_for}
+use Rattle.nim_place.specs.Stands.{MapStands, commands_for}
 use Rattle.nim_place.specs.TaskOrders.{IsAt}
 use Rattle.nim_place.specs.Versions.{Versions, held_at, is_current, latest_of}
 use Rattle.nim_place.proofs.Finds.{current_held}
@@ -142,7 +142,7 @@ all_latest job base versions whole at long object = either (cases_lt object.0 ve
       (λ some. (let inside = written_there job base object whole some in let columns = at.objects in omega (arith, inside, columns, past))))
 
 -- what is current is there
-current_slots : (job : Job) (base objects : ℕ) (given : List (Worker × Command)) (versions : Versions) → Stands given versions → versions.objects ≤ 512
+current_slots : (job : Job) (base objects : ℕ) (given : List (Worker × Command)) (versions : Versions) → MapStands given versions → versions.objects ≤ 512
     → ((object : Object) → latest_of versions object ≡ read_version job base object) → (needs : List (Worker × Object)) → are_current versions needs ≡ true
     → AllByRecursion (λ (one : Worker × Object). holds (commands_for one.0 given) (length (commands_for one.0 given)) (main_slot one.1)
     ≡ Some (one.1, read_version job base one.1)) needs

@@ -22,7 +22,7 @@ use Rattle.nim_template.specs.Fits.{are_below, is_fit}
 use Rattle.nim_template.proofs.Fits.{few_reads}
 use Rattle.nim_edit.specs.Cells.{kind_at}
 use Rattle.nim_edit.specs.Form.{IsInForm}
-use Rattle.nim_edit.specs.Halves.{edits_at, edits_with, half_of}
+use Rattle.nim_edit.specs.Halves.{edits_at, edits_with, edited_half}
 use Rattle.nim_edit.specs.Moves.{mask_for, no_task, read_behind, spec_for, spec_of, worker_at}
 use Rattle.nim_edit.proofs.Cells.{Ascend, ascend_from}
 use Rattle.nim_edit.proofs.Owners.{AllOf, act, number_of, one_more}
@@ -114,7 +114,7 @@ goes_on : (template : WorkerTemplate) (task : ℕ) (to : Worker) → IsMove temp
     → ((number : ℕ) (under : Option EntryKind) → task_of number ≡ task → kind_at (slice_index_or template.built worker.0 []) number ≡ under
     → act edits number (act (edits_with template worker task (worker_at template.owners task)) number under)
     ≡ act (edits_with template worker task to) number under)
-    → edited_by edits (half_of template template.owners worker) ≡ half_of template (slice_set template.owners task to) worker
+    → edited_by edits (edited_half template template.owners worker) ≡ edited_half template (slice_set template.owners task to) worker
 goes_on template task to move worker edits below own here =
     one_more (edits_at template template.owners worker) (edits_at template after worker) (length template.forms) task half edits move.within ascends ruled
     (λ t less. with_own template worker t (worker_at template.owners t) (omega (arith, less, move.form.many)) (task_short template.forms t move.form.fit less))
@@ -192,7 +192,7 @@ module _ (template : WorkerTemplate) (task : ℕ) (to : Worker) (move : IsMove t
   -- one that the move doesn't touch
   pub aside_half : (worker : Worker) → worker.0 < length template.built → (worker.0 == (worker_at template.homes task).0) ≡ false
       → (worker.0 == (worker_at template.owners task).0) ≡ false → (worker.0 == to.0) ≡ false
-      → half_of template template.owners worker ≡ half_of template (slice_set template.owners task to) worker
+      → edited_half template template.owners worker ≡ edited_half template (slice_set template.owners task to) worker
   aside_half worker below no_home no_owner no_to =
       goes_on template task to move worker [] below tt
       (λ number under is there. ap (λ (es : List Edit). act es number under)
@@ -201,8 +201,8 @@ module _ (template : WorkerTemplate) (task : ℕ) (to : Worker) (move : IsMove t
   -- the home, where the new owner is another
   pub away_half : (worker : Worker) → worker.0 < length template.built → (worker.0 == (worker_at template.homes task).0) ≡ true
       → (to.0 == (worker_at template.homes task).0) ≡ false
-      → edited (Away task to (mask_for template task to) (spec_of template.forms task)) (half_of template template.owners worker)
-      ≡ half_of template (slice_set template.owners task to) worker
+      → edited (Away task to (mask_for template task to) (spec_of template.forms task)) (edited_half template template.owners worker)
+      ≡ edited_half template (slice_set template.owners task to) worker
   away_half worker below is_home no_home =
       goes_on template task to move worker (away to ∷ []) below (
         record {
@@ -237,8 +237,8 @@ module _ (template : WorkerTemplate) (task : ℕ) (to : Worker) (move : IsMove t
   pub here_half : (worker : Worker) → worker.0 < length template.built → (worker.0 == to.0) ≡ true
       → (worker.0 == (worker_at template.homes task).0) ≡ false
       → edited (Here task (worker_at template.homes task) (mask_for template task to) (spec_of template.forms task))
-      (half_of template template.owners worker)
-      ≡ half_of template (slice_set template.owners task to) worker
+      (edited_half template template.owners worker)
+      ≡ edited_half template (slice_set template.owners task to) worker
   here_half worker below is_to no_home =
       goes_on template task to move worker (here ∷ []) below (
         record {
@@ -272,7 +272,7 @@ module _ (template : WorkerTemplate) (task : ℕ) (to : Worker) (move : IsMove t
   -- an owner that isn't the home, and that the task leaves
   pub gone_half : (worker : Worker) → worker.0 < length template.built → (worker.0 == (worker_at template.owners task).0) ≡ true
       → (worker.0 == (worker_at template.homes task).0) ≡ false
-      → edited (Gone task) (half_of template template.owners worker) ≡ half_of template (slice_set template.owners task to) worker
+      → edited (Gone task) (edited_half template template.owners worker) ≡ edited_half template (slice_set template.owners task to) worker
   gone_half worker below is_owner no_home =
       goes_on template task to move worker (Gone task ∷ []) below (record { puts = gone_own task; of = λ number. number_of task number (3 ∷ 4 ∷ 5 ∷ []) }, tt)
       (λ number under is there. ap (λ (es : List Edit). act (Gone task ∷ []) number (act es number under))
@@ -304,8 +304,8 @@ module _ (template : WorkerTemplate) (task : ℕ) (to : Worker) (move : IsMove t
   -- the home, where the task comes back
   pub home_half : (worker : Worker) → worker.0 < length template.built → (worker.0 == (worker_at template.homes task).0) ≡ true
       → (to.0 == (worker_at template.homes task).0) ≡ true
-      → edited (Home task (spec_of template.forms task)) (half_of template template.owners worker)
-      ≡ half_of template (slice_set template.owners task to) worker
+      → edited (Home task (spec_of template.forms task)) (edited_half template template.owners worker)
+      ≡ edited_half template (slice_set template.owners task to) worker
   home_half worker below is_home to_home =
       goes_on template task to move worker (back ∷ []) below (
         record {

@@ -23,13 +23,13 @@ use Rattle.nim_order.specs.Orders.{IsOrderByRule}
 use Rattle.nim_order.proofs.Sessions.{orders_cover}
 use Rattle.nim_job.specs.declared.job.Job.{Job}
 use Rattle.nim_job.specs.Serial.{tasks_of}
-use Rattle.nim_job.specs.Tasks.{task_of as job_task}
+use Rattle.nim_job.specs.Tasks.{task_with_args as job_task}
 use Rattle.nim_plan.specs.Legal.{AreLegal, IsLegal}
 use Rattle.nim_plan.specs.Paired.{Key, is_key, keys_received, keys_sent}
 use Rattle.nim_place.specs.declared.placement.Placement.{Placement}
 use Rattle.nim_place.specs.Extends.{is_live, live_workers, longer}
 use Rattle.nim_place.specs.Sound.{commands_from}
-use Rattle.nim_place.specs.Stands.{Stands, commands_for}
+use Rattle.nim_place.specs.Stands.{MapStands, commands_for}
 use Rattle.nim_place.specs.TaskOrders.{AreSoFar, IsAt}
 use Rattle.nim_place.specs.Versions.{Versions, after_commands, after_effect, latest_of}
 use Rattle.nim_place.proofs.Held.{for_append}
@@ -42,7 +42,7 @@ use Rattle.nim_template.specs.Again.{IsBefore, are_current}
 use Rattle.nim_template.specs.Built.{all_slots, built as as_built, end_of, half_for, needs_of}
 use Rattle.nim_template.specs.Closing.{closings}
 use Rattle.nim_template.specs.Fits.{is_fit}
-use Rattle.nim_template.specs.Given.{IsGivenOut, IsInstantiated, instances_of, installs_of, is_key_in}
+use Rattle.nim_template.specs.Given.{IsGivenOut, IsInstanceAsked, instances_of, installs_of, is_key_in}
 use Rattle.nim_template.specs.Instance.{half_of, instance_of}
 use Rattle.nim_template.specs.Tasks.{scheduled_from, without_before}
 use Rattle.nim_template.specs.Walk.{empty_walk}
@@ -102,7 +102,7 @@ pub was_extended : (place : Placement) (objects : ℕ) (live : List Bool) (recor
     → length recorded.forms ≤ 1024 → list_all (is_fit objects) recorded.forms ≡ true → list_all (is_live live) template.owners ≡ true
     → (epoch instance base : ℕ) (args : List ℤ) (more lists : ℕ → List ToWorker) (given : List (Worker × Command)) (versions : Versions)
     → IsReady live objects template epoch base lists given versions → AreAsked live template epoch instance base args versions more lists
-    → IsInstantiated live objects template epoch instance base args more lists given versions
+    → IsInstanceAsked live objects template epoch instance base args more lists given versions
 was_extended place objects live recorded template was some workers_few objects_few few fit owned epoch instance base args more lists given versions may asked =
     extends where
       workers : ℕ
@@ -197,7 +197,7 @@ was_extended place objects live recorded template was some workers_few objects_f
       out : IsGivenOut live made epoch lists given
       out = built_installs place objects live recorded epoch lists given may.so_far.ask
 
-      first : IsInstantiated live objects made epoch instance base args (instances_of epoch instance made base args versions)
+      first : IsInstanceAsked live objects made epoch instance base args (instances_of epoch instance made base args versions)
           (longer lists (installs_of epoch made)) given versions
       first =
           built_instances place objects live recorded some workers_few objects_few few fit epoch instance base args (longer lists (installs_of epoch made))
@@ -276,10 +276,10 @@ was_extended place objects live recorded template was some workers_few objects_f
                 ap (λ (halves : List (List Entry)). length halves) was.built
                 ∙ length-map-range_with_len (λ (k : ℕ). half_for (record { 0 = k }) (entries_of place objects live forms)) 0 (length live)
 
-      stands : Stands (given ++ own) (after_effect base versions template.effect)
+      stands : MapStands (given ++ own) (after_effect base versions template.effect)
       stands =
           stands_same given moved own (after_effect base versions template.effect) (λ worker. sym (same worker))
-          (subst (Stands (given ++ moved)) (sym left_is)
+          (subst (MapStands (given ++ moved)) (sym left_is)
           (stands_all moved versions (omega (arith, may.before.columns, objects_few))
           (subst (λ (k : ℕ). AllBelow k moved) (sym may.before.rows) (live_below live moved moved_live)) moved_aside given may.so_far.stands))
 
@@ -384,7 +384,7 @@ was_extended place objects live recorded template was some workers_few objects_f
       every P f [] = tt
       every P f (w ∷ ws) = (f w, every P f ws)
 
-      extends : IsInstantiated live objects template epoch instance base args more lists given versions
+      extends : IsInstanceAsked live objects template epoch instance base args more lists given versions
       extends = record {
         so_far = record {
           stands = stands;

@@ -23,7 +23,7 @@ use Rattle.nim_command.specs.Numbers.{entry_number, main_slot, scratch_slot}
 use Rattle.nim_command.specs.Slots.{object_of}
 use Rattle.nim_place.specs.declared.placement.Placement.{Placement}
 use Rattle.nim_place.specs.Schedule.{moves, receive_of, send_of}
-use Rattle.nim_place.specs.Stands.{Stands, StandsOn, is_aside}
+use Rattle.nim_place.specs.Stands.{MapStands, StandsOn, is_aside}
 use Rattle.nim_place.specs.Versions.{Versions, after_commands, after_kind, latest_of, puts_of, version_of, with_version}
 use Rattle.nim_place.proofs.History.{stands_more}
 use Rattle.nim_place.proofs.Pairs.{each_append}
@@ -104,12 +104,12 @@ aside_is versions (Fetch slot ticket) small past = refl
 -- what stood for some commands stands for these too
 pub stands_all : (cs : List (Worker × Command)) (versions : Versions) → versions.objects ≤ 512 → AllBelow versions.workers cs → AreAside cs
     → StandsOn versions (after_commands versions cs) cs
-stands_all [] versions small below aside given stands = subst (λ (all : List (Worker × Command)). Stands all versions) (sym (append-nil given)) stands
+stands_all [] versions small below aside given stands = subst (λ (all : List (Worker × Command)). MapStands all versions) (sym (append-nil given)) stands
 stands_all (c ∷ cs) versions small below aside given stands =
     let next : Versions = after_kind c.0 versions c.1.kind in
     let put : IsPut versions c.0 (version_of c.1.kind) (puts_of c.1.kind) next =
     put_all versions c.0 (version_of c.1.kind) (puts_of c.1.kind) (record { slots = stands.slots; all = stands.all }) below.0 in
-    subst (λ (all : List (Worker × Command)). Stands all (after_commands next cs)) (append_assoc given (c ∷ []) cs)
+    subst (λ (all : List (Worker × Command)). MapStands all (after_commands next cs)) (append_assoc given (c ∷ []) cs)
     (stands_all cs next (omega (arith, put.objects, small)) (subst (λ (n : ℕ). AllBelow n cs) (sym put.workers) below.1) aside.1 (given ++ c ∷ [])
     (stands_more given versions c.0 c.1 stands below.0 (aside_is versions c.1.kind small aside.0)))
 

@@ -19,11 +19,11 @@ use Rattle.nim_command.specs.Numbers.{main_slot}
 use Rattle.nim_command.specs.Slots.{object_of}
 use Rattle.nim_job.specs.declared.job.Job.{Job}
 use Rattle.nim_job.specs.Serial.{tasks_of}
-use Rattle.nim_job.specs.Tasks.{task_of as job_task}
+use Rattle.nim_job.specs.Tasks.{task_with_args as job_task}
 use Rattle.nim_job.specs.Versions.{read_version}
 use Rattle.nim_place.specs.declared.placement.Placement.{Placement}
 use Rattle.nim_place.specs.Sound.{AreFound, DoesTasks, EachEndOnce, IsSound, MayBegin, Plane, by_rank, commands_from, first_plane, is_affected, owned_from, run_by}
-use Rattle.nim_place.specs.Sound.{walked}
+use Rattle.nim_place.specs.Sound.{plane_left}
 use Rattle.nim_place.proofs.GoesOn.{position_few}
 use Rattle.nim_template.specs.declared.template.ControllerTemplate.{ControllerTemplate}
 use Rattle.nim_template.specs.Built.{all_slots, built as as_built, end_of, needs_of}
@@ -66,7 +66,7 @@ use Rattle.nim_edit.proofs.NoTasks.{none_asked}
 -- two walks over all that is left
 record AreTasksDone (job : Job) (p q : Plane) (built now : List (Worker × Command)) : Type 0 where
   pub found : AreFound job q now
-  pub same : IsSamePlane (walked p built) (walked q now)
+  pub same : IsSamePlane (plane_left p built) (plane_left q now)
 
 tasks_done : (template : WorkerTemplate) (job : Job) (base : ℕ) (args : List ℤ) (slots : Worker → Slot → Content) (listed : List (Worker × Command))
     (from n : ℕ) (p q : Plane) → IsInstance template job base args slots listed → from + n ≡ length template.forms
@@ -88,16 +88,16 @@ tasks_done template job base args slots listed from (suc n) p q is all at found 
     let parts : AreFound job p (first ++ (rest ++ behind)) = subst (AreFound job p) (append_assoc first rest behind) found in
     let one : IsTaskDone template job base slots from p q first now =
     one_task template job base args slots listed from p q is (omega (arith, all)) at (found_front job p first (rest ++ behind) parts) in
-    let later : AreTasksDone job (walked p first) (walked q now) (rest ++ behind) (rest_now ++ behind) =
-    tasks_done template job base args slots listed (from + 1) n (walked p first) (walked q now) is (omega (arith, all)) one.next
+    let later : AreTasksDone job (plane_left p first) (plane_left q now) (rest ++ behind) (rest_now ++ behind) =
+    tasks_done template job base args slots listed (from + 1) n (plane_left p first) (plane_left q now) is (omega (arith, all)) one.next
     (found_behind job p first (rest ++ behind) parts) in
     record {
       found = subst (AreFound job q) (sym (append_assoc now rest_now behind)) (found_append job q now (rest_now ++ behind) one.found later.found);
       same =
-          subst (λ (plane : Plane). IsSamePlane plane (walked q ((now ++ rest_now) ++ behind)))
-          (sym (ap (walked p) (append_assoc first rest behind) ∙ walked_append p first (rest ++ behind)))
-          (subst (IsSamePlane (walked (walked p first) (rest ++ behind)))
-          (sym (ap (walked q) (append_assoc now rest_now behind) ∙ walked_append q now (rest_now ++ behind))) later.same);
+          subst (λ (plane : Plane). IsSamePlane plane (plane_left q ((now ++ rest_now) ++ behind)))
+          (sym (ap (plane_left p) (append_assoc first rest behind) ∙ walked_append p first (rest ++ behind)))
+          (subst (IsSamePlane (plane_left (plane_left p first) (rest ++ behind)))
+          (sym (ap (plane_left q) (append_assoc now rest_now behind) ∙ walked_append q now (rest_now ++ behind))) later.same);
     }
 
 -- ---- a block with tasks
@@ -160,12 +160,12 @@ ranked_some place objects live recorded template given others forms_are was some
             ∙ owned_is base 0 n template.owners form.owners (worker_at template.owners) (λ i less. ap (worker_at template.owners) (omega arith))
             ∙ ap (λ (k : ℕ). owned_from k template.owners) (omega arith);
         effect =
-            subst (All (SaysNow (walked start now).slots before base)) (sym was.effect)
-            (All-from_recursion (SaysNow (walked start now).slots before base) made.effect
-            (says_same (walked start listed).slots (walked start now).slots before base made.effect same_slots
+            subst (All (SaysNow (plane_left start now).slots before base)) (sym was.effect)
+            (All-from_recursion (SaysNow (plane_left start now).slots before base) made.effect
+            (says_same (plane_left start listed).slots (plane_left start now).slots before base made.effect same_slots
             (effect_main (after_closings (end_of place objects live recorded.forms).offsets
             (needs_of (end_of place objects live recorded.forms).needed (all_slots (length live) objects))) (length live) objects objects_few)
-            (recursion_from_All (SaysNow (walked start listed).slots before base) made.effect does.effect)));
+            (recursion_from_All (SaysNow (plane_left start listed).slots before base) made.effect does.effect)));
         rest = λ worker slot low unaffected.
             same_slots worker slot low
             ∙ does.rest worker slot low (ap (λ (items : List (Worker × Slot × ℕ)). is_affected items worker slot) (sym was.effect) ∙ unaffected);
@@ -279,11 +279,11 @@ ranked_some place objects live recorded template given others forms_are was some
   done : AreTasksDone job start start homed moved
   done = tasks_done template job base args slots listed 0 n start start is (omega arith) at_first found_homed
 
-  same_slots : (worker : Worker) (slot : Slot) → slot.0 < 512 → (walked start now).slots worker slot ≡ (walked start listed).slots worker slot
+  same_slots : (worker : Worker) (slot : Slot) → slot.0 < 512 → (plane_left start now).slots worker slot ≡ (plane_left start listed).slots worker slot
   same_slots worker slot low =
-      ap (λ (p : Plane). p.slots worker slot) (sym (walked_plain start now) ∙ ap (walked start) now_is ∙ walked_plain start moved)
+      ap (λ (p : Plane). p.slots worker slot) (sym (walked_plain start now) ∙ ap (plane_left start) now_is ∙ walked_plain start moved)
       ∙ done.same.slots worker slot low
-      ∙ ap (λ (p : Plane). p.slots worker slot) (sym (sym (walked_plain start listed) ∙ ap (walked start) homed_is ∙ walked_plain start homed))
+      ∙ ap (λ (p : Plane). p.slots worker slot) (sym (sym (walked_plain start listed) ∙ ap (plane_left start) homed_is ∙ walked_plain start homed))
 
   moved_ends : ends_sent moved ≡ ends_received moved
   moved_ends =
@@ -319,7 +319,7 @@ ranked_none place objects live recorded template none was some workers_few objec
             matched = does.matched;
             owners = was.form.owners;
             runs = does.runs ∙ ap (owned_from base) (no_items made.owners made_none ∙ sym owners_none);
-            effect = subst (All (SaysNow (walked (first_plane slots) listed).slots (read_version job base) base)) (sym was.effect) does.effect;
+            effect = subst (All (SaysNow (plane_left (first_plane slots) listed).slots (read_version job base) base)) (sym was.effect) does.effect;
             rest = λ worker slot low unaffected.
                 does.rest worker slot low (ap (λ (items : List (Worker × Slot × ℕ)). is_affected items worker slot) (sym was.effect) ∙ unaffected);
           });

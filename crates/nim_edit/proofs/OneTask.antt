@@ -21,7 +21,7 @@ use Rattle.nim_command.specs.Numbers.{counted_from, entry_number, task_of}
 use Rattle.nim_job.specs.declared.job.Job.{Job}
 use Rattle.nim_job.specs.Versions.{read_version}
 use Rattle.nim_plan.specs.Legal.{IsRunOf}
-use Rattle.nim_place.specs.Sound.{AreFound, Plane, walked}
+use Rattle.nim_place.specs.Sound.{AreFound, Plane, plane_left}
 use Rattle.nim_template.specs.Ascends.{does_ascend}
 use Rattle.nim_template.specs.Fits.{is_fit}
 use Rattle.nim_template.specs.Tasks.{task_with}
@@ -155,10 +155,10 @@ one_task template job base args slots listed task p q is within at found =
       first = copies_also job p q early firsts.copies found_early at.same
 
       second : Plane
-      second = walked p early
+      second = plane_left p early
 
       other : Plane
-      other = walked q early
+      other = plane_left q early
 
       found_run : AreFound job second run
       found_run = subst (AreFound job second) late_run_is (found_behind job p early late found)
@@ -186,28 +186,28 @@ one_task template job base args slots listed task p q is within at found =
           (subst (λ (cs : List (Worker × Command)). AreOfHalf before base args worker cs (late_half (as_homed template) home task worker)) late_run_is
           (half_late (as_homed template) before base args worker task))
 
-      later_so : IsSo before base slots (λ (worker : Worker). under (64 * (task + 1)) (built worker)) (walked second run)
+      later_so : IsSo before base slots (λ (worker : Worker). under (64 * (task + 1)) (built worker)) (plane_left second run)
       later_so =
-          subst (λ (n : ℕ). IsSo before base slots (λ (worker : Worker). under n (built worker)) (walked second run)) (omega arith)
+          subst (λ (n : ℕ). IsSo before base slots (λ (worker : Worker). under n (built worker)) (plane_left second run)) (omega arith)
           (same_so before base slots (λ (worker : Worker). under (64 * task + 16) (built worker) ++ home_run template task worker)
-          (λ (worker : Worker). under (64 * task + 64) (built worker)) (walked second run)
+          (λ (worker : Worker). under (64 * task + 64) (built worker)) (plane_left second run)
           (λ worker slot. run_last template worker task is.form within slot)
           (still_so job before base args slots (λ (worker : Worker). under (64 * task + 16) (built worker)) (λ (worker : Worker). home_run template task worker)
           second run (tt, tt) found_run of_run (λ worker. home_tasks template task worker few) so))
 
       -- what the later phases come to
       done : (commands : List (Worker × Command)) → now ≡ commands → AreFound job other commands
-          → IsSamePlane (walked second run) (walked other commands) → Below (64 * task + 64) (walked other commands).frames
+          → IsSamePlane (plane_left second run) (plane_left other commands) → Below (64 * task + 64) (plane_left other commands).frames
           → IsTaskDone template job base slots task p q (early ++ late) (early ++ now)
       done commands are ran same below = record {
         found = found_append job q early now first.found (subst (AreFound job other) (sym are) ran);
         next =
-            subst (λ (plane : Plane). IsAtTask template job base slots (task + 1) plane (walked q (early ++ now)))
-            (sym (walked_append p early late ∙ ap (walked second) late_run_is))
-            (subst (IsAtTask template job base slots (task + 1) (walked second run)) (sym (walked_append q early now ∙ ap (walked other) are))
+            subst (λ (plane : Plane). IsAtTask template job base slots (task + 1) plane (plane_left q (early ++ now)))
+            (sym (walked_append p early late ∙ ap (plane_left second) late_run_is))
+            (subst (IsAtTask template job base slots (task + 1) (plane_left second run)) (sym (walked_append q early now ∙ ap (plane_left other) are))
             (record {
               same = same;
-              below = subst (λ (n : ℕ). Below n (walked other commands).frames) (omega arith) below;
+              below = subst (λ (n : ℕ). Below n (plane_left other commands).frames) (omega arith) below;
               so = later_so;
             }));
       }

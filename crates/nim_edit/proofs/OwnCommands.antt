@@ -12,7 +12,7 @@ use Rattle.nim_command.specs.declared.command.Command.{Command}
 use Rattle.nim_command.specs.declared.entry.Entry.{Entry}
 use Rattle.nim_place.specs.declared.placement.Placement.{Placement}
 use Rattle.nim_place.specs.Extends.{is_live}
-use Rattle.nim_place.specs.Sound.{commands_at, commands_from}
+use Rattle.nim_place.specs.Sound.{commands_of_half, commands_from}
 use Rattle.nim_place.specs.Stands.{commands_for}
 use Rattle.nim_place.proofs.Held.{for_append}
 use Rattle.nim_place.proofs.LiveOnce.{live_within}
@@ -30,7 +30,7 @@ none_from : (before : Object → ℕ) (base : ℕ) (args : List ℤ) (worker : W
     → commands_for worker (commands_from before base args number halves) ≡ []
 none_from before base args worker number [] below = refl
 none_from before base args worker number (half ∷ halves) below =
-    for_append worker (commands_at before base args (record { 0 = number }) half) (commands_from before base args (number + 1) halves)
+    for_append worker (commands_of_half before base args (record { 0 = number }) half) (commands_from before base args (number + 1) halves)
     ∙ ap₂ (λ (xs ys : List Command). xs ++ ys)
     (commands_of_one worker number (own_commands before base args half) false (ne_eqb number worker.0 (λ same. absurd (omega (arith, same, below)))))
     (none_from before base args worker (number + 1) halves (omega (arith, below)))
@@ -40,13 +40,13 @@ one_of : (before : Object → ℕ) (base : ℕ) (args : List ℤ) (worker : Work
 one_of before base args worker number zero [] at = refl
 one_of before base args worker number (suc i) [] at = refl
 one_of before base args worker number zero (half ∷ halves) at =
-    for_append worker (commands_at before base args (record { 0 = number }) half) (commands_from before base args (number + 1) halves)
+    for_append worker (commands_of_half before base args (record { 0 = number }) half) (commands_from before base args (number + 1) halves)
     ∙ ap₂ (λ (xs ys : List Command). xs ++ ys)
     (commands_of_one worker number (own_commands before base args half) true (eq-eqb number worker.0 (omega (arith, at))))
     (none_from before base args worker (number + 1) halves (omega (arith, at)))
     ∙ append-nil (own_commands before base args half)
 one_of before base args worker number (suc i) (half ∷ halves) at =
-    for_append worker (commands_at before base args (record { 0 = number }) half) (commands_from before base args (number + 1) halves)
+    for_append worker (commands_of_half before base args (record { 0 = number }) half) (commands_from before base args (number + 1) halves)
     ∙ ap₂ (λ (xs ys : List Command). xs ++ ys)
     (commands_of_one worker number (own_commands before base args half) false (ne_eqb number worker.0 (λ same. absurd (omega (arith, same, at)))))
     (one_of before base args worker (number + 1) i halves (omega (arith, at)))
@@ -69,7 +69,7 @@ pub from_below : (before : Object → ℕ) (base : ℕ) (args : List ℤ) (worke
     → AllBelow workers (commands_from before base args number halves)
 from_below before base args workers number [] few = tt
 from_below before base args workers number (half ∷ halves) few =
-    both_below workers (commands_at before base args (record { 0 = number }) half) (commands_from before base args (number + 1) halves)
+    both_below workers (commands_of_half before base args (record { 0 = number }) half) (commands_from before base args (number + 1) halves)
     (at_below workers number (own_commands before base args half) (omega (arith, few)))
     (from_below before base args workers (number + 1) halves (omega (arith, few)))
 

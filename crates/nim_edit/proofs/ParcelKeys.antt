@@ -15,7 +15,7 @@ use Rattle.nim_command.specs.declared.command.Kind.TheVariants.{Create, Load, Se
 use Rattle.nim_command.specs.Holds.{Content, holds, left_by}
 use Rattle.nim_command.specs.Slots.{object_of}
 use Rattle.nim_command.specs.Waits.{Group}
-use Rattle.nim_plan.specs.Paired.{Key, is_key, key_of, received, sent}
+use Rattle.nim_plan.specs.Paired.{Key, is_key, entry_key, received, sent}
 use Rattle.nim_place.specs.Extends.{is_live}
 use Rattle.nim_place.specs.Sound.{is_end}
 use Rattle.nim_place.specs.Stands.{commands_for}
@@ -30,7 +30,7 @@ use Rattle.nim_edit.proofs.Parcels.{Held, Parcel, held_with, parcel, parcels, st
 
 -- the key of a frame in a group
 abbrev pub key_at : Group → Parcel → Key
-key_at group p = key_of group p.1 p.2 p.3
+key_at group p = entry_key group p.1 p.2 p.3
 
 -- the frames for one worker
 abbrev pub for_to : Worker → List Parcel → List Parcel
@@ -56,7 +56,7 @@ one_sent group to from held before (Send slot peer entry) is =
     either (peer.0 == to.0)
     ∙ ap (λ (h : Slot → Content). keys_to group to ((peer, entry, object_of slot, version_in (h slot)) ∷ [])) (sym is) where
       key : Key
-      key = key_of group entry (object_of slot) (version_in (before slot))
+      key = entry_key group entry (object_of slot) (version_in (before slot))
 
       either : (b : Bool) → (if b then key ∷ [] else []) ≡ map (key_at group) (if b then (peer, entry, object_of slot, version_in (before slot)) ∷ [] else [])
       either true = refl
@@ -110,7 +110,7 @@ one_taken : (group : Group) (to worker : Worker) (number : ℕ) (kind : Kind) (b
     → (if b then received group number kind else []) ≡ keys_to group to (taking worker number kind)
 one_taken group to worker number (Receive slot version) b is =
     either b ∙ ap (λ (d : Bool). map (key_at group) (if d then (worker, number, object_of slot, version) ∷ [] else [])) (sym is) where
-      either : (d : Bool) → (if d then key_of group number (object_of slot) version ∷ [] else [])
+      either : (d : Bool) → (if d then entry_key group number (object_of slot) version ∷ [] else [])
           ≡ map (key_at group) (if d then (worker, number, object_of slot, version) ∷ [] else [])
       either true = refl
       either false = refl

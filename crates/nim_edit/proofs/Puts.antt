@@ -14,7 +14,7 @@ use Rattle.nim_command.specs.declared.edit.Edit.TheVariants.{Away, Here, Gone, H
 use Rattle.nim_command.specs.declared.edit.Spec.{Spec}
 use Rattle.nim_command.specs.declared.entry.Entry.{Entry}
 use Rattle.nim_command.specs.declared.entry.EntryKind.{EntryKind}
-use Rattle.nim_command.specs.Edits.{edited, first_reads, forward_receive, forward_send, is_of_number, is_read, kept_by, put_by, return_receives, return_sends, run_over, with_entry}
+use Rattle.nim_command.specs.Edits.{edited, first_reads, forward_receive, forward_send, is_of_number, is_read, entries_kept, put_by, return_receives, return_sends, run_over, with_entry}
 use Rattle.nim_command.specs.Numbers.{entry_number, phase_of, task_of}
 use Rattle.nim_command.specs.Ruled.{entries_by_rule}
 use Rattle.nim_edit.specs.Cells.{kind_at}
@@ -220,7 +220,7 @@ home_own task spec few = record {
   own = (taken_own task 4 0 (2 ∷ 4 ∷ 6 ∷ []) few (omega arith) (omega arith) refl, tt);
 }
 
-kept_same : (edit : Edit) (half : List Entry) → kept_by edit half ≡ filter (λ (e : Entry). not (takes edit e.id)) half
+kept_same : (edit : Edit) (half : List Entry) → entries_kept edit half ≡ filter (λ (e : Entry). not (takes edit e.id)) half
 kept_same (Away task to mask spec) half = refl
 kept_same (Here task from mask spec) half = refl
 kept_same (Gone task) half = refl
@@ -234,32 +234,32 @@ pub record IsEdited (edit : Edit) (before after : List Entry) : Type 0 where
 
 pub edited_is : (edit : Edit) (half : List Entry) → Ascend 0 half → PutsItsOwn edit → IsEdited edit half (edited edit half)
 edited_is edit half are puts = record {
-  ascend = ruled_ascend 0 [] (fold with_entry (kept_by edit half) (put_by edit)) put.ascend;
-  ruled = ruled_again [] (fold with_entry (kept_by edit half) (put_by edit));
-  at = λ number. ruled_at [] (fold with_entry (kept_by edit half) (put_by edit)) number ∙ put.at number ∙ chosen number (takes edit number) refl;
+  ascend = ruled_ascend 0 [] (fold with_entry (entries_kept edit half) (put_by edit)) put.ascend;
+  ruled = ruled_again [] (fold with_entry (entries_kept edit half) (put_by edit));
+  at = λ number. ruled_at [] (fold with_entry (entries_kept edit half) (put_by edit)) number ∙ put.at number ∙ chosen number (takes edit number) refl;
 } where
-  left_at : (number : ℕ) → kind_at (kept_by edit half) number ≡ (if takes edit number then None else kind_at half number)
+  left_at : (number : ℕ) → kind_at (entries_kept edit half) number ≡ (if takes edit number then None else kind_at half number)
   left_at number = ap (λ (es : List Entry). kind_at es number) (kept_same edit half) ∙ without_at (takes edit) half number
 
-  new : (number : ℕ) → is_some (kind_at (put_by edit) number) ≡ true → kind_at (kept_by edit half) number ≡ None
+  new : (number : ℕ) → is_some (kind_at (put_by edit) number) ≡ true → kind_at (entries_kept edit half) number ≡ None
   new number some = either (takes edit number) refl where
-    either : (b : Bool) → takes edit number ≡ b → kind_at (kept_by edit half) number ≡ None
+    either : (b : Bool) → takes edit number ≡ b → kind_at (entries_kept edit half) number ≡ None
     either true is = left_at number ∙ ap (λ (b : Bool). if b then None else kind_at half number) is
     either false is =
         absurd (false≢true (sym (ap (λ (o : Option EntryKind). is_some o) (own_none (takes edit) (put_by edit) number puts.own is)) ∙ some))
 
-  kept_ascend : Ascend 0 (kept_by edit half)
+  kept_ascend : Ascend 0 (entries_kept edit half)
   kept_ascend = subst (Ascend 0) (sym (kept_same edit half)) (filter_ascend (λ (e : Entry). not (takes edit e.id)) 0 half are)
 
-  put : ArePut (kept_by edit half) (put_by edit) (fold with_entry (kept_by edit half) (put_by edit))
-  put = all_put 0 (kept_by edit half) (put_by edit) kept_ascend puts.ascend new
+  put : ArePut (entries_kept edit half) (put_by edit) (fold with_entry (entries_kept edit half) (put_by edit))
+  put = all_put 0 (entries_kept edit half) (put_by edit) kept_ascend puts.ascend new
 
   none_under : (o : Option EntryKind) → over o None ≡ o
   none_under None = refl
   none_under (Some kind) = refl
 
   chosen : (number : ℕ) (b : Bool) → takes edit number ≡ b
-      → over (kind_at (put_by edit) number) (kind_at (kept_by edit half) number)
+      → over (kind_at (put_by edit) number) (kind_at (entries_kept edit half) number)
       ≡ (if takes edit number then kind_at (put_by edit) number else kind_at half number)
   chosen number true is =
       ap (over (kind_at (put_by edit) number)) (left_at number ∙ ap (λ (b : Bool). if b then None else kind_at half number) is)

@@ -17,7 +17,7 @@ use Rattle.nim_job.specs.declared.job.Job.{Job}
 use Rattle.nim_job.specs.Objects.{objects_of}
 use Rattle.nim_job.specs.Serial.{tasks_of}
 use Rattle.nim_job.specs.Versions.{read_version}
-use Rattle.nim_job.specs.Whole.{is_object}
+use Rattle.nim_job.specs.Whole.{is_object_within}
 use Rattle.nim_plan.specs.Legal.{is_version}
 use Rattle.nim_place.specs.Schedule.{is_one_of}
 use Rattle.nim_place.proofs.GoesOn.{read_next}
@@ -178,7 +178,7 @@ reads_there version slots past (object ∷ objects) same = (
 
 -- what is known of each read, by its bit
 pub reads_known : (job : Job) (before : Object → ℕ) (base : ℕ) (position : ℕ) (owner : Worker) (slots : Worker → Slot → Content) (past : List TaskForm)
-    (bit : Object × ℕ → Bool) (objects : List Object) → are_below 512 objects ≡ true → list_all (is_object (objects_of job.vars)) objects ≡ true
+    (bit : Object × ℕ → Bool) (objects : List Object) → are_below 512 objects ≡ true → list_all (is_object_within (objects_of job.vars)) objects ≡ true
     → ((object : Object) → version_at base (before object) (offset_behind 0 0 object past) ≡ read_version job position object)
     → ((object : Object) → object.0 < 512 → bit (read_behind past object) ≡ true
     → slots owner (main_slot object) ≡ version_content (read_version job position) object)
@@ -188,7 +188,7 @@ pub reads_known : (job : Job) (before : Object → ℕ) (base : ℕ) (position :
 reads_known job before base position owner slots past bit [] low all offsets left = tt
 reads_known job before base position owner slots past bit (object ∷ objects) low all offsets left =
     let first = both_true (nat_lt object.0 512) (are_below 512 objects) low in
-    let second = both_true (is_object (objects_of job.vars) object) (list_all (is_object (objects_of job.vars)) objects) all in
+    let second = both_true (is_object_within (objects_of job.vars) object) (list_all (is_object_within (objects_of job.vars)) objects) all in
     let below : object.0 < 512 = ltb-true object.0 512 first.0 in (
       (
         below,
@@ -214,13 +214,13 @@ made_version job position task object there below wrote =
     ∙ read_there job (position + 1) object below
 
 pub writes_made : (job : Job) (position : ℕ) (task : Task) (objects : List Object) → slice_get (tasks_of job) position ≡ Some task
-    → are_below 512 objects ≡ true → list_all (is_object (objects_of job.vars)) objects ≡ true
+    → are_below 512 objects ≡ true → list_all (is_object_within (objects_of job.vars)) objects ≡ true
     → ((object : Object) → is_one_of objects object ≡ true → is_one_of task.writes object ≡ true)
     → AllByRecursion (λ (o : Object). (o.0 < 512) × (is_version job o (position + 1) ≡ true)) objects
 writes_made job position task [] there low all within = tt
 writes_made job position task (object ∷ objects) there low all within =
     let first = both_true (nat_lt object.0 512) (are_below 512 objects) low in
-    let second = both_true (is_object (objects_of job.vars) object) (list_all (is_object (objects_of job.vars)) objects) all in (
+    let second = both_true (is_object_within (objects_of job.vars) object) (list_all (is_object_within (objects_of job.vars)) objects) all in (
       (
         ltb-true object.0 512 first.0,
         made_version job position task object there (ltb-true object.0 (objects_of job.vars) second.0)

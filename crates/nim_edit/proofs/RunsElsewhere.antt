@@ -20,7 +20,7 @@ use Rattle.nim_job.specs.declared.job.Job.{Job}
 use Rattle.nim_job.specs.Serial.{tasks_of}
 use Rattle.nim_job.specs.Versions.{read_version}
 use Rattle.nim_plan.specs.Legal.{IsRunOf, is_version}
-use Rattle.nim_place.specs.Sound.{AreFound, Frame, Plane, step_of, walked, with_slots}
+use Rattle.nim_place.specs.Sound.{AreFound, Frame, Plane, step_of, plane_left, with_slots}
 use Rattle.nim_template.proofs.Planes.{AreSent, Below, below_append, below_more, found_append, walked_append, with_frames}
 use Rattle.nim_edit.proofs.Ascending.{away_commands}
 use Rattle.nim_edit.proofs.Effects.{scratch_written}
@@ -128,8 +128,8 @@ pub record IsAway (job : Job) (before : Object → ℕ) (base : ℕ) (args : Lis
 -- What is left then.
 pub record IsMovedRun (job : Job) (p q : Plane) (task : ℕ) (home : Worker) (run : Worker × Command) (commands : List (Worker × Command)) : Type 0 where
   pub found : AreFound job q commands
-  pub same : IsSamePlane (step_of home run.1.id run.1.kind p) (walked q commands)
-  pub below : Below (64 * task + 64) (walked q commands).frames
+  pub same : IsSamePlane (step_of home run.1.id run.1.kind p) (plane_left q commands)
+  pub below : Below (64 * task + 64) (plane_left q commands).frames
 
 pub runs_elsewhere : (job : Job) (before : Object → ℕ) (base : ℕ) (args : List ℤ) (task : ℕ) (home owner : Worker) (spec : Spec) (firsts : List FirstRead)
     (work : Task) (p q : Plane) → IsAway job before base args task home owner spec firsts work q.slots → IsSamePlane p q → Below (64 * task + 16) q.frames
@@ -210,7 +210,7 @@ runs_elsewhere job before base args task home owner spec firsts work p q away sa
       (below_more (64 * task + 16) (64 * task + 24 + 0) q.frames (omega arith) old) away.indexed away.known
 
   second : Plane
-  second = walked first receives
+  second = plane_left first receives
 
   scratch : Slot → Content
   scratch slot = if is_among (written_slots true spec.writes) slot then content_at slot written else second.slots owner slot
@@ -255,13 +255,13 @@ runs_elsewhere job before base args task home owner spec firsts work p q away sa
       (below_more (64 * task + 32) (64 * task + 48 + 0) more (omega arith) (sent_below version task owner 0 firsts away.few away.indexed)))
       away.made
 
-  all : walked q (sends ++ (receives ++ (run ++ (back ++ got)))) ≡ walked fourth got
+  all : plane_left q (sends ++ (receives ++ (run ++ (back ++ got)))) ≡ plane_left fourth got
   all =
       walked_append q sends (receives ++ (run ++ (back ++ got)))
-      ∙ ap (λ (plane : Plane). walked plane (receives ++ (run ++ (back ++ got)))) sent.after
+      ∙ ap (λ (plane : Plane). plane_left plane (receives ++ (run ++ (back ++ got)))) sent.after
       ∙ walked_append first receives (run ++ (back ++ got))
       ∙ walked_append third back got
-      ∙ ap (λ (plane : Plane). walked plane got) returned.after
+      ∙ ap (λ (plane : Plane). plane_left plane got) returned.after
 
   -- what a main slot has in between is what it had
   between : (worker : Worker) (slot : Slot) → slot.0 < 512 → third.slots worker slot ≡ p.slots worker slot

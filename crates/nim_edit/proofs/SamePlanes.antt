@@ -14,7 +14,7 @@ use Rattle.nim_command.specs.declared.command.Kind.TheVariants.{Create, Load, Se
 use Rattle.nim_command.specs.Holds.{Content, put_at}
 use Rattle.nim_command.specs.Numbers.{task_of}
 use Rattle.nim_job.specs.declared.job.Job.{Job}
-use Rattle.nim_place.specs.Sound.{AreFound, Frame, IsFound, Plane, sent_to, step_of, walked, with_slots}
+use Rattle.nim_place.specs.Sound.{AreFound, Frame, IsFound, Plane, sent_to, step_of, plane_left, with_slots}
 use Rattle.nim_template.proofs.Planes.{Below, below_append}
 use Rattle.nim_edit.proofs.Listed.{IsCopyOf, is_early}
 
@@ -135,7 +135,7 @@ AreCopies (c ∷ cs) = IsCopyOf c.1.id c.1.kind × (is_early c.1.id ≡ true) ×
 
 pub record AreAlso (job : Job) (p q : Plane) (commands : List (Worker × Command)) : Type 0 where
   pub found : AreFound job q commands
-  pub same : IsSamePlane (walked p commands) (walked q commands)
+  pub same : IsSamePlane (plane_left p commands) (plane_left q commands)
 
 pub copies_also : (job : Job) (p q : Plane) (cs : List (Worker × Command)) → AreCopies cs → AreFound job p cs → IsSamePlane p q → AreAlso job p q cs
 copies_also job p q [] copies found same = record { found = tt; same = same }
@@ -173,7 +173,7 @@ AreAt task [] = Unit {0}
 AreAt task (c ∷ cs) = (64 * task ≤ c.1.id) × (c.1.id < 64 * task + 16) × AreAt task cs
 
 pub copies_below : (task : ℕ) (cs : List (Worker × Command)) (plane : Plane) → task < 1024 → AreAt task cs → AreCopies cs
-    → Below (64 * task + 16) plane.frames → Below (64 * task + 16) (walked plane cs).frames
+    → Below (64 * task + 16) plane.frames → Below (64 * task + 16) (plane_left plane cs).frames
 copies_below task [] plane few at copies below = below
 copies_below task (c ∷ cs) plane few at copies below =
     copies_below task cs (step_of c.0 c.1.id c.1.kind plane) few at.2 copies.2

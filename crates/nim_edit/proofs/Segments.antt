@@ -18,7 +18,7 @@ use Rattle.nim_command.specs.Numbers.{task_of}
 use Rattle.nim_template.specs.Ascends.{does_ascend}
 use Rattle.nim_edit.specs.Cells.{kind_at}
 use Rattle.nim_edit.specs.Form.{IsInForm}
-use Rattle.nim_edit.specs.Halves.{edits_at, half_of}
+use Rattle.nim_edit.specs.Halves.{edits_at, edited_half}
 use Rattle.nim_edit.specs.Moves.{mask_for, spec_of, worker_at}
 use Rattle.nim_edit.proofs.Between.{HasBetween, cut_at, onward, under}
 use Rattle.nim_edit.proofs.Cells.{Ascend, ascend_from, bare, filter_ascend, same_bare, without_at}
@@ -52,7 +52,7 @@ built_ascends template worker is =
     ascend_from 0 (built_half template worker) (all_at (does_ascend 0) template.built worker.0 [] is.form.ascend is.below)
 
 pub half_all : (template : WorkerTemplate) (worker : Worker) → IsHalf template worker
-    → AreAll (edits_at template template.owners worker) 0 (length template.forms) (built_half template worker) (half_of template template.owners worker)
+    → AreAll (edits_at template template.owners worker) 0 (length template.forms) (built_half template worker) (edited_half template template.owners worker)
 half_all template worker is =
     after_tasks (edits_at template template.owners worker) 0 (length template.forms) (built_half template worker) (built_ascends template worker is)
     (λ t less. with_own template worker t (worker_at template.owners t) (omega (arith, less, is.form.many))
@@ -61,7 +61,7 @@ half_all template worker is =
 -- under a number of a task
 half_at : (template : WorkerTemplate) (worker : Worker) → IsHalf template worker → (task number : ℕ) → task < length template.forms
     → task_of number ≡ task
-    → kind_at (half_of template template.owners worker) number
+    → kind_at (edited_half template template.owners worker) number
     ≡ act (edits_at template template.owners worker task) number (kind_at (built_half template worker) number)
 half_at template worker is task number within at =
     (half_all template worker is).at number (omega arith) (omega (arith, within, at))
@@ -70,7 +70,7 @@ half_at template worker is task number within at =
 -- of its first phases a half has what was built
 pub early_same : (template : WorkerTemplate) (worker : Worker) → IsHalf template worker → (task number : ℕ) → task < length template.forms
     → 64 * task ≤ number → number < 64 * task + 16
-    → kind_at (half_of template template.owners worker) number ≡ kind_at (built_half template worker) number
+    → kind_at (edited_half template template.owners worker) number ≡ kind_at (built_half template worker) number
 early_same template worker is task number within above under =
     half_at template worker is task number within (omega (arith, above, under))
     ∙ chosen ((worker_at template.owners task).0 == home.0) (worker.0 == home.0) (worker.0 == (worker_at template.owners task).0) where
@@ -106,7 +106,7 @@ early_same template worker is task number within above under =
 
 -- of the later ones it has what its home and its owner say
 pub late_between : (template : WorkerTemplate) (worker : Worker) → IsHalf template worker → (task : ℕ) → task < length template.forms
-    → HasBetween (64 * task + 16) (64 * task + 64) (half_of template template.owners worker)
+    → HasBetween (64 * task + 16) (64 * task + 64) (edited_half template template.owners worker)
     (late_half template (worker_at template.owners task) task worker)
 late_between template worker is task within =
     chosen (owner.0 == home.0) (worker.0 == home.0) refl (worker.0 == owner.0) (λ number above under. half_at template worker is task number within (omega
@@ -124,7 +124,7 @@ late_between template worker is task within =
       mask = mask_for template task owner
 
       half : List Entry
-      half = half_of template template.owners worker
+      half = edited_half template template.owners worker
 
       old : ℕ → Option EntryKind
       old number = kind_at (built_half template worker) number
@@ -281,12 +281,12 @@ cut_twice low mid high half are first second =
 
 -- Bare of before sets, a half is its tasks' segments in order, and what was built behind them.
 pub segments : (template : WorkerTemplate) (worker : Worker) → IsHalf template worker → (from n : ℕ) → from + n ≡ length template.forms
-    → map bare (onward (64 * from) (half_of template template.owners worker))
+    → map bare (onward (64 * from) (edited_half template template.owners worker))
     ≡ flat_map (segment_of template (slice_index_or template.built worker.0 []) worker) (range_with_len from n)
     ++ map bare (onward (64 * length template.forms) (slice_index_or template.built worker.0 []))
 segments template worker is from zero all =
-    ap (λ (t : ℕ). map bare (onward (64 * t) (half_of template template.owners worker))) same
-    ∙ same_onward (64 * length template.forms) (half_of template template.owners worker) (built_half template worker) (half_all template worker is).ascend
+    ap (λ (t : ℕ). map bare (onward (64 * t) (edited_half template template.owners worker))) same
+    ∙ same_onward (64 * length template.forms) (edited_half template template.owners worker) (built_half template worker) (half_all template worker is).ascend
     (built_ascends template worker is) (λ number beyond. (half_all template worker is).beyond number (omega (arith, beyond))) where
       same : from ≡ length template.forms
       same = omega (arith, all)
@@ -300,7 +300,7 @@ segments template worker is from (suc n) all =
     ∙ sym (append_assoc (map bare (early_of from built)) (map bare late) (rest ++ behind))
     ∙ sym (append_assoc (map bare (early_of from built) ++ map bare late) rest behind) where
       half : List Entry
-      half = half_of template template.owners worker
+      half = edited_half template template.owners worker
 
       built : List Entry
       built = built_half template worker

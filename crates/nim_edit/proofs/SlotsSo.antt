@@ -19,7 +19,7 @@ use Rattle.nim_command.specs.Holds.{Content, content_at, left_by, put_at, versio
 use Rattle.nim_command.specs.Numbers.{counted_from, offset_after, task_of}
 use Rattle.nim_command.specs.Slots.{is_among, object_of}
 use Rattle.nim_job.specs.declared.job.Job.{Job}
-use Rattle.nim_place.specs.Sound.{AreFound, IsFound, Plane, sent_to, step_of, walked}
+use Rattle.nim_place.specs.Sound.{AreFound, IsFound, Plane, sent_to, step_of, plane_left}
 use Rattle.nim_place.specs.Stands.{commands_for}
 use Rattle.nim_place.specs.Versions.{puts_of, version_of}
 use Rattle.nim_place.proofs.History.{one_left}
@@ -103,7 +103,7 @@ turned a b false is = ne_eqb b a (λ same. eqb-false a b is (sym same))
 
 -- a slot is left by the commands of its worker
 pub walked_slots : (job : Job) (plane : Plane) (cs : List (Worker × Command)) → ArePlain cs → AreFound job plane cs → (worker : Worker) (slot : Slot)
-    → (walked plane cs).slots worker slot ≡ slot_after slot (plane.slots worker slot) (commands_for worker cs)
+    → (plane_left plane cs).slots worker slot ≡ slot_after slot (plane.slots worker slot) (commands_for worker cs)
 walked_slots job plane [] plain found worker slot = refl
 walked_slots job plane (c ∷ cs) plain found worker slot =
     walked_slots job (step_of c.0 c.1.id c.1.kind plane) cs plain.1 found.1 worker slot
@@ -183,7 +183,7 @@ IsSo before base slots so_far plane =
 pub still_so : (job : Job) (before : Object → ℕ) (base : ℕ) (args : List ℤ) (slots : Worker → Slot → Content) (so_far more : Worker → List Entry)
     (plane : Plane) (cs : List (Worker × Command)) → ArePlain cs → AreFound job plane cs
     → ((worker : Worker) → AreOfHalf before base args worker cs (more worker)) → ((worker : Worker) → AreOfTasks (more worker))
-    → IsSo before base slots so_far plane → IsSo before base slots (λ worker. so_far worker ++ more worker) (walked plane cs)
+    → IsSo before base slots so_far plane → IsSo before base slots (λ worker. so_far worker ++ more worker) (plane_left plane cs)
 still_so job before base args slots so_far more plane cs plain found are few so worker slot main =
     walked_slots job plane cs plain found worker slot
     ∙ sym (after_bare slot (plane.slots worker slot) (commands_for worker cs))

@@ -19,7 +19,7 @@ use Rattle.nim_place.proofs.Places.{both_true}
 use Rattle.nim_template.specs.Ascends.{does_ascend}
 use Rattle.nim_edit.specs.Cells.{kind_at}
 use Rattle.nim_edit.specs.Form.{IsInForm}
-use Rattle.nim_edit.specs.Halves.{edits_at, edits_with, half_of}
+use Rattle.nim_edit.specs.Halves.{edits_at, edits_with, edited_half}
 use Rattle.nim_edit.specs.Moves.{mask_for, spec_of, worker_at}
 use Rattle.nim_edit.proofs.Between.{HasBetween, after_entries, middle_after}
 use Rattle.nim_edit.proofs.Cells.{Ascend, ascend_from, at_rest}
@@ -211,7 +211,7 @@ pub half_after : {S : Type 0} (step : S → ℕ → EntryKind → S) (I : S → 
 half_after step I alike template form worker below state holds =
     ap (after_entries step state)
     (ap (λ (hs : List (List Entry)). slice_index_or hs worker.0 []) form.halves
-    ∙ get_or-map-range_with_len (λ (n : ℕ). half_of template template.owners (record { 0 = n })) 0 (length template.built) worker.0 worker.0 [] below
+    ∙ get_or-map-range_with_len (λ (n : ℕ). edited_half template template.owners (record { 0 = n })) 0 (length template.built) worker.0 worker.0 [] below
     (omega arith))
     ∙ tasks_after step I alike template form template.owners worker 0 (length template.forms) (slice_index_or template.built worker.0 []) below (omega arith)
     (ascend_from 0 (slice_index_or template.built worker.0 []) (all_at (does_ascend 0) template.built worker.0 [] form.ascend below))

@@ -19,7 +19,7 @@ use Rattle.nim_command.specs.Holds.{version_after}
 use Rattle.nim_command.specs.Numbers.{counted_from, entry_number, main_slot, task_of}
 use Rattle.nim_place.specs.declared.placement.Placement.{Placement}
 use Rattle.nim_place.specs.Schedule.{copies_of, is_one_of, moves, receive_of, run_of, scheduled, send_of}
-use Rattle.nim_place.specs.Stands.{Stands}
+use Rattle.nim_place.specs.Stands.{MapStands}
 use Rattle.nim_place.specs.TaskOrders.{IsRunAt}
 use Rattle.nim_place.specs.Versions.{Versions, after_commands, after_kind, latest_of}
 use Rattle.nim_place.proofs.Finds.{after_copies, latest_there}
@@ -63,7 +63,7 @@ pub record IsAtForm (template : WorkerTemplate) (place : Placement) (objects : �
   pub given : List (Worker × Command)
   pub split : all ≡ front ++ (ranked_from place live base args number versions forms ++ last)
   pub under : AllUnder (64 * number) front
-  pub stands : Stands given versions
+  pub stands : MapStands given versions
   pub before : IsBefore (length live) objects (base + number) versions
   pub latest : (object : Object) → object.0 < versions.objects → latest_of versions object ≡ version_at base (named object) (offset_behind 0 0 object past)
   pub taken : AreTaken place live base args number versions forms
@@ -251,7 +251,7 @@ form_done template place objects live base args named all last number past form 
   has_mid : Has mid first
   has_mid = copies_has versions number home held form.reads at.has whole below small
 
-  stands_mid : Stands (at.given ++ copies) mid
+  stands_mid : MapStands (at.given ++ copies) mid
   stands_mid =
       all_stand copies versions (copies_fit versions number home form.reads (moves versions home [] form.reads) (moves_facts versions home form.reads) below)
       at.given at.stands

@@ -14,7 +14,7 @@ use Rattle.nim_command.specs.declared.template.WorkerTemplate.{WorkerTemplate}
 use Rattle.nim_command.specs.Edits.{edited}
 use Rattle.nim_place.proofs.Places.{both_true}
 use Rattle.nim_edit.specs.Form.{is_edit_below, is_half_below}
-use Rattle.nim_edit.specs.Moves.{are_apart, edits_away, edits_home, edits_of, mask_for, spec_of, touched_by, with_edit, with_half, worker_at}
+use Rattle.nim_edit.specs.Moves.{are_apart, edits_away, edits_home, edits_of, mask_for, spec_of, half_touched, with_edit, with_half, worker_at}
 use Rattle.nim_edit.proofs.Migrations.{IsMove}
 
 -- ---- what is touched
@@ -38,11 +38,11 @@ still_were old now worker half (e ∷ edits) apart same =
     )
 
 touched_then : (old now : List (List Entry)) (edits : List (Worker × Edit)) → are_apart edits ≡ true → AreAsWere old now edits
-    → fold with_half now (map (touched_by old) edits) ≡ fold with_edit now edits
+    → fold with_half now (map (half_touched old) edits) ≡ fold with_edit now edits
 touched_then old now [] apart same = refl
 touched_then old now (e ∷ edits) apart same =
     let each = both_true (list_all (λ (other : Worker × Edit). not (other.0.0 == e.0.0)) edits) (are_apart edits) apart in
-    ap (λ (half : List Entry). fold with_half (slice_set now e.0.0 (edited e.1 half)) (map (touched_by old) edits)) (sym same.0)
+    ap (λ (half : List Entry). fold with_half (slice_set now e.0.0 (edited e.1 half)) (map (half_touched old) edits)) (sym same.0)
     ∙ touched_then old (with_edit now e) edits each.1 (still_were old now e.0 (edited e.1 (get_or now e.0.0 [])) edits each.0 same.1)
 
 as_were : (halves : List (List Entry)) (edits : List (Worker × Edit)) → AreAsWere halves halves edits
@@ -50,11 +50,11 @@ as_were halves [] = tt
 as_were halves (e ∷ edits) = (refl, as_were halves edits)
 
 touched_all : (halves : List (List Entry)) (edits : List (Worker × Edit)) → are_apart edits ≡ true
-    → fold with_half halves (map (touched_by halves) edits) ≡ fold with_edit halves edits
+    → fold with_half halves (map (half_touched halves) edits) ≡ fold with_edit halves edits
 touched_all halves edits apart = touched_then halves halves edits apart (as_were halves edits)
 
 touched_below : (n : ℕ) (halves : List (List Entry)) (edits : List (Worker × Edit)) → list_all (is_edit_below n) edits ≡ true
-    → list_all (is_half_below n) (map (touched_by halves) edits) ≡ true
+    → list_all (is_half_below n) (map (half_touched halves) edits) ≡ true
 touched_below n halves [] below = refl
 touched_below n halves (e ∷ edits) below =
     let each = both_true (is_edit_below n e) (list_all (is_edit_below n) edits) below in
@@ -74,16 +74,16 @@ first_below n worker half rest below =
 
 -- once all are touched
 pub all_touched : (halves : List (List Entry)) (edits : List (Worker × Edit)) (touched : List (Worker × List Entry)) (n : ℕ)
-    → touched ≡ map (touched_by halves) (take n edits) → length edits ≤ n → are_apart edits ≡ true
+    → touched ≡ map (half_touched halves) (take n edits) → length edits ≤ n → are_apart edits ≡ true
     → fold with_half halves touched ≡ fold with_edit halves edits
 all_touched halves edits touched n are few apart =
-    ap (fold with_half halves) (are ∙ ap (map (touched_by halves)) (taken_all n edits few)) ∙ touched_all halves edits apart
+    ap (fold with_half halves) (are ∙ ap (map (half_touched halves)) (taken_all n edits few)) ∙ touched_all halves edits apart
 
 pub all_below : (k : ℕ) (halves : List (List Entry)) (edits : List (Worker × Edit)) (touched : List (Worker × List Entry)) (n : ℕ)
-    → touched ≡ map (touched_by halves) (take n edits) → length edits ≤ n → list_all (is_edit_below k) edits ≡ true
+    → touched ≡ map (half_touched halves) (take n edits) → length edits ≤ n → list_all (is_edit_below k) edits ≡ true
     → list_all (is_half_below k) touched ≡ true
 all_below k halves edits touched n are few below =
-    ap (list_all (is_half_below k)) (are ∙ ap (map (touched_by halves)) (taken_all n edits few)) ∙ touched_below k halves edits below
+    ap (list_all (is_half_below k)) (are ∙ ap (map (half_touched halves)) (taken_all n edits few)) ∙ touched_below k halves edits below
 
 -- ---- the edits of a move
 

@@ -24,10 +24,10 @@ use Rattle.nim_job.specs.declared.job.Job.{Job}
 use Rattle.nim_job.specs.Objects.{objects_of}
 use Rattle.nim_job.specs.Serial.{tasks_of}
 use Rattle.nim_job.specs.Versions.{read_version}
-use Rattle.nim_job.specs.Whole.{is_object, is_task, is_whole}
+use Rattle.nim_job.specs.Whole.{is_object_within, is_whole_task, is_whole}
 use Rattle.nim_job.proofs.FewTasks.{tasks_fit}
 use Rattle.nim_plan.specs.Legal.{IsRunOf, is_version}
-use Rattle.nim_place.specs.Sound.{AreFound, Plane, step_of, walked}
+use Rattle.nim_place.specs.Sound.{AreFound, Plane, step_of, plane_left}
 use Rattle.nim_place.proofs.Legal.{main_of, task_objects, task_passes}
 use Rattle.nim_place.proofs.Places.{both_true}
 use Rattle.nim_template.specs.Fits.{are_below, is_fit}
@@ -125,7 +125,7 @@ pub found_front : (job : Job) (plane : Plane) (xs ys : List (Worker × Command))
 found_front job plane [] ys found = tt
 found_front job plane (x ∷ xs) ys found = (found.0, found_front job (step_of x.0 x.1.id x.1.kind plane) xs ys found.1)
 
-pub found_behind : (job : Job) (plane : Plane) (xs ys : List (Worker × Command)) → AreFound job plane (xs ++ ys) → AreFound job (walked plane xs) ys
+pub found_behind : (job : Job) (plane : Plane) (xs ys : List (Worker × Command)) → AreFound job plane (xs ++ ys) → AreFound job (plane_left plane xs) ys
 found_behind job plane [] ys found = found
 found_behind job plane (x ∷ xs) ys found = found_behind job (step_of x.0 x.1.id x.1.kind plane) xs ys found.1
 
@@ -163,7 +163,7 @@ run_same p q home id position spec numbers same = record {
 pub record IsTaskDone (template : WorkerTemplate) (job : Job) (base : ℕ) (slots : Worker → Slot → Content) (task : ℕ) (p q : Plane)
     (built now : List (Worker × Command)) : Type 0 where
   pub found : AreFound job q now
-  pub next : IsAtTask template job base slots (task + 1) (walked p built) (walked q now)
+  pub next : IsAtTask template job base slots (task + 1) (plane_left p built) (plane_left q now)
 
 objects_same : (past : List TaskForm) (objects : List Object) → map (λ (r : Object × ℕ). r.0) (map (read_behind past) objects) ≡ objects
 objects_same past [] = refl
@@ -269,10 +269,10 @@ is_away template job base args slots listed task p q is within same so found = r
       ap (slice_get (tasks_of job)) (position_is ∙ (omega arith))
       ∙ task_there job base args 0 task template.forms is.tasks within
 
-  fits : (list_all (is_object (objects_of job.vars)) form.reads ≡ true) × (list_all (is_object (objects_of job.vars)) form.writes ≡ true)
+  fits : (list_all (is_object_within (objects_of job.vars)) form.reads ≡ true) × (list_all (is_object_within (objects_of job.vars)) form.writes ≡ true)
   fits =
       task_objects (objects_of job.vars) work
-      (task_passes (is_task (objects_of job.vars)) (tasks_of job) position work (tasks_fit job is.whole) there)
+      (task_passes (is_whole_task (objects_of job.vars)) (tasks_of job) position work (tasks_fit job is.whole) there)
 
   ran : IsRunOf job (p.slots home) position form.func (map (param_with args) form.params) (read_slots false spec.reads) (written_slots false form.writes) work
   ran =

@@ -15,7 +15,7 @@ use Rattle.nim_place.specs.Sound.{version_named}
 use Rattle.nim_place.specs.TaskOrders.{AreSoFar}
 use Rattle.nim_place.specs.Versions.{Versions, latest_of}
 use Rattle.nim_template.specs.Again.{IsBefore, are_current}
-use Rattle.nim_template.specs.Given.{IsInstantiated}
+use Rattle.nim_template.specs.Given.{IsInstanceAsked}
 use Rattle.nim_template.specs.Instance.{half_of}
 use Rattle.nim_edit.specs.Moves.{with_edit}
 
@@ -69,7 +69,7 @@ pub record MayCarry (live : List Bool) (objects : ℕ) (template : WorkerTemplat
 -- Behind it no edit is left to be sent.
 pub record IsCarried (live : List Bool) (objects : ℕ) (template : WorkerTemplate) (epoch instance base : ℕ)
     (args : List ℤ) (lists : ℕ → List ToWorker) (given : List (Worker × Command)) (versions : Versions) : Type 0 where
-  pub extended : IsInstantiated live objects template epoch instance base args
+  pub extended : IsInstanceAsked live objects template epoch instance base args
       (carried_of epoch instance template base args versions) lists given versions
   pub as_sent : AreAsSent live (record template { unsent = [] }) template.halves
       (longer lists (carried_of epoch instance template base args versions))

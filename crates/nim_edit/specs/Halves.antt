@@ -26,12 +26,12 @@ abbrev pub edits_at : WorkerTemplate → List Worker → Worker → ℕ → List
 edits_at template owners worker task = edits_with template worker task (worker_at owners task)
 
 -- a worker's half as built with the edits of all tasks, in ascending order
-abbrev pub half_of : WorkerTemplate → List Worker → Worker → List Entry
-half_of template owners worker =
+abbrev pub edited_half : WorkerTemplate → List Worker → Worker → List Entry
+edited_half template owners worker =
     edited_by (flat_map (edits_at template owners worker) (range_with_len 0 (length template.forms)))
     (slice_index_or template.built worker.0 [])
 
 -- the halves of all workers
 abbrev pub halves_for : WorkerTemplate → List Worker → List (List Entry)
 halves_for template owners =
-    map (λ (number : ℕ). half_of template owners (record { 0 = number })) (range_with_len 0 (length template.built))
+    map (λ (number : ℕ). edited_half template owners (record { 0 = number })) (range_with_len 0 (length template.built))

@@ -5,7 +5,7 @@ use Rattle.nim_command.specs.declared.command.Command.{Command}
 use Rattle.nim_command.specs.declared.template.WorkerTemplate.{WorkerTemplate}
 use Rattle.nim_job.specs.declared.job.Job.{Job}
 use Rattle.nim_plan.specs.Legal.{AreLegal}
-use Rattle.nim_place.specs.Stands.{Stands, commands_for}
+use Rattle.nim_place.specs.Stands.{MapStands, commands_for}
 use Rattle.nim_place.specs.TaskOrders.{IsAt}
 use Rattle.nim_place.specs.Versions.{Versions}
 use Rattle.nim_template.specs.Again.{IsBefore, are_current}
@@ -18,7 +18,7 @@ use Rattle.nim_template.specs.Instance.{instance_of}
 abbrev pub InstancesAreLegal : ℕ → ℕ → WorkerTemplate → Type 0
 InstancesAreLegal workers objects template =
     (job : Job) (base : ℕ) (args : List ℤ) (given : List (Worker × Command)) (versions : Versions)
-    → Stands given versions → IsBefore workers objects base versions
+    → MapStands given versions → IsBefore workers objects base versions
     → are_current versions template.preconditions ≡ true → IsAt job base versions
     → AreTasksAt job base args template → (worker : Worker)
     → AreLegal job (commands_for worker given) (commands_for worker (instance_of template base args versions))

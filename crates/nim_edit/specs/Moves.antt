@@ -84,8 +84,8 @@ abbrev pub with_edit : List (List Entry) → Worker × Edit → List (List Entry
 with_edit halves edit = slice_set halves edit.0.0 (edited edit.1 (slice_index_or halves edit.0.0 []))
 
 -- the half that an edit touches, with the edit
-abbrev pub touched_by : List (List Entry) → Worker × Edit → Worker × List Entry
-touched_by halves edit = (edit.0, edited edit.1 (slice_index_or halves edit.0.0 []))
+abbrev pub half_touched : List (List Entry) → Worker × Edit → Worker × List Entry
+half_touched halves edit = (edit.0, edited edit.1 (slice_index_or halves edit.0.0 []))
 
 -- the halves of all workers with this one in place
 abbrev pub with_half : List (List Entry) → Worker × List Entry → List (List Entry)

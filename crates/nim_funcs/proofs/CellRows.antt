@@ -4,7 +4,7 @@ use Rattle.std.proofs.Math.Nat.{suc-mul, mul-le-mul_left}
 use Rattle.std.proofs.lemmas.List.{take-map, drop-map, take_at, drop_at, drop-drop, length-append, append-nil, length-drop, length-take-le}
 use Rattle.std.proofs.lemmas.List.Elements.{All-head, All-tail, All-nil, All-cons}
 use Rattle.nim_base.specs.Value.{Grid, rows_of, cells_of}
-use Rattle.nim_base.specs.Functions.{line_of, row_by, grid_by}
+use Rattle.nim_base.specs.Functions.{grid_row, row_by, grid_by}
 use Rattle.std.specs.List.{range_with_len}
 use Rattle.std.proofs.lemmas.List.Concat.{flat_map-append}
 use Rattle.std.proofs.lemmas.List.FromFn.{map-range_with_len_more, length-map-range_with_len}
@@ -47,7 +47,7 @@ mapped f grid cells changed seen is =
 
 -- the slice of a row, from the cells of a value
 pub row_seen : (grid : Grid) (cells : List ℤ) (row width : ℕ) → grid.rows ≡ rows_of (length grid.rows) grid.width cells → width ≡ grid.width
-    → row < length grid.rows → take (row * width + width - row * width) (drop (row * width) cells) ≡ line_of grid row
+    → row < length grid.rows → take (row * width + width - row * width) (drop (row * width) cells) ≡ grid_row grid row
 row_seen grid cells row width seen is lt =
     let back : row * width + width - row * width ≡ width = omega arith in
     ap (λ k. take k (drop (row * width) cells)) back

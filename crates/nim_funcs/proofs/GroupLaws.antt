@@ -21,7 +21,7 @@ use Rattle.std.proofs.lemmas.Map.Views.{Contains-from_any, list_any-from_Contain
 use Rattle.nim_base.specs.Value.{Grid}
 use Rattle.nim_base.specs.Functions.{at_column, different, group_of, grouped, plus, sum_at, sum_of_cells}
 use Rattle.nim_funcs.specs.Groups.{sum_under, sums_grid, with_rows, with_summand}
-use Rattle.nim_funcs.specs.Laws.{GathersRows, MergeJoinsGroups, MergeKeepsGroups, numbers_of, sums_of}
+use Rattle.nim_funcs.specs.Laws.{GathersRows, MergeJoinsGroups, MergeKeepsGroups, first_cells, sums_of}
 use Rattle.nim_funcs.proofs.AnyOrder.{bits, sum_is}
 use Rattle.nim_funcs.proofs.Ascending.{among, among-different, ascends-different, below_all, same_ascending}
 use Rattle.nim_funcs.proofs.Grouping.{ascends-with_number, groups, keys-insert, same_number}
@@ -31,7 +31,7 @@ firsts : (sum : ℤ → ℤ) (numbers : List ℤ) → map (at_column (pos 0)) (m
 firsts sum [] = refl
 firsts sum (number ∷ numbers) = ap (λ (ns : List ℤ). number ∷ ns) (firsts sum numbers)
 
-numbers-group : (column summed : ℤ) (rows : List (List ℤ)) → numbers_of (grouped column summed rows) ≡ different (map (at_column column) rows)
+numbers-group : (column summed : ℤ) (rows : List (List ℤ)) → first_cells (grouped column summed rows) ≡ different (map (at_column column) rows)
 numbers-group column summed rows = firsts (sum_at column summed rows) (different (map (at_column column) rows))
 
 none_by : (column number : ℤ) (row : List ℤ) (rows : List (List ℤ)) (here : Bool) → (here || among number (map (at_column column) rows)) ≡ false
@@ -203,8 +203,8 @@ gathers_rows column summed grid =
       numbers = λ number. (
         λ inside. Contains-from_any same_number number cells
             (sym (among-different number cells) ∙ ap (among number) (sym numbers)
-            ∙ list_any-from_Contains int_eq_equiv number (numbers_of (group_of column summed grid)) inside),
-        λ inside. Contains-from_any same_number number (numbers_of (group_of column summed grid))
+            ∙ list_any-from_Contains int_eq_equiv number (first_cells (group_of column summed grid)) inside),
+        λ inside. Contains-from_any same_number number (first_cells (group_of column summed grid))
             (ap (among number) numbers ∙ among-different number cells ∙ list_any-from_Contains int_eq_equiv number cells inside),
       );
       sums = total-group column summed grid.rows;

@@ -14,7 +14,7 @@ use Rattle.std.proofs.lemmas.List.Elements.{All-cons, All-nil, filter-append}
 use Rattle.std.proofs.lemmas.List.Sums.{fold_more, fold_push}
 use Rattle.std.proofs.lemmas.Map.Lookups.{exact_signed}
 use Rattle.nim_base.specs.Value.{Grid, cells_of, rows_of}
-use Rattle.nim_base.specs.Functions.{at_column, different, grouped, line_of, plus, sum_at, sum_of_cells, with_number}
+use Rattle.nim_base.specs.Functions.{at_column, different, grouped, grid_row, plus, sum_at, sum_of_cells, with_number}
 use Rattle.nim_funcs.specs.Groups.{sum_under, sums_grid, with_rows, with_summand}
 use Rattle.nim_funcs.proofs.CellRows.{length-cells_of, rows_of-cells_of}
 
@@ -246,7 +246,7 @@ groups column summed rows =
 
 -- the loop over rows, one row more
 pub row_added : (column summed : ℤ) (start before after : List (ℤ × ℤ)) (rows : List (List ℤ)) (at : ℕ) (row : List ℤ) (key summand : ℤ) → at < length rows
-    → before ≡ with_rows column summed start (take at rows) → row ≡ line_of (record { width = 1; rows = rows }) at → key ≡ at_column column row
+    → before ≡ with_rows column summed start (take at rows) → row ≡ grid_row (record { width = 1; rows = rows }) at → key ≡ at_column column row
     → summand ≡ at_column summed row → after ≡ with_summand before key summand → after ≡ with_rows column summed start (take (at + 1) rows)
 row_added column summed start before after rows at row key summand lt is_before is_row is_key is_summand is_after =
     let add = λ (so_far : List (ℤ × ℤ)) (r : List ℤ). with_summand so_far (at_column column r) (at_column summed r) in

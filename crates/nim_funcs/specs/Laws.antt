@@ -5,7 +5,7 @@ use Rattle.std.specs.List.{Contains, flat_map}
 use Rattle.std.specs.List.Sorted.{IsPermutation, IsStrictlySortedBy}
 use Rattle.std.specs.Ordering.{int_cmp}
 use Rattle.nim_base.specs.Value.{Grid}
-use Rattle.nim_base.specs.Functions.{add_of, at_column, below_of, count_of, group_of, grouped, keep_of, kept, merge_of, rest_of, sum_of, sum_of_cells, total_of}
+use Rattle.nim_base.specs.Functions.{add_of, at_column, below_of, count_of, group_of, grouped, keep_of, kept, merge_of, split_rest, sum_of, sum_of_cells, total_of}
 
 -- the elements of two lists in turn: where the turn is true the next of the first list, else the next of the second
 abbrev pub in_turn : {X : Type 0} → List Bool → List X → List X → List X
@@ -17,9 +17,9 @@ in_turn _ _ _ = []
 -- the two, taken in turn as the rows come, are all the rows in their order.
 pub record SplitsRows (column pivot : ℤ) (grid : Grid) : Type 0 where
   pub below : All (λ row. IsTrue (int_lt (at_column column row) pivot)) (below_of column pivot grid).rows
-  pub rest : All (λ row. IsTrue (int_le pivot (at_column column row))) (rest_of column pivot grid).rows
+  pub rest : All (λ row. IsTrue (int_le pivot (at_column column row))) (split_rest column pivot grid).rows
   pub rows : in_turn (map (λ row. int_lt (at_column column row) pivot) grid.rows) (below_of column pivot grid).rows
-      (rest_of column pivot grid).rows ≡ grid.rows
+      (split_rest column pivot grid).rows ≡ grid.rows
 
 -- the rows that keep leaves out, in order
 abbrev pub left_out : ℤ → ℤ → ℤ → Grid → Grid
@@ -46,8 +46,8 @@ abbrev pub SumInAnyOrder : List Grid → List Grid → Type 0
 SumInAnyOrder reads others = IsPermutation reads others → sum_of others ≡ sum_of reads
 
 -- the first cells of grouped rows, and the second
-abbrev pub numbers_of : Grid → List ℤ
-numbers_of groups = map (at_column (pos 0)) groups.rows
+abbrev pub first_cells : Grid → List ℤ
+first_cells groups = map (at_column (pos 0)) groups.rows
 
 -- the second cells of grouped rows, each the sum over the rows of its group
 abbrev pub sums_of : Grid → List ℤ
@@ -55,8 +55,8 @@ sums_of groups = map (at_column (pos 1)) groups.rows
 
 -- The numbers of a group ascend and are just those of its column, and its sums add up to the sum over all rows.
 pub record GathersRows (column summed : ℤ) (grid : Grid) : Type 0 where
-  pub ascend : IsStrictlySortedBy int_cmp (numbers_of (group_of column summed grid))
-  pub numbers : (number : ℤ) → Contains (numbers_of (group_of column summed grid)) number ↔ Contains
+  pub ascend : IsStrictlySortedBy int_cmp (first_cells (group_of column summed grid))
+  pub numbers : (number : ℤ) → Contains (first_cells (group_of column summed grid)) number ↔ Contains
       (map (at_column column) grid.rows) number
   pub sums : sum_of_cells (sums_of (group_of column summed grid)) ≡ sum_of_cells (map (at_column summed) grid.rows)
 

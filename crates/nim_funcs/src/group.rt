@@ -1,6 +1,6 @@
 ghost use Rattle.std.specs.Prelude.{◌≡◌, ◌≤◌, ◌<◌, pos, length, All, IfOk, OnOk};
 ghost use Rattle.std.specs.List.{flat_map};
-ghost use Rattle.nim_base.specs.Functions.{group_of, merge_of, param_of, reads_of};
+ghost use Rattle.nim_base.specs.Functions.{group_of, merge_of, param_at, read_values};
 ghost use Rattle.nim_funcs.specs.Groups.{sum_under, sums_grid, with_rows, with_summand};
 
 use crate::rows::{cell_in_column, row_of};
@@ -75,7 +75,7 @@ fn group(alloc: Global, value: &Value, column: i64, summed: i64) -> Result<Value
 pub fn group_by(alloc: Global, value: &Value, params: &[i64]) -> Result<Value, NoMemory>
     requires { length params.now ≡ 2 }
     ensures { IfOk result (λ rows. rows
-        ≡ group_of (param_of params.now 0) (param_of params.now 1) value.now) }
+        ≡ group_of (param_at params.now 0) (param_at params.now 1) value.now) }
 {
     group(alloc, value, params[0], params[1])
 }
@@ -83,7 +83,7 @@ pub fn group_by(alloc: Global, value: &Value, params: &[i64]) -> Result<Value, N
 /// The rows of all reads, grouped by the first cell, with the sum of the second.
 pub fn merge(alloc: Global, values: &[Value], reads: &[usize]) -> Result<Value, NoMemory>
     requires { All (λ index. index < length values.now) reads.now }
-    ensures { IfOk result (λ rows. rows ≡ merge_of (reads_of values.now reads.now)) }
+    ensures { IfOk result (λ rows. rows ≡ merge_of (read_values values.now reads.now)) }
 {
     let mut sums = BTreeMap::new(alloc);
     for index in reads {

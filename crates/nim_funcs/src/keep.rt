@@ -1,5 +1,5 @@
 ghost use Rattle.std.specs.Prelude.{◌≡◌, ◌&&◌, int_le, length, IfOk};
-ghost use Rattle.nim_base.specs.Functions.{at_column, keep_of, param_of};
+ghost use Rattle.nim_base.specs.Functions.{at_column, keep_of, param_at};
 
 use crate::rows::{cell_in_column, no_rows, push_if, row_of};
 use nim_base::{NoMemory, Value};
@@ -29,7 +29,7 @@ fn keep(alloc: Global, value: &Value, column: i64, low: i64, high: i64) -> Resul
 pub fn keep_by(alloc: Global, value: &Value, params: &[i64]) -> Result<Value, NoMemory>
     requires { length params.now ≡ 3 }
     ensures { IfOk result (λ rows. rows
-        ≡ keep_of (param_of params.now 0) (param_of params.now 1) (param_of params.now 2) value.now) }
+        ≡ keep_of (param_at params.now 0) (param_at params.now 1) (param_at params.now 2) value.now) }
 {
     keep(alloc, value, params[0], params[1], params[2])
 }

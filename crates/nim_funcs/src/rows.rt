@@ -1,5 +1,5 @@
 ghost use Rattle.std.specs.Prelude.{◌≡◌, ◌<◌, ◌≤◌, ◌-◌, ◌^◌, if◌then◌else◌, [], ◌∷◌, ◌++◌, length, OnOk};
-ghost use Rattle.nim_base.specs.Functions.{at_column, cell_at, line_of};
+ghost use Rattle.nim_base.specs.Functions.{at_column, cell_at, grid_row};
 
 use nim_base::{NoMemory, Value};
 use std::alloc::Global;
@@ -22,7 +22,7 @@ pub fn no_rows(alloc: Global, value: &Value) -> Value
 
 /// The cells of a row, none where there is no such row.
 pub fn row_of(value: &Value, row: usize) -> &[i64]
-    ensures cells { result.now ≡ line_of value.now row }
+    ensures cells { result.now ≡ grid_row value.now row }
     ensures whole { row < length value.now.rows → length result.now ≡ value.now.width }
 {
     if row < value.rows() as usize {

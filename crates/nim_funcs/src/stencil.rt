@@ -1,5 +1,5 @@
 ghost use Rattle.std.specs.Prelude.{◌≡◌, ◌++◌, ◌<◌, ◌≤◌, length, IfOk, OnOk};
-ghost use Rattle.nim_base.specs.Functions.{left_of, param_of, quotient, row_above, row_below, row_by, stencil_cell, stencil_of};
+ghost use Rattle.nim_base.specs.Functions.{left_of, param_at, quotient, row_above, row_below, row_by, stencil_cell, stencil_of};
 
 use crate::rows::{cell_or_zero, row_of, width_of};
 use nim_base::{NoMemory, Value};
@@ -113,7 +113,7 @@ pub fn stencil_by(
 ) -> Result<Value, NoMemory>
     requires { length params.now ≡ 2 }
     ensures { IfOk result (λ made. made
-        ≡ stencil_of (param_of params.now 0) (param_of params.now 1) above.now middle.now below.now) }
+        ≡ stencil_of (param_at params.now 0) (param_at params.now 1) above.now middle.now below.now) }
 {
     stencil(alloc, params[0], params[1], above, middle, below)
 }

@@ -1,6 +1,6 @@
 ghost use Rattle.std.specs.Prelude.{◌≡◌, ◌≤◌, ◌<◌, [], ◌∷◌, ◌++◌, List, length, All, IfOk};
 ghost use Rattle.nim_base.specs.Value.{Grid};
-ghost use Rattle.nim_base.specs.Functions.{reads_of, sum_of};
+ghost use Rattle.nim_base.specs.Functions.{read_values, sum_of};
 ghost use Rattle.nim_funcs.specs.Sums.{IsSumOf};
 
 use crate::cellwise::addc;
@@ -34,7 +34,7 @@ fn sum_with(alloc: Global, sums: &Value, value: &Value) -> Result<Value, NoMemor
 pub fn sum(alloc: Global, values: &[Value], reads: &[usize]) -> Result<Value, NoMemory>
     requires some { 1 ≤ length reads.now }
     requires inside { All (λ index. index < length values.now) reads.now }
-    ensures { IfOk result (λ sums. sums ≡ sum_of (reads_of values.now reads.now)) }
+    ensures { IfOk result (λ sums. sums ≡ sum_of (read_values values.now reads.now)) }
 {
     let mut sums = sum_of_one(alloc, &values[reads[0]])?;
     for at in 1..reads.len() {

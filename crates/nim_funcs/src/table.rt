@@ -1,7 +1,7 @@
 ghost use Rattle.std.specs.Prelude.{◌≡◌, ◌≤◌, ◌<◌, [], ◌∷◌, length, All, IfOk};
 ghost use Rattle.nim_base.specs.Value.{fitted};
 ghost use Rattle.nim_base.specs.Apply.{HasCounts, apply_of};
-ghost use Rattle.nim_base.specs.Functions.{reads_of};
+ghost use Rattle.nim_base.specs.Functions.{read_values};
 
 use crate::cellwise::{addc, mulc};
 use crate::group::{group_by, merge};
@@ -76,7 +76,7 @@ pub fn apply(
     requires reads { All (λ index. index < length values.now) reads.now }
     requires wide { All (λ shape. 1 ≤ shape.width) shapes.now }
     ensures { IfOk result (λ written. written.items
-        ≡ apply_of func params.now (reads_of values.now reads.now) shapes.now) }
+        ≡ apply_of func params.now (read_values values.now reads.now) shapes.now) }
 {
     match func {
         Func::Set => one(

@@ -1,5 +1,5 @@
 ghost use Rattle.std.specs.Prelude.{◌≡◌, ◌≤◌, ◌<◌, ℕ, length, fold, All, IfOk};
-ghost use Rattle.nim_base.specs.Functions.{plus, reads_of, sum_of_cells, total_of, count_of, single};
+ghost use Rattle.nim_base.specs.Functions.{plus, read_values, sum_of_cells, total_of, count_of, single};
 
 use nim_base::{NoMemory, Value};
 use std::alloc::Global;
@@ -26,7 +26,7 @@ fn sum_from(start: i64, cells: &[i64]) -> i64
 #[tactic(auto, using(crate::proofs::SoFar::total_more))]
 pub fn total(alloc: Global, values: &[Value], reads: &[usize]) -> Result<Value, NoMemory>
     requires { All (λ index. index < length values.now) reads.now }
-    ensures { IfOk result (λ value. value ≡ total_of (reads_of values.now reads.now)) }
+    ensures { IfOk result (λ value. value ≡ total_of (read_values values.now reads.now)) }
 {
     let mut sum = 0;
     for index in reads {
@@ -40,7 +40,7 @@ pub fn total(alloc: Global, values: &[Value], reads: &[usize]) -> Result<Value, 
 pub fn count(alloc: Global, values: &[Value], reads: &[usize]) -> Result<Value, NoMemory>
     requires few { length reads.now ≤ 8 }
     requires inside { All (λ index. index < length values.now) reads.now }
-    ensures { IfOk result (λ value. value ≡ count_of (reads_of values.now reads.now)) }
+    ensures { IfOk result (λ value. value ≡ count_of (read_values values.now reads.now)) }
 {
     let mut rows: u64 = 0;
     for index in reads {

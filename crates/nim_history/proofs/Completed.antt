@@ -26,7 +26,7 @@ use Rattle.nim_job.specs.Whole.{is_whole}
 use Rattle.nim_plan.specs.Legal.{IsLegalKind}
 use Rattle.nim_store.specs.declared.key.Key.{Key}
 use Rattle.nim_store.specs.Keys.{key_cmp}
-use Rattle.nim_history.specs.History.{Asked, MayComplete, WorkerState, after_asked, asked_at, completed, has_frame, key_for, key_received, outs_of, value_for}
+use Rattle.nim_history.specs.History.{Asked, MayComplete, WorkerState, after_asked, asked_at, completed, has_frame, key_for, key_received, outs_of, value_received}
 use Rattle.nim_history.specs.Kept.{kept_by}
 use Rattle.nim_history.specs.Truth.{FindsRight, IsGoodOut, content_in}
 use Rattle.nim_history.proofs.Found.{legal_found}
@@ -104,13 +104,13 @@ inbox_right job inbox (Some key) all = removed_true job inbox key all
 left_right : (job : Job) (state : WorkerState) (place : ℕ) (asked : Asked) → is_whole job ≡ true → IsRight job state
     → asked_at state.session.groups place ≡ Some asked
     → IsReleasedAt (placed_commands state.session.groups) (is_one_of state.ran) place → has_frame state asked ≡ true → (slot : Slot)
-    → IsTrueTo job (kept_by state.session.shapes (value_for state asked) asked.command.kind state.slots slot)
+    → IsTrueTo job (kept_by state.session.shapes (value_received state asked) asked.command.kind state.slots slot)
     (left_by asked.command.kind (content_in state.slots) slot)
 left_right job state place asked whole right there released frame slot =
     let kind : Kind = asked.command.kind in
-    subst (λ (shapes : List Shape). IsTrueTo job (kept_by shapes (value_for state asked) kind state.slots slot) (left_by kind (content_in state.slots) slot))
+    subst (λ (shapes : List Shape). IsTrueTo job (kept_by shapes (value_received state asked) kind state.slots slot) (left_by kind (content_in state.slots) slot))
     (sym (shapes_there job state.session place asked.command right.sound (listed_at state.session.groups place asked there)))
-    (left_true job (value_for state asked) kind state.slots (content_in state.slots) whole (legal_now job state place asked right there released)
+    (left_true job (value_received state asked) kind state.slots (content_in state.slots) whole (legal_now job state place asked right there released)
     (received_right job state.inbox asked.group asked.command.id kind right.inbox frame) (slots_true job state right) slot)
 
 -- which is what slots hold when this place is complete too

@@ -13,7 +13,7 @@ use Rattle.nim_order.specs.Progress.{is_one_of}
 use Rattle.nim_order.proofs.Items.{filter_range, get_front}
 use Rattle.nim_order.proofs.Longer.{members_append}
 use Rattle.nim_order.proofs.Orders.{one_more}
-use Rattle.nim_history.specs.History.{asked_at, is_of_group, left_of}
+use Rattle.nim_history.specs.History.{asked_at, is_of_group, left_in_group}
 
 -- a group that a member is of
 record IsIn (number : ℕ) (groups : List Group) (m : Member) : Type 0 where
@@ -160,8 +160,8 @@ length_more groups next =
 
 -- those that are left of the groups before, and of the one behind
 left_parts : (groups : List Group) (next : Group) (number : ℕ) (ran : List ℕ)
-    → left_of (groups ++ next ∷ []) number ran
-    ≡ left_of groups number ran
+    → left_in_group (groups ++ next ∷ []) number ran
+    ≡ left_in_group groups number ran
     + length (filter (is_left (groups ++ next ∷ []) number ran) (range_with_len (0 + length (members_of groups)) (length next.commands)))
 left_parts groups next number ran =
     let all : ℕ → Bool = is_left (groups ++ next ∷ []) number ran in
@@ -182,20 +182,20 @@ last_there groups next number k from to =
 
 -- of an earlier group as many are left
 pub left_before : (groups : List Group) (next : Group) (number : ℕ) (ran : List ℕ) → number < length groups
-    → left_of (groups ++ next ∷ []) number ran ≡ left_of groups number ran
+    → left_in_group (groups ++ next ∷ []) number ran ≡ left_in_group groups number ran
 left_before groups next number ran within =
     let none : length (filter (is_left (groups ++ next ∷ []) number ran) (range_with_len (0 + length (members_of groups)) (length next.commands))) ≡ 0 =
     none_pass (is_left (groups ++ next ∷ []) number ran) (0 + length (members_of groups)) (length next.commands)
     (λ k from to. ap (λ (b : Bool). b && not (is_one_of ran k))
     (last_there groups next number k from to ∙ ne_eqb (length groups) number (λ same. absurd (omega (arith, same, within))))) in
-    left_parts groups next number ran ∙ (let sum : left_of groups number ran + _ ≡ left_of groups number ran = omega (arith, none) in sum)
+    left_parts groups next number ran ∙ (let sum : left_in_group groups number ran + _ ≡ left_in_group groups number ran = omega (arith, none) in sum)
 
 -- of the group that comes behind all are
 pub left_of_next : (groups : List Group) (next : Group) (ran : List ℕ) → ((place : ℕ) → length (members_of groups) ≤ place → is_one_of ran place ≡ false)
-    → left_of (groups ++ next ∷ []) (length groups) ran ≡ length next.commands
+    → left_in_group (groups ++ next ∷ []) (length groups) ran ≡ length next.commands
 left_of_next groups next ran within =
     let number : ℕ = length groups in
-    let none : left_of groups number ran ≡ 0 =
+    let none : left_in_group groups number ran ≡ 0 =
     none_pass (is_left groups number ran) 0 (length (members_of groups)) (λ k from to. ap (λ (b : Bool). b && not (is_one_of ran k)) (of_none groups k)) in
     let all : length (filter (is_left (groups ++ next ∷ []) number ran) (range_with_len (0 + length (members_of groups)) (length next.commands)))
     ≡ length next.commands =
@@ -219,7 +219,7 @@ gained ran place = one_more ran place place ∙ or_true (is_one_of ran place) (p
 
 -- of its group one less is left
 pub left_less : (groups : List Group) (number : ℕ) (ran : List ℕ) (place : ℕ) → place < length (members_of groups) → is_one_of ran place ≡ false
-    → is_of_group groups number place ≡ true → left_of groups number ran ≡ left_of groups number (ran ++ place ∷ []) + 1
+    → is_of_group groups number place ≡ true → left_in_group groups number ran ≡ left_in_group groups number (ran ++ place ∷ []) + 1
 left_less groups number ran place within waiting of =
     one_passes (is_left groups number ran) (is_left groups number (ran ++ place ∷ [])) 0 (length (members_of groups)) place (omega arith)
     (omega (arith, within))
@@ -228,7 +228,7 @@ left_less groups number ran place within waiting of =
 
 -- of other groups as many are
 pub left_same : (groups : List Group) (number : ℕ) (ran : List ℕ) (place : ℕ) → is_of_group groups number place ≡ false
-    → left_of groups number (ran ++ place ∷ []) ≡ left_of groups number ran
+    → left_in_group groups number (ran ++ place ∷ []) ≡ left_in_group groups number ran
 left_same groups number ran place not_of =
     ap length
     (filter_range (is_left groups number (ran ++ place ∷ [])) (is_left groups number ran) 0 (length (members_of groups)) (λ k from to. either k)) where

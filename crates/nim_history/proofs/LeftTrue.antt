@@ -16,11 +16,11 @@ use Rattle.nim_job.specs.declared.job.Job.{Job}
 use Rattle.nim_job.specs.Objects.{initial_values, objects_of, shapes_of}
 use Rattle.nim_job.specs.Serial.{tasks_of}
 use Rattle.nim_job.specs.Versions.{version_value}
-use Rattle.nim_job.specs.Whole.{is_object, is_whole}
+use Rattle.nim_job.specs.Whole.{is_object_within, is_whole}
 use Rattle.nim_job.proofs.Whole.{length_shapes, vars_sizes, whole_vars}
 use Rattle.nim_plan.specs.Legal.{IsLegalKind, is_version}
 use Rattle.nim_store.specs.declared.held.Held.{Held}
-use Rattle.nim_history.specs.Kept.{fitting_shape, held_at, kept_by, results_for}
+use Rattle.nim_history.specs.Kept.{fitting_shape, held_version, kept_by, results_for}
 use Rattle.nim_history.specs.Truth.{IsTrueHeld}
 use Rattle.nim_history.proofs.TrueRuns.{run_true, some_gives}
 use Rattle.nim_history.proofs.TrueSlots.{IsTrueTo, fitting_there, put_there, put_true, results_true}
@@ -29,10 +29,10 @@ use Rattle.nim_history.proofs.TrueSlots.{IsTrueTo, fitting_there, put_there, put
 create_right : (job : Job) (slot : Slot) (iota : Bool) (number : ℤ) (shape : Shape) → is_whole job ≡ true
     → slice_get (shapes_of job.vars) (object_of slot).0 ≡ Some shape
     → slice_get (initial_values job.vars) (object_of slot).0 ≡ Some (created shape iota number)
-    → (is_object (objects_of job.vars) (object_of slot) ≡ true)
-    × IsTrueHeld job (held_at slot 0 (created (fitting_shape (shapes_of job.vars) slot) iota number))
+    → (is_object_within (objects_of job.vars) (object_of slot) ≡ true)
+    × IsTrueHeld job (held_version slot 0 (created (fitting_shape (shapes_of job.vars) slot) iota number))
 create_right job slot iota number shape whole shaped made =
-    let there : is_object (objects_of job.vars) (object_of slot) ≡ true =
+    let there : is_object_within (objects_of job.vars) (object_of slot) ≡ true =
     lt-ltb (object_of slot).0 (objects_of job.vars)
     (omega (arith, slice_get_within (shapes_of job.vars) (object_of slot).0 shape shaped, length_shapes job.vars)) in
     let fitting : fitting_shape (shapes_of job.vars) slot ≡ shape =
@@ -42,7 +42,7 @@ create_right job slot iota number shape whole shaped made =
     sym (get_or_from_slice_get (initial_values job.vars) (object_of slot).0 (created shape iota number) empty_grid made) in (
       there,
       record {
-        version = and_from (is_object (objects_of job.vars) (object_of slot)) true there refl;
+        version = and_from (is_object_within (objects_of job.vars) (object_of slot)) true there refl;
         value = ap (λ (s : Shape). created s iota number) fitting ∙ first;
       },
     )
@@ -53,7 +53,7 @@ create_true : (job : Job) (frame : Option Grid) (slot : Slot) (iota : Bool) (num
     → IsLegalKind job before (Create slot iota number) → ((s : Slot) → IsTrueTo job (now s) (before s))
     → (s : Slot) → IsTrueTo job (kept_by (shapes_of job.vars) frame (Create slot iota number) now s) (left_by (Create slot iota number) before s)
 create_true job frame slot iota number now before whole legal are s =
-    let held = held_at slot 0 (created (fitting_shape (shapes_of job.vars) slot) iota number) in
+    let held = held_version slot 0 (created (fitting_shape (shapes_of job.vars) slot) iota number) in
     some_gives (IsTrueTo job (kept_by (shapes_of job.vars) frame (Create slot iota number) now s) (left_by (Create slot iota number) before s))
     (slice_get (shapes_of job.vars) (object_of slot).0) legal
     (λ shape is made.
@@ -89,7 +89,7 @@ receive_leaves : (job : Job) (slot : Slot) (version : ℕ) (frame : Option Grid)
     → IsTrueTo job (kept_by (shapes_of job.vars) frame (Receive slot version) now s) (left_by (Receive slot version) before s)
 receive_leaves job slot version None now before there is are s = absurd is
 receive_leaves job slot version (Some value) now before there is are s =
-    put_true job slot (Some (held_at slot version value)) (content_at slot version) now before
+    put_true job slot (Some (held_version slot version value)) (content_at slot version) now before
     (record { same = refl; right = record { version = there; value = is } }) are s
 
 -- after one more command that is legal
@@ -99,7 +99,7 @@ pub left_true : (job : Job) (frame : Option Grid) (kind : Kind) (now : Slot → 
     → IsTrueTo job (kept_by (shapes_of job.vars) frame kind now s) (left_by kind before s)
 left_true job frame (Create slot iota number) now before whole legal is are s = create_true job frame slot iota number now before whole legal are s
 left_true job frame (Load slot version value) now before whole legal is are s =
-    put_true job slot (Some (held_at slot version value)) (content_at slot version) now before
+    put_true job slot (Some (held_version slot version value)) (content_at slot version) now before
     (record { same = refl; right = record { version = legal.0; value = legal.1 } }) are s
 left_true job frame (Receive slot version) now before whole legal is are s = receive_leaves job slot version frame now before legal is are s
 left_true job frame (Copy from to) now before whole legal is are s = put_true job to (now from) (before from) now before (are from) are s

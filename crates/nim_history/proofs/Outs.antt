@@ -18,8 +18,8 @@ use Rattle.nim_job.specs.Whole.{is_whole}
 use Rattle.nim_plan.specs.Legal.{IsLegalKind, reads_at}
 use Rattle.nim_store.specs.declared.held.Held.{Held}
 use Rattle.nim_history.specs.declared.out.Out.{Out}
-use Rattle.nim_history.specs.History.{Asked, WorkerState, left_of, outs_of, through_outs}
-use Rattle.nim_history.specs.Kept.{content_seen, contents_read, frame_of, held_at, is_single, own_outs, seen}
+use Rattle.nim_history.specs.History.{Asked, WorkerState, left_in_group, outs_of, through_outs}
+use Rattle.nim_history.specs.Kept.{content_seen, contents_read, frame_of, held_version, is_single, own_outs, held_or_empty}
 use Rattle.nim_history.specs.Truth.{IsGoodOut, IsTrueHeld, ReadsRight, values_read}
 use Rattle.nim_history.proofs.TrueRuns.{run_true, some_then}
 use Rattle.nim_history.proofs.TrueSlots.{IsTrueTo}
@@ -30,9 +30,9 @@ only_one P x is = All-cons P x [] is (All-nil P)
 
 -- a slot that isn't empty has a true version
 seen_right : (job : Job) (now : Slot → Option Held) (slot : Slot) (content : Content) → IsTrueTo job (now slot) content → content ≢ None
-    → IsTrueHeld job (seen now slot)
+    → IsTrueHeld job (held_or_empty now slot)
 seen_right job now slot content is some = either (now slot) is where
-  either : (h : Option Held) → IsTrueTo job h content → IsTrueHeld job (option_map_or (λ (held : Held). held) h (held_at slot 0 empty_grid))
+  either : (h : Option Held) → IsTrueTo job h content → IsTrueHeld job (option_map_or (λ (held : Held). held) h (held_version slot 0 empty_grid))
   either None true_to = absurd (some (sym true_to.same))
   either (Some held) true_to = true_to.right
 
@@ -52,10 +52,10 @@ own_good : (job : Job) (group : Group) (kind : Kind) (now : Slot → Option Held
     → ((s : Slot) → IsTrueTo job (now s) (before s)) → All (IsGoodOut job) (own_outs group kind now)
 own_good job group (Send slot peer entry) now before whole legal are =
     let right = seen_right job now slot (before slot) (are slot) legal in
-    only_one (IsGoodOut job) (Out.Data peer (frame_of group entry (seen now slot))) (right.version, right.value)
+    only_one (IsGoodOut job) (Out.Data peer (frame_of group entry (held_or_empty now slot))) (right.version, right.value)
 own_good job group (Fetch slot ticket) now before whole legal are =
     let right = seen_right job now slot (before slot) (are slot) legal in
-    only_one (IsGoodOut job) (Out.Report (Value group.epoch ticket (seen now slot).object (seen now slot).version (seen now slot).value))
+    only_one (IsGoodOut job) (Out.Report (Value group.epoch ticket (held_or_empty now slot).object (held_or_empty now slot).version (held_or_empty now slot).value))
     (right.version, right.value)
 own_good job group (Run position func params reads writes) now before whole legal are =
     told_good job group position func params reads writes now before whole legal are (is_single group.source)
@@ -75,7 +75,7 @@ pub outs_good : (job : Job) (state : WorkerState) (place : ℕ) (asked : Asked) 
     → IsLegalKind job before asked.command.kind
     → ((s : Slot) → IsTrueTo job (state.slots s) (before s)) → All (IsGoodOut job) (outs_of state place asked)
 outs_good job state place asked before whole legal are =
-    let left : ℕ = left_of state.session.groups asked.number (state.ran ++ place ∷ []) in
+    let left : ℕ = left_in_group state.session.groups asked.number (state.ran ++ place ∷ []) in
     All-append (IsGoodOut job) (own_outs asked.group asked.command.kind state.slots) (through_outs asked.group.source asked.group left)
     (own_good job asked.group asked.command.kind state.slots before whole legal are) (through_good job asked.group.source asked.group left)
 
@@ -85,7 +85,7 @@ pub reads_right : (job : Job) (kind : Kind) (now : Slot → Option Held) (before
 reads_right job (Run position func params reads writes) now before whole legal are =
     some_then
     (λ task. (has_counts func (length params) (length reads) (length writes) ≡ true) × (map (content_seen now) reads ≡ reads_at job position task)
-    × (map (λ slot. (seen now slot).value) reads ≡ values_read job position task))
+    × (map (λ slot. (held_or_empty now slot).value) reads ≡ values_read job position task))
     (slice_get (tasks_of job) position) (run_true job now before position func params reads writes whole legal are)
     (λ task there run. (run.counts, run.contents, run.values))
 reads_right job kind now before whole legal are = tt

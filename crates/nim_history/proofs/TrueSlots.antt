@@ -15,10 +15,10 @@ use Rattle.nim_job.specs.declared.job.Job.{Job}
 use Rattle.nim_job.specs.declared.job.Var.{Var}
 use Rattle.nim_job.specs.Objects.{objects_of, shape_at, shapes_of}
 use Rattle.nim_job.specs.Versions.{read_version, version_value}
-use Rattle.nim_job.specs.Whole.{is_object, is_var}
+use Rattle.nim_job.specs.Whole.{is_object_within, is_var}
 use Rattle.nim_job.proofs.Whole.{length_shapes, widths}
 use Rattle.nim_store.specs.declared.held.Held.{Held}
-use Rattle.nim_history.specs.Kept.{content_seen, fitting_shape, held_at, put_results, put_shaped, seen, shape_of}
+use Rattle.nim_history.specs.Kept.{content_seen, fitting_shape, held_version, put_results, put_shaped, held_or_empty, shape_of}
 use Rattle.nim_history.specs.Truth.{IsTrueHeld}
 
 same_slot : (a b : Slot) → a.0 ≡ b.0 → a ≡ b
@@ -43,7 +43,7 @@ put_true job slot held content now before this others s = either (s.0 == slot.0)
   either false = others s
 
 -- an object that is there has its shape
-pub shape_there : (vars : List Var) (slot : Slot) → list_all is_var vars ≡ true → is_object (objects_of vars) (object_of slot) ≡ true
+pub shape_there : (vars : List Var) (slot : Slot) → list_all is_var vars ≡ true → is_object_within (objects_of vars) (object_of slot) ≡ true
     → shape_of (shapes_of vars) slot ≡ Some (shape_at (shapes_of vars) (object_of slot))
 shape_there vars slot all is =
     let none : Shape = record { width = 1; rows = 0 } in
@@ -55,13 +55,13 @@ shape_there vars slot all is =
     ∙ cond-true (nat_lt 0 (shape_at (shapes_of vars) (object_of slot)).width) (Some (shape_at (shapes_of vars) (object_of slot))) None
     (lt-ltb 0 (shape_at (shapes_of vars) (object_of slot)).width wide)
 
-pub fitting_there : (vars : List Var) (slot : Slot) → list_all is_var vars ≡ true → is_object (objects_of vars) (object_of slot) ≡ true
+pub fitting_there : (vars : List Var) (slot : Slot) → list_all is_var vars ≡ true → is_object_within (objects_of vars) (object_of slot) ≡ true
     → fitting_shape (shapes_of vars) slot ≡ shape_at (shapes_of vars) (object_of slot)
 fitting_there vars slot all is =
     ap (λ (o : Option Shape). option_map_or (λ (shape : Shape). shape) o (record { width = 1; rows = 0 })) (shape_there vars slot all is)
 
 pub put_there : (vars : List Var) (slot : Slot) (held : Held) (now : Slot → Option Held) → list_all is_var vars ≡ true
-    → is_object (objects_of vars) (object_of slot) ≡ true
+    → is_object_within (objects_of vars) (object_of slot) ≡ true
     → put_shaped (shapes_of vars) slot held now ≡ put_at slot (Some held) now
 put_there vars slot held now all is = rw (shape_there vars slot all is) refl
 
@@ -83,14 +83,14 @@ written_too slot s slots version before = either (is_among slots s) (slot.0 == s
 -- the results of a task are put
 pub results_true : (job : Job) (version : ℕ) (slots : List Slot) (grids : List Grid) (now : Slot → Option Held) (before : Slot → Content)
     → list_all is_var job.vars ≡ true
-    → AllZip (λ slot grid. IsTrueHeld job (held_at slot version grid)) slots grids → ((s : Slot) → IsTrueTo job (now s) (before s))
+    → AllZip (λ slot grid. IsTrueHeld job (held_version slot version grid)) slots grids → ((s : Slot) → IsTrueTo job (now s) (before s))
     → (s : Slot) → IsTrueTo job (put_results (shapes_of job.vars) version slots grids now s) (if is_among slots s then content_at s version else before s)
 results_true job version [] [] now before all right are s = are s
 results_true job version [] (grid ∷ grids) now before all right are s = absurd right
 results_true job version (slot ∷ slots) [] now before all right are s = absurd right
 results_true job version (slot ∷ slots) (grid ∷ grids) now before all right are s =
-    let there = (and_parts (is_object (objects_of job.vars) (object_of slot)) _ right.0.version).0 in
-    let held = held_at slot version grid in
+    let there = (and_parts (is_object_within (objects_of job.vars) (object_of slot)) _ right.0.version).0 in
+    let held = held_version slot version grid in
     subst (λ (f : Slot → Option Held). IsTrueTo job (put_results (shapes_of job.vars) version slots grids f s)
     (if is_among (slot ∷ slots) s then content_at s version else before s))
     (sym (put_there job.vars slot held now all there))
@@ -102,7 +102,7 @@ results_true job version (slot ∷ slots) (grid ∷ grids) now before all right 
 -- what is read of a slot that holds a version
 pub record IsRead (job : Job) (now : Slot → Option Held) (slot : Slot) (object : Object) (version : ℕ) : Type 0 where
   pub content : content_seen now slot ≡ (object, version)
-  pub right : IsTrueHeld job (seen now slot)
+  pub right : IsTrueHeld job (held_or_empty now slot)
 
 pub read_true : (job : Job) (now : Slot → Option Held) (slot : Slot) (content : Content) (object : Object) (version : ℕ) → IsTrueTo job (now slot) content
     → content ≡ Some (object, version)
@@ -113,7 +113,7 @@ read_true job now slot content object version is holds = either (now slot) refl 
   either (Some held) has true_to =
       let both : Some (content_of held) ≡ Some (object, version) = true_to.same ∙ holds in
       let held_is : content_of held ≡ (object, version) = cc in
-      let read : seen now slot ≡ held = ap (λ (h : Option Held). option_map_or (λ (x : Held). x) h (held_at slot 0 empty_grid)) has in
+      let read : held_or_empty now slot ≡ held = ap (λ (h : Option Held). option_map_or (λ (x : Held). x) h (held_version slot 0 empty_grid)) has in
       record { content = ap content_of read ∙ held_is; right = subst (IsTrueHeld job) (sym read) true_to.right }
 
 -- what a task reads of slots
@@ -121,7 +121,7 @@ pub reads_true : (job : Job) (position : ℕ) (now : Slot → Option Held) (befo
     → ((s : Slot) → IsTrueTo job (now s) (before s))
     → map before slots ≡ map (λ (c : Object × ℕ). Some c) (map (λ object. (object, read_version job position object)) objects)
     → (map (content_seen now) slots ≡ map (λ object. (object, read_version job position object)) objects)
-    × (map (λ slot. (seen now slot).value) slots ≡ map (λ object. version_value job object (read_version job position object)) objects)
+    × (map (λ slot. (held_or_empty now slot).value) slots ≡ map (λ object. version_value job object (read_version job position object)) objects)
 reads_true job position now before [] [] are is = (refl, refl)
 reads_true job position now before [] (o ∷ objects) are is = absurd cc
 reads_true job position now before (s ∷ slots) [] are is = absurd cc

@@ -88,8 +88,8 @@ abbrev pub key_for : Asked → Option Key
 key_for asked = key_received asked.group asked.command.id asked.command.kind
 
 -- the value of the frame that a command receives, if it receives one and the frame is there
-abbrev pub value_for : WorkerState → Asked → Option Grid
-value_for state asked = option_and_then (λ (key : Key). map.get state.inbox key) (key_for asked)
+abbrev pub value_received : WorkerState → Asked → Option Grid
+value_received state asked = option_and_then (λ (key : Key). map.get state.inbox key) (key_for asked)
 
 -- what is in the inbox once a command has its frame
 abbrev pub inbox_after : WorkerState → Asked → map.FinMap key_cmp Grid
@@ -101,8 +101,8 @@ is_of_group groups number place =
     option_map_or (λ (m : Member). m.group == number) (slice_get (members_of groups) place) false
 
 -- how many commands of a group aren't among these places
-abbrev pub left_of : List Group → ℕ → List ℕ → ℕ
-left_of groups number ran =
+abbrev pub left_in_group : List Group → ℕ → List ℕ → ℕ
+left_in_group groups number ran =
     let places : List ℕ = range_with_len 0 (length (members_of groups)) in
     length (filter (λ place. is_of_group groups number place && not (is_one_of ran place)) places)
 
@@ -116,14 +116,14 @@ through_outs source group left = []
 abbrev pub outs_of : WorkerState → ℕ → Asked → List Out
 outs_of state place asked =
     own_outs asked.group asked.command.kind state.slots
-    ++ through_outs asked.group.source asked.group (left_of state.session.groups asked.number (state.ran ++ place ∷ []))
+    ++ through_outs asked.group.source asked.group (left_in_group state.session.groups asked.number (state.ran ++ place ∷ []))
 
 -- a worker that completed a command
 abbrev pub after_asked : WorkerState → ℕ → Asked → WorkerState
 after_asked state place asked = record {
   session = state.session;
   inbox = inbox_after state asked;
-  slots = kept_by state.session.shapes (value_for state asked) asked.command.kind state.slots;
+  slots = kept_by state.session.shapes (value_received state asked) asked.command.kind state.slots;
   ran = state.ran ++ place ∷ [];
   gave = state.gave ++ outs_of state place asked;
 }

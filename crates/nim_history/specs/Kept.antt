@@ -19,16 +19,16 @@ use Rattle.nim_store.specs.declared.held.Held.{Held}
 use Rattle.nim_history.specs.declared.out.Out.{Out}
 
 -- a version of the slot's object
-abbrev pub held_at : Slot → ℕ → Grid → Held
-held_at slot version value = record { object = object_of slot; version = version; value = value }
+abbrev pub held_version : Slot → ℕ → Grid → Held
+held_version slot version value = record { object = object_of slot; version = version; value = value }
 
 -- what is read of a slot: an empty one has no rows
-abbrev pub seen : (Slot → Option Held) → Slot → Held
-seen before slot = option_map_or (λ (held : Held). held) (before slot) (held_at slot 0 empty_grid)
+abbrev pub held_or_empty : (Slot → Option Held) → Slot → Held
+held_or_empty before slot = option_map_or (λ (held : Held). held) (before slot) (held_version slot 0 empty_grid)
 
 -- the object and version that are read of a slot
 abbrev pub content_seen : (Slot → Option Held) → Slot → Object × ℕ
-content_seen before slot = ((seen before slot).object, (seen before slot).version)
+content_seen before slot = ((held_or_empty before slot).object, (held_or_empty before slot).version)
 
 -- the shape of a slot's object, if it has one with columns
 abbrev pub shape_of : List Shape → Slot → Option Shape
@@ -48,22 +48,22 @@ put_shaped shapes slot held before = if is_some (shape_of shapes slot) then put_
 -- the results of a task put into slots, one after another
 abbrev pub put_results : List Shape → ℕ → List Slot → List Grid → (Slot → Option Held) → Slot → Option Held
 put_results shapes version (slot ∷ slots) (value ∷ values) before =
-    put_results shapes version slots values (put_shaped shapes slot (held_at slot version value) before)
+    put_results shapes version slots values (put_shaped shapes slot (held_version slot version value) before)
 put_results shapes version _ _ before = before
 
 -- what a task gives for what it reads
 abbrev pub results_for : List Shape → Func → List ℤ → List Slot → List Slot → (Slot → Option Held) → List Grid
 results_for shapes func params reads writes before =
-    apply_of func params (map (λ slot. (seen before slot).value) reads) (map (fitting_shape shapes) writes)
+    apply_of func params (map (λ slot. (held_or_empty before slot).value) reads) (map (fitting_shape shapes) writes)
 
 -- What a command leaves in the slots, with the value of the frame that it receives, if it receives one. A Run whose
 -- counts aren't its function's leaves them as they are.
 abbrev pub kept_by : List Shape → Option Grid → Kind → (Slot → Option Held) → Slot → Option Held
 kept_by shapes frame (Create slot iota number) before =
-    put_shaped shapes slot (held_at slot 0 (created (fitting_shape shapes slot) iota number)) before
-kept_by shapes frame (Load slot version value) before = put_at slot (Some (held_at slot version value)) before
+    put_shaped shapes slot (held_version slot 0 (created (fitting_shape shapes slot) iota number)) before
+kept_by shapes frame (Load slot version value) before = put_at slot (Some (held_version slot version value)) before
 kept_by shapes frame (Receive slot version) before =
-    option_map_or (λ (value : Grid). put_at slot (Some (held_at slot version value)) before) frame before
+    option_map_or (λ (value : Grid). put_at slot (Some (held_version slot version value)) before) frame before
 kept_by shapes frame (Copy from to) before = put_at to (before from) before
 kept_by shapes frame (Run position func params reads writes) before =
     if has_counts func (length params) (length reads) (length writes)
@@ -94,9 +94,9 @@ is_single _ = false
 
 -- What a command gives of its own: a Send a frame, a Fetch what its slot has, a Run of a Single what it read.
 abbrev pub own_outs : Group → Kind → (Slot → Option Held) → List Out
-own_outs group (Send slot peer entry) before = Out.Data peer (frame_of group entry (seen before slot)) ∷ []
+own_outs group (Send slot peer entry) before = Out.Data peer (frame_of group entry (held_or_empty before slot)) ∷ []
 own_outs group (Fetch slot ticket) before =
-    let held : Held = seen before slot in Out.Report (Value group.epoch ticket held.object held.version held.value) ∷ []
+    let held : Held = held_or_empty before slot in Out.Report (Value group.epoch ticket held.object held.version held.value) ∷ []
 own_outs group (Run position func params reads writes) before =
     if is_single group.source
     then Out.Report (Ran group.epoch position (contents_read func params reads writes before)) ∷ []

@@ -22,7 +22,7 @@ use Rattle.nim_plan.specs.Legal.{IsLegal, is_version, reads_at}
 use Rattle.nim_store.specs.declared.held.Held.{Held}
 use Rattle.nim_history.specs.declared.out.Out.{Out}
 use Rattle.nim_history.specs.History.{Asked, Happening, IsHistory, MayComplete, WorkerState, asked_at, frames_in, orders_in, state_of}
-use Rattle.nim_history.specs.Kept.{content_seen, seen}
+use Rattle.nim_history.specs.Kept.{content_seen, held_or_empty}
 
 -- the values that the task at a position reads, in order
 abbrev pub values_read : Job → ℕ → Task → List Grid
@@ -63,7 +63,7 @@ ReadsRight job before (Run position func params reads writes) =
     IsSomeAnd (slice_get (tasks_of job) position)
     (λ task. (has_counts func (length params) (length reads) (length writes) ≡ true)
     × (map (content_seen before) reads ≡ reads_at job position task)
-    × (map (λ slot. (seen before slot).value) reads ≡ values_read job position task))
+    × (map (λ slot. (held_or_empty before slot).value) reads ≡ values_read job position task))
 ReadsRight job before kind = Unit {0}
 
 -- the object and version of what a slot has

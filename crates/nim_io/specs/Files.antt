@@ -8,13 +8,13 @@ content name [] = None
 content name (file ∷ files) = if bytes_eq file.0 name then Some file.1 else content name files
 
 -- where files are told, one has this name, and the first such has these bytes
-abbrev pub Tells : Option (List (List ℕ × List ℕ)) → List ℕ → List ℕ → Type 0
-Tells told name bytes = IfSome told (λ files. content name files ≡ Some bytes)
+abbrev pub TellsBytes : Option (List (List ℕ × List ℕ)) → List ℕ → List ℕ → Type 0
+TellsBytes told name bytes = IfSome told (λ files. content name files ≡ Some bytes)
 
 -- where files are told, one has this name, and the bytes of the first such meet P
 abbrev pub TellsSome : Option (List (List ℕ × List ℕ)) → List ℕ → (List ℕ → Type 0) → Type 0
 TellsSome told name P = IfSome told (λ files. IsSomeAnd (content name files) P)
 
 -- where files are told, one has this name, and a source with this left to give gives the first such
-abbrev pub Opens : Option (List (List ℕ × List ℕ)) → List ℕ → Option (List ℕ) → Type 0
-Opens told name left = IfSome told (λ files. (content name files ≡ left) × IsSome left)
+abbrev pub OpensFile : Option (List (List ℕ × List ℕ)) → List ℕ → Option (List ℕ) → Type 0
+OpensFile told name left = IfSome told (λ files. (content name files ≡ left) × IsSome left)

@@ -11,5 +11,5 @@ abbrev pub fails_of : MemSink → List ℕ
 fails_of sink = sink.fails.items
 
 -- how many writes there were, and so the number of the next one
-abbrev pub writes_of : MemSink → ℕ
-writes_of sink = sink.writes
+abbrev pub write_count : MemSink → ℕ
+write_count sink = sink.writes

@@ -7,5 +7,5 @@ abbrev pub fails_of : MemSource → List ℕ
 fails_of source = source.fails.items
 
 -- how many reads there were, and so the number of the next one
-abbrev pub reads_of : MemSource → ℕ
-reads_of source = source.reads
+abbrev pub read_count : MemSource → ℕ
+read_count source = source.reads

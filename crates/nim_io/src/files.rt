@@ -1,6 +1,6 @@
 ghost use Rattle.std.specs.Prelude.{◌≡◌, ◌≢◌, ℕ, List, Option, IfOk, IsErrOf, OnOk};
 ghost use Rattle.nim_io.specs.Counts.{Rose, NeverFalls};
-ghost use Rattle.nim_io.specs.Files.{Opens};
+ghost use Rattle.nim_io.specs.Files.{OpensFile};
 
 use crate::Source;
 use nim_base::NoMemory;
@@ -37,7 +37,7 @@ pub trait Files {
 
     /// A source of the whole file of this name, with no fault counted yet.
     fn open(&mut self, alloc: Global, name: &str) -> Result<Self::Item, OpenFault>
-        ensures bytes { IfOk result (λ item. Opens (told self.old) name.now (Self.Item.left item)) }
+        ensures bytes { IfOk result (λ item. OpensFile (told self.old) name.now (Self.Item.left item)) }
         ensures fresh { IfOk result (λ item. Self.Item.faults item ≡ 0) }
         ensures cause { IsErrOf result OpenFault.Failed → Rose (faults self.old) (faults self.new) }
         ensures quiet { OnOk result (faults self.new ≡ faults self.old) }

@@ -1,6 +1,6 @@
 ghost use Rattle.std.specs.Prelude.{◌≡◌, ℕ, ◌<◌, ◌≤◌, length, false, IfOk, IfSome, IsErrOf};
 ghost use Rattle.nim_io.specs.Counts.{Rose, NeverFalls};
-ghost use Rattle.nim_io.specs.Files.{content, Tells, TellsSome};
+ghost use Rattle.nim_io.specs.Files.{content, TellsBytes, TellsSome};
 ghost use Rattle.nim_io.specs.Load.{Loads, is_fault};
 
 use crate::{Files, OpenFault, Source};
@@ -42,7 +42,7 @@ pub fn read_all<L: Files>(
     name: &str,
     most: usize,
 ) -> Result<Vec<u8>, LoadFault>
-    ensures bytes { IfOk result (λ bytes. Tells (L.told files.old) name.now bytes.items) }
+    ensures bytes { IfOk result (λ bytes. TellsBytes (L.told files.old) name.now bytes.items) }
     ensures fits { IfOk result (λ bytes. length bytes.items ≤ most) }
 
     ensures open_fault { IsErrOf result LoadFault.Open → Rose (L.faults files.old) (L.faults files.new) }

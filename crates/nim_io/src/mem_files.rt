@@ -1,7 +1,7 @@
 ghost use Rattle.std.specs.Prelude.{◌≡◌, ◌≢◌, ◌+◌, ◌-◌, ◌^◌, [], Some, min, IfOk, IsErrOf, OnErr, OnOk, ◌↔◌};
 ghost use Rattle.std.specs.Option.{option_copied, option_map};
 ghost use Rattle.nim_io.specs.Counts.{Rose, NeverFalls};
-ghost use Rattle.nim_io.specs.Files.{content, Opens};
+ghost use Rattle.nim_io.specs.Files.{content, OpensFile};
 ghost use Rattle.nim_io.specs.MemFiles.{entries, reads_named};
 
 use crate::{Files, MemSource, OpenFault, Source};
@@ -52,7 +52,7 @@ impl MemFiles {
         ensures bytes { IfOk result (λ s. ⟦<MemSource as Source>⟧.left s ≡ Some bytes.now) }
         ensures faults { IfOk result (λ s. ⟦<MemSource as Source>⟧.faults s ≡ 0) }
         ensures fails { IfOk result (λ s. source.fails_of s ≡ reads_named (fails_of self.now) (opened_of self.now)) }
-        ensures counted { IfOk result (λ s. source.reads_of s ≡ 0) }
+        ensures counted { IfOk result (λ s. source.read_count s ≡ 0) }
     {
         let mut reads = Vec::new(alloc);
         for fail in self.fails.as_slice() {
@@ -89,7 +89,7 @@ impl Files for MemFiles {
     ghost faults = { λ f. f.faults };
 
     fn open(&mut self, alloc: Global, name: &str) -> Result<MemSource, OpenFault>
-        ensures bytes { IfOk result (λ item. Opens (Some (entries self.old.files.items)) name.now
+        ensures bytes { IfOk result (λ item. OpensFile (Some (entries self.old.files.items)) name.now
             (⟦<MemSource as Source>⟧.left item)) }
         ensures fresh { IfOk result (λ item. ⟦<MemSource as Source>⟧.faults item ≡ 0) }
         ensures cause { IsErrOf result OpenFault.Failed → Rose self.old.faults self.new.faults }
@@ -102,7 +102,7 @@ impl Files for MemFiles {
         ensures named { IsErrOf result OpenFault.Failed ↔ FailsToOpen self.old name.now }
         ensures reads { IfOk result (λ item. source.fails_of item
             ≡ reads_named (fails_of self.old) (opened_of self.old)) }
-        ensures first { IfOk result (λ item. source.reads_of item ≡ 0) }
+        ensures first { IfOk result (λ item. source.read_count item ≡ 0) }
         ensures kept { fails_of self.new ≡ fails_of self.old }
         ensures counted { opens_of self.new ≡ min (opens_of self.old + 1) (2 ^ 32 - 1) }
         ensures opened { OnOk result (opened_of self.new ≡ min (opened_of self.old + 1) (2 ^ 32 - 1)) }

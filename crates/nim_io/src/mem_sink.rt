@@ -18,7 +18,7 @@ pub struct MemSink {
 }
 
 impl MemSink {
-    ghost use Rattle.nim_io.specs.MemSink.{most_of, fails_of, writes_of};
+    ghost use Rattle.nim_io.specs.MemSink.{most_of, fails_of, write_count};
 
     /// An empty sink that takes at most `most` bytes a call. Each write fails whose number, from 0,
     /// stands in `fails`.
@@ -26,7 +26,7 @@ impl MemSink {
         ensures empty { ⟦<MemSink as Sink>⟧.written result ≡ Some [] }
         ensures faults { ⟦<MemSink as Sink>⟧.faults result ≡ 0 }
         ensures limit { most_of result ≡ most }
-        ensures fails { (fails_of result ≡ fails.items) × (writes_of result ≡ 0) }
+        ensures fails { (fails_of result ≡ fails.items) × (write_count result ≡ 0) }
     {
         MemSink {
             bytes: Vec::new(alloc),
@@ -46,7 +46,7 @@ impl MemSink {
 }
 
 impl Sink for MemSink {
-    ghost use Rattle.nim_io.specs.MemSink.{most_of, fails_of, writes_of};
+    ghost use Rattle.nim_io.specs.MemSink.{most_of, fails_of, write_count};
 
     ghost written = { λ s. Some s.bytes.items };
 
@@ -62,9 +62,9 @@ impl Sink for MemSink {
 
         // It takes as much as it may, and fails where it is to fail.
         ensures taken { IfOk result (λ n. n ≡ min (length piece.now) (most_of self.old)) }
-        ensures named { Contains (fails_of self.old) (writes_of self.old) → IsErr result }
+        ensures named { Contains (fails_of self.old) (write_count self.old) → IsErr result }
         ensures kept { (most_of self.new ≡ most_of self.old) × (fails_of self.new ≡ fails_of self.old) }
-        ensures counted { writes_of self.new ≡ min (writes_of self.old + 1) (2 ^ 32 - 1) }
+        ensures counted { write_count self.new ≡ min (write_count self.old + 1) (2 ^ 32 - 1) }
     {
         let call = self.writes;
         self.writes = call.saturating_add(1);

@@ -18,13 +18,13 @@ pub struct MemSource {
 }
 
 impl MemSource {
-    ghost use Rattle.nim_io.specs.MemSource.{fails_of, reads_of};
+    ghost use Rattle.nim_io.specs.MemSource.{fails_of, read_count};
 
     // A source of these bytes. Each read fails whose number, from 0, stands in `fails`.
     pub(crate) fn new(bytes: Vec<u8>, fails: Vec<u32>) -> MemSource
         ensures bytes { ⟦<MemSource as Source>⟧.left result ≡ Some bytes.items }
         ensures faults { ⟦<MemSource as Source>⟧.faults result ≡ 0 }
-        ensures fails { (fails_of result ≡ fails.items) × (reads_of result ≡ 0) }
+        ensures fails { (fails_of result ≡ fails.items) × (read_count result ≡ 0) }
     {
         MemSource {
             bytes: Cursor::new(bytes),
@@ -43,7 +43,7 @@ impl MemSource {
 }
 
 impl Source for MemSource {
-    ghost use Rattle.nim_io.specs.MemSource.{fails_of, reads_of};
+    ghost use Rattle.nim_io.specs.MemSource.{fails_of, read_count};
 
     ghost left = { λ s. ⟦<Cursor<Vec<u8>> as Read>⟧.remaining s.bytes };
 
@@ -58,9 +58,9 @@ impl Source for MemSource {
         ensures later { NeverFalls self.old.faults self.new.faults }
 
         // It fails where it is to fail, and nowhere else.
-        ensures named { IsErr result ↔ Contains (fails_of self.old) (reads_of self.old) }
+        ensures named { IsErr result ↔ Contains (fails_of self.old) (read_count self.old) }
         ensures kept { fails_of self.new ≡ fails_of self.old }
-        ensures counted { reads_of self.new ≡ min (reads_of self.old + 1) (2 ^ 32 - 1) }
+        ensures counted { read_count self.new ≡ min (read_count self.old + 1) (2 ^ 32 - 1) }
     {
         let call = self.reads;
         self.reads = call.saturating_add(1);

@@ -17,12 +17,12 @@ use Rattle.nim_job.specs.declared.job.Job.{Job}
 use Rattle.nim_job.specs.declared.job.Var.{Var}
 use Rattle.nim_job.specs.declared.stmt.Stmt.{Stmt, out-Stmt}
 use Rattle.nim_job.specs.declared.stmt.Stmt.TheOpen.{Stmt-F}
-use Rattle.nim_job.specs.Driver.{atom_of}
+use Rattle.nim_job.specs.Driver.{atom_value}
 use Rattle.nim_job.specs.Objects.{objects_of}
 use Rattle.nim_job.specs.Serial.{driver_at, tasks_before, tasks_of}
 use Rattle.nim_job.specs.Step.{State, is_over, items_tasks, stmt_tasks, tasks_next}
-use Rattle.nim_job.specs.Tasks.{block_forms_of, block_tasks_of, form_of, forms_of, stage_forms, stages_of, task_of, task_count}
-use Rattle.nim_job.specs.Whole.{is_block, is_task, is_whole}
+use Rattle.nim_job.specs.Tasks.{block_forms_of, block_tasks_of, form_of, forms_of, stage_forms, stages_of, task_with_args, task_count}
+use Rattle.nim_job.specs.Whole.{is_whole_block, is_whole_task, is_whole}
 use Rattle.nim_job.proofs.Whole.{tasks_there, whole_blocks}
 
 -- as many tasks as the stages have
@@ -37,26 +37,26 @@ length_forms vars (stage ∷ stages) =
       sum_by-cons (task_count vars) stage stages,
     )
 
-block_tasks_few : (vars : List Var) (block : Block) → is_block vars block ≡ true → sum_by (task_count vars) block.stages ≤ 1024
+block_tasks_few : (vars : List Var) (block : Block) → is_whole_block vars block ≡ true → sum_by (task_count vars) block.stages ≤ 1024
 block_tasks_few vars block is = grind (arith, nat_tests)
 
-tasks_at : (vars : List Var) (blocks : List Block) (block : ℕ) → list_all (is_block vars) blocks ≡ true
+tasks_at : (vars : List Var) (blocks : List Block) (block : ℕ) → list_all (is_whole_block vars) blocks ≡ true
     → sum_by (task_count vars) (option_map_or (λ (b : Block). b.stages) (slice_get blocks block) []) ≤ 1024
 tasks_at vars [] block all = omega arith
-tasks_at vars (b ∷ blocks) zero all = block_tasks_few vars b (and_parts (is_block vars b) (list_all (is_block vars) blocks) all).0
-tasks_at vars (b ∷ blocks) (suc block) all = tasks_at vars blocks block (and_parts (is_block vars b) (list_all (is_block vars) blocks) all).1
+tasks_at vars (b ∷ blocks) zero all = block_tasks_few vars b (and_parts (is_whole_block vars b) (list_all (is_whole_block vars) blocks) all).0
+tasks_at vars (b ∷ blocks) (suc block) all = tasks_at vars blocks block (and_parts (is_whole_block vars b) (list_all (is_whole_block vars) blocks) all).1
 
 block_few : (job : Job) (block : ℕ) (args : List ℤ) → is_whole job ≡ true → length (block_tasks_of job block args) ≤ 1024
 block_few job block args whole =
     omega (
       arith,
-      length-map (block_forms_of job block) (task_of args),
+      length-map (block_forms_of job block) (task_with_args args),
       length_forms job.vars (stages_of job block),
       tasks_at job.vars job.blocks block (whole_blocks job whole),
     )
 
 stmt_few : (job : Job) (state : State) (stmt : Stmt-F Stmt) → is_whole job ≡ true → length (stmt_tasks job state stmt) ≤ 1024
-stmt_few job state (Stmt-F.Do block args) whole = block_few job block (map (atom_of state.driver.scalars) args) whole
+stmt_few job state (Stmt-F.Do block args) whole = block_few job block (map (atom_value state.driver.scalars) args) whole
 stmt_few job state stmt whole = omega arith
 
 items_few : (job : Job) (state : State) (items : List Item) → is_whole job ≡ true → length (items_tasks job state items) ≤ 1024
@@ -83,29 +83,29 @@ few_before job (suc n) whole =
 pub few_tasks : (job : Job) → is_whole job ≡ true → length (tasks_of job) ≤ 1024 * job.steps
 few_tasks job whole = few_before job job.steps whole
 
-stmt_fit : (job : Job) (state : State) (stmt : Stmt-F Stmt) → is_whole job ≡ true → list_all (is_task (objects_of job.vars)) (stmt_tasks job state stmt) ≡ true
-stmt_fit job state (Stmt-F.Do block args) whole = tasks_there job block (map (atom_of state.driver.scalars) args) whole
+stmt_fit : (job : Job) (state : State) (stmt : Stmt-F Stmt) → is_whole job ≡ true → list_all (is_whole_task (objects_of job.vars)) (stmt_tasks job state stmt) ≡ true
+stmt_fit job state (Stmt-F.Do block args) whole = tasks_there job block (map (atom_value state.driver.scalars) args) whole
 stmt_fit job state stmt whole = refl
 
 items_fit : (job : Job) (state : State) (items : List Item) → is_whole job ≡ true
-    → list_all (is_task (objects_of job.vars)) (items_tasks job state items) ≡ true
+    → list_all (is_whole_task (objects_of job.vars)) (items_tasks job state items) ≡ true
 items_fit job state [] whole = refl
 items_fit job state (Run stmt ∷ rest) whole = stmt_fit job state (out-Stmt stmt) whole
 items_fit job state (Again turns body ∷ rest) whole = refl
 
 next_fit : (job : Job) (state : State) (b : Bool) → is_whole job ≡ true
-    → list_all (is_task (objects_of job.vars)) (if b then [] else items_tasks job state state.driver.todo) ≡ true
+    → list_all (is_whole_task (objects_of job.vars)) (if b then [] else items_tasks job state state.driver.todo) ≡ true
 next_fit job state true whole = refl
 next_fit job state false whole = items_fit job state state.driver.todo whole
 
-fit_before : (job : Job) (n : ℕ) → is_whole job ≡ true → list_all (is_task (objects_of job.vars)) (tasks_before job n) ≡ true
+fit_before : (job : Job) (n : ℕ) → is_whole job ≡ true → list_all (is_whole_task (objects_of job.vars)) (tasks_before job n) ≡ true
 unfolding tasks_before
 fit_before job zero whole = refl
 fit_before job (suc n) whole =
-    list_all-append (is_task (objects_of job.vars)) (tasks_before job n) (tasks_next job (driver_at job n))
-    ∙ and_from (list_all (is_task (objects_of job.vars)) (tasks_before job n)) (list_all (is_task (objects_of job.vars)) (tasks_next job (driver_at job n)))
+    list_all-append (is_whole_task (objects_of job.vars)) (tasks_before job n) (tasks_next job (driver_at job n))
+    ∙ and_from (list_all (is_whole_task (objects_of job.vars)) (tasks_before job n)) (list_all (is_whole_task (objects_of job.vars)) (tasks_next job (driver_at job n)))
     (fit_before job n whole) (next_fit job (driver_at job n) (is_over (driver_at job n)) whole)
 
 -- each task has its function's counts, and reads and writes objects that are there
-pub tasks_fit : (job : Job) → is_whole job ≡ true → list_all (is_task (objects_of job.vars)) (tasks_of job) ≡ true
+pub tasks_fit : (job : Job) → is_whole job ≡ true → list_all (is_whole_task (objects_of job.vars)) (tasks_of job) ≡ true
 tasks_fit job whole = fit_before job job.steps whole

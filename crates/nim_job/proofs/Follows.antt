@@ -15,7 +15,7 @@ use Rattle.nim_job.specs.declared.item.Item.TheVariants.{Run, Again}
 use Rattle.nim_job.specs.declared.job.Job.{Job}
 use Rattle.nim_job.specs.declared.stmt.Stmt.{Stmt, fold_out-Stmt, map-Stmt, out-Stmt}
 use Rattle.nim_job.specs.declared.stmt.Stmt.TheOpen.{Stmt-F}
-use Rattle.nim_job.specs.Driver.{Driver, atom_of, output_limit}
+use Rattle.nim_job.specs.Driver.{Driver, atom_value, output_limit}
 use Rattle.nim_job.specs.Follows.{GoesFurther, GoesOn, Follows, IsThere, StandsAt, state_at}
 use Rattle.nim_job.specs.Machine.{Machine, after_ask, answered, appended, ask_now, ask_of, asked_now, before_ask, items_ask, items_asked, machine_at, quiet_steps, spans_of, start_machine, stmt_ask, stmt_asked}
 use Rattle.nim_job.specs.Objects.{shapes_of, value_at}
@@ -273,7 +273,7 @@ stmt_there : (job : Job) (scalars : List ℤ) (stmt : Stmt-F Stmt) (b : Bool) �
     → IsThere job (if b then Ask.Limit else stmt_ask scalars (spans_of job.vars) stmt)
 stmt_there job scalars stmt true whole sound = tt
 stmt_there job scalars (Stmt-F.Do block args) false whole sound =
-    let found = call_there job.blocks block (length args) sound in (found.0, length-map args (atom_of scalars) ∙ found.1)
+    let found = call_there job.blocks block (length args) sound in (found.0, length-map args (atom_value scalars) ∙ found.1)
 stmt_there job scalars (Stmt-F.Get s var part row cell) false whole sound =
     let there = ltb-true var (length job.vars) sound in
     let below = meant_there job.vars var part (whole_vars job whole) there in

@@ -11,7 +11,7 @@ use Rattle.nim_job.specs.declared.job.Job.{Job}
 use Rattle.nim_job.specs.declared.stmt.Stmt.{Stmt, fold-Stmt, fold-roll-Stmt, ind-Stmt, map-Stmt, roll-Stmt}
 use Rattle.nim_job.specs.declared.stmt.Stmt.TheOpen.{Stmt-F}
 use Rattle.nim_job.specs.Levels.{depth_in, depth_of, greatest, stmt_depth}
-use Rattle.nim_job.specs.Whole.{Scan, is_atom, is_call, is_checked, is_cond, is_whole, scalars_of, scan_all, scan_body, scan_of, scan_stmt, set_at}
+use Rattle.nim_job.specs.Whole.{Scan, is_atom, is_call, is_checked, is_cond, is_whole, scalars_set, scan_all, scan_body, scan_of, scan_stmt, set_at}
 use Rattle.nim_job.proofs.Whole.{whole_checked}
 
 -- whether what a statement names is there, of its parts
@@ -119,12 +119,12 @@ set_some : (o : Option ℕ) → is_some o ≡ true → (n : ℕ) × (o ≡ Some 
 set_some None is = absurd cc
 set_some (Some n) is = (n, refl)
 
-checked_body : (job : Job) → is_checked job ≡ true → is_some (scalars_of job) ≡ true
+checked_body : (job : Job) → is_checked job ≡ true → is_some (scalars_set job) ≡ true
 checked_body job checked = grind (arith, nat_tests)
 
 body_whole : (job : Job) → is_whole job ≡ true → AllFine job job.body 0
 body_whole job whole =
-    let set = set_some (scalars_of job) (checked_body job (whole_checked job whole)) in
+    let set = set_some (scalars_set job) (checked_body job (whole_checked job whole)) in
     let same = map-id job.body in
     subst (λ (stmts : List Stmt). AllFine job stmts 0) same
     (all_fine job (λ (stmt : Stmt). stmt) (every_fine job) job.body 0 0 set.0 (omega arith)

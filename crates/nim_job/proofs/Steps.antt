@@ -8,7 +8,7 @@ use Rattle.nim_job.specs.declared.item.Item.TheVariants.{Run, Again}
 use Rattle.nim_job.specs.declared.job.Job.{Job}
 use Rattle.nim_job.specs.declared.stmt.Stmt.{Stmt, fold_out-Stmt, map-Stmt, out-Stmt}
 use Rattle.nim_job.specs.declared.stmt.Stmt.TheOpen.{Stmt-F}
-use Rattle.nim_job.specs.Driver.{Driver, atom_of, is_met, output_limit}
+use Rattle.nim_job.specs.Driver.{Driver, atom_value, is_met, output_limit}
 use Rattle.nim_job.specs.Machine.{quiet_steps}
 use Rattle.nim_job.specs.Objects.{shapes_of}
 use Rattle.nim_job.specs.Quiet.{again, is_quiet, is_quiet_stmt, items_left, quiet_step, stmt_left, turns_in}
@@ -168,7 +168,7 @@ stmt_sound : (job : Job) (scalars : List ℤ) (stmt : Stmt) (x : Stmt-F Stmt) (r
     → sound_stmt job (map-Stmt Stmt Bool (is_sound job) x) ≡ true
     → list_all (is_item job) rest ≡ true → list_all (is_item job) (stmt_left scalars stmt x rest) ≡ true
 stmt_sound job scalars stmt (Stmt-F.Loop turns body) rest whole sound others =
-    again_sound job (turns_in (atom_of scalars turns)) body rest (parts_sound job body sound) others
+    again_sound job (turns_in (atom_value scalars turns)) body rest (parts_sound job body sound) others
 stmt_sound job scalars stmt (Stmt-F.While cond body) rest whole sound others =
     cond_both (is_met scalars cond) (map Run body ++ Run stmt ∷ rest) rest (λ (items : List Item). list_all (is_item job) items ≡ true)
     (λ met. runs_sound job body (Run stmt ∷ rest) (parts_sound job body sound) (and_from (is_sound job stmt) (list_all (is_item job) rest) whole others))

@@ -21,8 +21,8 @@ use Rattle.nim_job.specs.declared.block.Block.{Block}
 use Rattle.nim_job.specs.declared.job.Var.{Var}
 use Rattle.nim_job.specs.declared.job.Job.{Job}
 use Rattle.nim_job.specs.Objects.{parts_of, objects_of, first_object, shapes_of}
-use Rattle.nim_job.specs.Tasks.{part_of, object_meant, form_of, task_count, stage_forms, stages_of, task_of, block_forms_of, block_tasks_of}
-use Rattle.nim_job.specs.Whole.{is_var, are_vars, is_filled, is_place, is_ref, has_refs, are_distinct, has_distinct, is_stage, is_block, is_checked, is_whole, is_object, is_task}
+use Rattle.nim_job.specs.Tasks.{part_of, object_meant, form_of, task_count, stage_forms, stages_of, task_with_args, block_forms_of, block_tasks_of}
+use Rattle.nim_job.specs.Whole.{is_var, are_vars, is_filled, is_place, is_ref, has_refs, are_distinct, has_distinct, is_stage, is_whole_block, is_checked, is_whole, is_object_within, is_whole_task}
 use Rattle.nim_job.proofs.Lists.{list_all_weaker, list_all-flat_map}
 
 pub whole_checked : (job : Job) → is_whole job ≡ true → is_checked job ≡ true
@@ -31,13 +31,13 @@ whole_checked job whole = (and_parts (is_checked job) (list_all is_filled job.va
 pub whole_inits : (job : Job) → is_whole job ≡ true → list_all is_filled job.vars ≡ true
 whole_inits job whole = (and_parts (is_checked job) (list_all is_filled job.vars) whole).1
 
-checked_parts : (job : Job) → is_checked job ≡ true → (are_vars job.vars ≡ true) × (list_all (is_block job.vars) job.blocks ≡ true)
+checked_parts : (job : Job) → is_checked job ≡ true → (are_vars job.vars ≡ true) × (list_all (is_whole_block job.vars) job.blocks ≡ true)
 checked_parts job checked = grind (arith, nat_tests)
 
 pub whole_vars : (job : Job) → is_whole job ≡ true → are_vars job.vars ≡ true
 whole_vars job whole = (checked_parts job (whole_checked job whole)).0
 
-pub whole_blocks : (job : Job) → is_whole job ≡ true → list_all (is_block job.vars) job.blocks ≡ true
+pub whole_blocks : (job : Job) → is_whole job ≡ true → list_all (is_whole_block job.vars) job.blocks ≡ true
 whole_blocks job whole = (checked_parts job (whole_checked job whole)).1
 
 pub var_sizes : (v : Var) → is_var v ≡ true → (1 ≤ v.parts) × (v.parts ≤ 64) × (1 ≤ v.shape.width)
@@ -46,7 +46,7 @@ var_sizes v is = grind (arith, nat_tests)
 pub vars_sizes : (vars : List Var) → are_vars vars ≡ true → (objects_of vars ≤ 512) × (list_all is_var vars ≡ true)
 vars_sizes vars are = grind (arith, nat_tests)
 
-block_stages : (vars : List Var) (block : Block) → is_block vars block ≡ true → list_all (is_stage vars block.args) block.stages ≡ true
+block_stages : (vars : List Var) (block : Block) → is_whole_block vars block ≡ true → list_all (is_stage vars block.args) block.stages ≡ true
 block_stages vars block is = grind (arith, nat_tests)
 
 -- what a stage that is whole gives for its tasks
@@ -97,13 +97,13 @@ stage_shape vars args stage is =
     (refs_of vars stage.each stage.writes parts.2))
     parts.3)
 
-stages_at : (vars : List Var) (blocks : List Block) (block : ℕ) → list_all (is_block vars) blocks ≡ true
+stages_at : (vars : List Var) (blocks : List Block) (block : ℕ) → list_all (is_whole_block vars) blocks ≡ true
     → list_all (has_shape vars) (option_map_or (λ (b : Block). b.stages) (slice_get blocks block) []) ≡ true
 stages_at vars [] block all = refl
 stages_at vars (b ∷ blocks) zero all =
     list_all_weaker (is_stage vars b.args) (has_shape vars) (stage_shape vars b.args) b.stages
-    (block_stages vars b (and_parts (is_block vars b) (list_all (is_block vars) blocks) all).0)
-stages_at vars (b ∷ blocks) (suc block) all = stages_at vars blocks block (and_parts (is_block vars b) (list_all (is_block vars) blocks) all).1
+    (block_stages vars b (and_parts (is_whole_block vars b) (list_all (is_whole_block vars) blocks) all).0)
+stages_at vars (b ∷ blocks) (suc block) all = stages_at vars blocks block (and_parts (is_whole_block vars b) (list_all (is_whole_block vars) blocks) all).1
 
 shape_refs : (vars : List Var) (stage : Stage) → has_shape vars stage ≡ true → has_refs vars stage ≡ true
 shape_refs vars stage is =
@@ -149,36 +149,36 @@ ref_fits vars ref are is =
     (there.0, there.1, omega (arith, there.2, sizes.0))
 
 object_there : (vars : List Var) (i : ℕ) (ref : Ref) → list_all is_var vars ≡ true → is_ref vars true ref ≡ true
-    → is_object (objects_of vars) (object_meant vars i ref) ≡ true
+    → is_object_within (objects_of vars) (object_meant vars i ref) ≡ true
 object_there vars i ref all is =
     let parts = parts_there vars ref.var all (ref_there vars ref is) in
     let below = part_below ref.place i (parts_of vars ref.var) parts.0 in
     lt-ltb (first_object vars ref.var + part_of ref.place i (parts_of vars ref.var)) (objects_of vars) (omega (arith, parts.2, below))
 
 objects_there : (vars : List Var) (i : ℕ) (refs : List Ref) → list_all is_var vars ≡ true → list_all (is_ref vars true) refs ≡ true
-    → list_all (is_object (objects_of vars)) (map (object_meant vars i) refs) ≡ true
+    → list_all (is_object_within (objects_of vars)) (map (object_meant vars i) refs) ≡ true
 objects_there vars i refs all are =
-    list_all-map (is_object (objects_of vars)) (object_meant vars i) refs
-    ∙ list_all_weaker (is_ref vars true) (λ ref. is_object (objects_of vars) (object_meant vars i ref)) (λ ref is. object_there vars i ref all is) refs are
+    list_all-map (is_object_within (objects_of vars)) (object_meant vars i) refs
+    ∙ list_all_weaker (is_ref vars true) (λ ref. is_object_within (objects_of vars) (object_meant vars i ref)) (λ ref is. object_there vars i ref all is) refs are
 
 task_there : (vars : List Var) (args : List ℤ) (stage : Stage) (i : ℕ) → list_all is_var vars ≡ true → HasShape vars stage
     → are_distinct (map (object_meant vars i) stage.writes) ≡ true
-    → is_task (objects_of vars) (task_of args (form_of vars stage i)) ≡ true
+    → is_whole_task (objects_of vars) (task_with_args args (form_of vars stage i)) ≡ true
 task_there vars args stage i all shape distinct =
     let counts = has_counts stage.func (length stage.params) (length stage.reads) (length stage.writes) in
-    let reads = list_all (is_object (objects_of vars)) (map (object_meant vars i) stage.reads) in
-    let writes = list_all (is_object (objects_of vars)) (map (object_meant vars i) stage.writes) in
+    let reads = list_all (is_object_within (objects_of vars)) (map (object_meant vars i) stage.reads) in
+    let writes = list_all (is_object_within (objects_of vars)) (map (object_meant vars i) stage.writes) in
     simp length-map (and_from (counts && reads && writes) (are_distinct (map (object_meant vars i) stage.writes))
     (and_from (counts && reads) writes (and_from counts reads shape.counts (objects_there vars i stage.reads all shape.reads))
     (objects_there vars i stage.writes all shape.writes)) distinct)
 
 -- what a `do` runs fits the job: counts and objects
 pub tasks_there : (job : Job) (block : ℕ) (args : List ℤ) → is_whole job ≡ true
-    → list_all (is_task (objects_of job.vars)) (block_tasks_of job block args) ≡ true
+    → list_all (is_whole_task (objects_of job.vars)) (block_tasks_of job block args) ≡ true
 tasks_there job block args whole =
     let all = (vars_sizes job.vars (whole_vars job whole)).1 in
-    let test = λ (form : TaskForm). is_task (objects_of job.vars) (task_of args form) in
-    list_all-map (is_task (objects_of job.vars)) (task_of args) (block_forms_of job block)
+    let test = λ (form : TaskForm). is_whole_task (objects_of job.vars) (task_with_args args form) in
+    list_all-map (is_whole_task (objects_of job.vars)) (task_with_args args) (block_forms_of job block)
     ∙ list_all-flat_map test (stage_forms job.vars) (has_shape job.vars)
     (λ stage is. list_all-map test (form_of job.vars stage) (range_with_len 0 (task_count job.vars stage))
     ∙ list_all_weaker (λ i. are_distinct (map (object_meant job.vars i) stage.writes)) (λ i. test (form_of job.vars stage i))

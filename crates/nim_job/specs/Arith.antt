@@ -13,12 +13,12 @@ abbrev pub remainder : ℤ → ℤ → ℤ
 remainder dividend divisor = if int_eq divisor (pos 0) then pos 0 else int_rem_euclid dividend divisor
 
 -- Sums, differences and products wrap; a quotient is the one that leaves no negative remainder, and it wraps too.
-abbrev pub arith_of : Arith → ℤ → ℤ → ℤ
-arith_of Plus left right = int_wrapping_add w64 left right
-arith_of Minus left right = int_wrapping_sub w64 left right
-arith_of Times left right = int_wrapping_mul w64 left right
-arith_of Divide left right = quotient left right
-arith_of Remainder left right = remainder left right
+abbrev pub arith_value : Arith → ℤ → ℤ → ℤ
+arith_value Plus left right = int_wrapping_add w64 left right
+arith_value Minus left right = int_wrapping_sub w64 left right
+arith_value Times left right = int_wrapping_mul w64 left right
+arith_value Divide left right = quotient left right
+arith_value Remainder left right = remainder left right
 
 -- whether two numbers compare so
 abbrev pub compared : Cmp → ℤ → ℤ → Bool
@@ -37,12 +37,12 @@ least = negsuc 9223372036854775807
 
 -- by 0 the quotient and the remainder are 0
 abbrev pub DividesByZero : Type 0
-DividesByZero = (number : ℤ) → (arith_of Divide number (pos 0) ≡ pos 0) × (arith_of Remainder number (pos 0) ≡ pos 0)
+DividesByZero = (number : ℤ) → (arith_value Divide number (pos 0) ≡ pos 0) × (arith_value Remainder number (pos 0) ≡ pos 0)
 
 -- the least number by -1 is itself, and leaves 0
 abbrev pub DividesTheLeast : Type 0
-DividesTheLeast = (arith_of Divide least (negsuc 0) ≡ least) × (arith_of Remainder least (negsuc 0) ≡ pos 0)
+DividesTheLeast = (arith_value Divide least (negsuc 0) ≡ least) × (arith_value Remainder least (negsuc 0) ≡ pos 0)
 
 -- a remainder is never below 0
 abbrev pub LeavesNatural : Type 0
-LeavesNatural = (left right : ℤ) → (rest : ℕ) × (arith_of Remainder left right ≡ pos rest)
+LeavesNatural = (left right : ℤ) → (rest : ℕ) × (arith_value Remainder left right ≡ pos rest)

@@ -8,8 +8,8 @@ use Rattle.nim_job.specs.declared.stmt.Arith.{Arith}
 use Rattle.nim_job.specs.declared.stmt.Atom.{Atom}
 use Rattle.nim_job.specs.declared.stmt.Atom.TheVariants.{Const, Scalar}
 use Rattle.nim_job.specs.declared.stmt.Cond.{Cond}
-use Rattle.nim_job.specs.Arith.{arith_of, compared}
-use Rattle.nim_job.specs.Whole.{scalars_of}
+use Rattle.nim_job.specs.Arith.{arith_value, compared}
+use Rattle.nim_job.specs.Whole.{scalars_set}
 
 -- the items still to do, the scalars, how many statements were counted, and the output so far
 pub record Driver : Type 0 where
@@ -20,7 +20,7 @@ pub record Driver : Type 0 where
 
 -- how many scalars a job has
 abbrev pub scalar_count : Job → ℕ
-scalar_count job = option_map_or (λ count. count) (scalars_of job) 0
+scalar_count job = option_map_or (λ count. count) (scalars_set job) 0
 
 -- at the start the whole body is to do, and each scalar is 0
 abbrev pub start_driver : Job → Driver
@@ -32,15 +32,15 @@ abbrev pub output_limit : ℕ
 output_limit = 16777216
 
 -- what an atom stands for
-abbrev pub atom_of : List ℤ → Atom → ℤ
-atom_of scalars (Const number) = number
-atom_of scalars (Scalar s) = slice_index_or scalars s (pos 0)
+abbrev pub atom_value : List ℤ → Atom → ℤ
+atom_value scalars (Const number) = number
+atom_value scalars (Scalar s) = slice_index_or scalars s (pos 0)
 
 -- what a `let` sets its scalar to
 abbrev pub let_value : List ℤ → Atom → Option (Arith × Atom) → ℤ
-let_value scalars first None = atom_of scalars first
-let_value scalars first (Some rest) = arith_of rest.0 (atom_of scalars first) (atom_of scalars rest.1)
+let_value scalars first None = atom_value scalars first
+let_value scalars first (Some rest) = arith_value rest.0 (atom_value scalars first) (atom_value scalars rest.1)
 
 -- whether a condition holds
 abbrev pub is_met : List ℤ → Cond → Bool
-is_met scalars cond = compared cond.cmp (atom_of scalars cond.left) (atom_of scalars cond.right)
+is_met scalars cond = compared cond.cmp (atom_value scalars cond.left) (atom_value scalars cond.right)

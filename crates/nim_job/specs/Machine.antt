@@ -12,7 +12,7 @@ use Rattle.nim_job.specs.declared.job.Var.{Var}
 use Rattle.nim_job.specs.declared.span.Span.{Span}
 use Rattle.nim_job.specs.declared.stmt.Stmt.{Stmt, out-Stmt}
 use Rattle.nim_job.specs.declared.stmt.Stmt.TheOpen.{Stmt-F}
-use Rattle.nim_job.specs.Driver.{Driver, atom_of, output_limit, start_driver}
+use Rattle.nim_job.specs.Driver.{Driver, atom_value, output_limit, start_driver}
 use Rattle.nim_job.specs.Objects.{first_object, parts_of}
 use Rattle.nim_job.specs.Quiet.{is_quiet, quiet_step}
 use Rattle.nim_job.specs.Step.{State}
@@ -80,7 +80,7 @@ before_ask m = if m.full then m else record m { driver = quiet_steps (m.steps - 
 
 -- what a statement asks
 abbrev pub stmt_ask : List ℤ → List Span → Stmt-F Stmt → Ask
-stmt_ask scalars spans (Stmt-F.Do block args) = Ask.Run block (map (atom_of scalars) args)
+stmt_ask scalars spans (Stmt-F.Do block args) = Ask.Run block (map (atom_value scalars) args)
 stmt_ask scalars spans (Stmt-F.Get s var part row cell) = Ask.Get (span_object spans var part) row cell
 stmt_ask scalars spans Stmt-F.Checkpoint = Ask.Checkpoint
 stmt_ask scalars spans (Stmt-F.Output var) = Ask.Output var

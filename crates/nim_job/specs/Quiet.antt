@@ -4,7 +4,7 @@ use Rattle.nim_job.specs.declared.item.Item.{Item}
 use Rattle.nim_job.specs.declared.item.Item.TheVariants.{Run, Again}
 use Rattle.nim_job.specs.declared.stmt.Stmt.{Stmt, out-Stmt}
 use Rattle.nim_job.specs.declared.stmt.Stmt.TheOpen.{Stmt-F}
-use Rattle.nim_job.specs.Driver.{Driver, atom_of, is_met, let_value}
+use Rattle.nim_job.specs.Driver.{Driver, atom_value, is_met, let_value}
 
 -- how many turns a loop takes with a number
 abbrev pub turns_in : ℤ → ℕ
@@ -18,7 +18,7 @@ again (suc turns) body rest = map Run body ++ Again turns body ∷ rest
 
 -- what a statement leaves to do before the rest: a `while` whose condition is met leaves its body and then itself
 abbrev pub stmt_left : List ℤ → Stmt → Stmt-F Stmt → List Item → List Item
-stmt_left scalars stmt (Stmt-F.Loop turns body) rest = again (turns_in (atom_of scalars turns)) body rest
+stmt_left scalars stmt (Stmt-F.Loop turns body) rest = again (turns_in (atom_value scalars turns)) body rest
 stmt_left scalars stmt (Stmt-F.While cond body) rest =
     if is_met scalars cond then map Run body ++ Run stmt ∷ rest else rest
 stmt_left scalars stmt (Stmt-F.If cond first second) rest =

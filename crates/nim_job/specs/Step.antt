@@ -14,7 +14,7 @@ use Rattle.nim_job.specs.declared.job.Job.{Job}
 use Rattle.nim_job.specs.declared.job.Var.{Var}
 use Rattle.nim_job.specs.declared.stmt.Stmt.{Stmt, out-Stmt}
 use Rattle.nim_job.specs.declared.stmt.Stmt.TheOpen.{Stmt-F}
-use Rattle.nim_job.specs.Driver.{Driver, atom_of, output_limit, start_driver}
+use Rattle.nim_job.specs.Driver.{Driver, atom_value, output_limit, start_driver}
 use Rattle.nim_job.specs.Objects.{initial_values, value_at, shape_at, shapes_of, parts_at}
 use Rattle.nim_job.specs.Quiet.{quiet_step}
 use Rattle.nim_job.specs.Tasks.{block_tasks_of, object_meant}
@@ -46,17 +46,17 @@ after_tasks shapes values [] = values
 after_tasks shapes values (task ∷ tasks) = after_tasks shapes (after_task shapes values task) tasks
 
 -- the texts of parts, the first of them with this number
-abbrev pub texts_of : List ℕ → ℕ → List Grid → List ℕ
-texts_of name part [] = []
-texts_of name part (grid ∷ grids) = text_of name part grid ++ texts_of name (part + 1) grids
+abbrev pub part_texts : List ℕ → ℕ → List Grid → List ℕ
+part_texts name part [] = []
+part_texts name part (grid ∷ grids) = text_of name part grid ++ part_texts name (part + 1) grids
 
 -- what `output` prints of a variable
 abbrev pub output_of : List Var → List Grid → ℕ → List ℕ
-output_of vars values var = texts_of (option_map_or (λ v. v.name) (slice_get vars var) []) 0 (parts_at vars values var)
+output_of vars values var = part_texts (option_map_or (λ v. v.name) (slice_get vars var) []) 0 (parts_at vars values var)
 
 -- the tasks that a statement runs
 abbrev pub stmt_tasks : Job → State → Stmt-F Stmt → List Task
-stmt_tasks job state (Stmt-F.Do block args) = block_tasks_of job block (map (atom_of state.driver.scalars) args)
+stmt_tasks job state (Stmt-F.Do block args) = block_tasks_of job block (map (atom_value state.driver.scalars) args)
 stmt_tasks job state _ = []
 
 -- the tasks that the first of these items runs

@@ -61,8 +61,8 @@ param_of args (Const number) = number
 param_of args (Arg a) = slice_index_or args a (pos 0)
 
 -- a task with the arguments put in
-abbrev pub task_of : List ℤ → TaskForm → Task
-task_of args form = record {
+abbrev pub task_with_args : List ℤ → TaskForm → Task
+task_with_args args form = record {
   func = form.func;
   params = map (param_of args) form.params;
   reads = form.reads;
@@ -75,4 +75,4 @@ block_forms_of job block = forms_of job.vars (stages_of job block)
 
 -- the tasks that a `do` runs, in order
 abbrev pub block_tasks_of : Job → ℕ → List ℤ → List Task
-block_tasks_of job block args = map (task_of args) (block_forms_of job block)
+block_tasks_of job block args = map (task_with_args args) (block_forms_of job block)

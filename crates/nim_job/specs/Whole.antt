@@ -99,8 +99,8 @@ is_stage vars args stage = has_counts stage.func (length stage.params) (length s
     && has_distinct vars stage
 
 -- at most 8 arguments and 1,024 tasks
-abbrev pub is_block : List Var → Block → Bool
-is_block vars block = nat_le block.args 8 && nat_le (sum_by (task_count vars) block.stages) 1024
+abbrev pub is_whole_block : List Var → Block → Bool
+is_whole_block vars block = nat_le block.args 8 && nat_le (sum_by (task_count vars) block.stages) 1024
     && list_all (is_stage vars block.args) block.stages
 
 -- ---- statements
@@ -165,8 +165,8 @@ abbrev pub scan_of : Job → Stmt → Scan
 scan_of job stmt = fold-Stmt Scan (scan_stmt job) stmt
 
 -- how many scalars a body sets, where it is whole
-abbrev pub scalars_of : Job → Option ℕ
-scalars_of job = scan_all (map (scan_of job) job.body) 0 0
+abbrev pub scalars_set : Job → Option ℕ
+scalars_set job = scan_all (map (scan_of job) job.body) 0 0
 
 -- ---- jobs
 
@@ -174,17 +174,17 @@ scalars_of job = scan_all (map (scan_of job) job.body) 0 0
 -- loaded values may be missing
 abbrev pub is_checked : Job → Bool
 is_checked job = is_between 1 1000000 job.steps && are_vars job.vars && nat_le (length job.blocks) 32
-    && list_all (is_block job.vars) job.blocks && is_some (scalars_of job)
+    && list_all (is_whole_block job.vars) job.blocks && is_some (scalars_set job)
 
 -- and no loaded values are missing
 abbrev pub is_whole : Job → Bool
 is_whole job = is_checked job && list_all is_filled job.vars
 
 -- whether the object is one of so many
-abbrev pub is_object : ℕ → Object → Bool
-is_object objects object = nat_lt object.0 objects
+abbrev pub is_object_within : ℕ → Object → Bool
+is_object_within objects object = nat_lt object.0 objects
 
 -- whether a task's counts are its function's, what it reads and writes are of so many objects, and it writes none twice
-abbrev pub is_task : ℕ → Task → Bool
-is_task objects task = has_counts task.func (length task.params) (length task.reads) (length task.writes)
-    && list_all (is_object objects) task.reads && list_all (is_object objects) task.writes && are_distinct task.writes
+abbrev pub is_whole_task : ℕ → Task → Bool
+is_whole_task objects task = has_counts task.func (length task.params) (length task.reads) (length task.writes)
+    && list_all (is_object_within objects) task.reads && list_all (is_object_within objects) task.writes && are_distinct task.writes

@@ -1,7 +1,7 @@
 ghost use Rattle.std.specs.Prelude.{◌≡◌, map, slice_set, IfOk};
 ghost use Rattle.nim_base.specs.Functions.{quotient};
-ghost use Rattle.nim_job.specs.Arith.{arith_of, compared, remainder};
-ghost use Rattle.nim_job.specs.Driver.{atom_of, is_met, let_value};
+ghost use Rattle.nim_job.specs.Arith.{arith_value, compared, remainder};
+ghost use Rattle.nim_job.specs.Driver.{atom_value, is_met, let_value};
 
 use crate::{Arith, Atom, Cmp, Cond};
 use nim_base::{NoMemory, Seq};
@@ -9,7 +9,7 @@ use std::alloc::Global;
 
 /// What an atom stands for.
 pub(crate) fn atom(scalars: &[i64], atom: Atom) -> i64
-    ensures { result ≡ atom_of scalars.now atom }
+    ensures { result ≡ atom_value scalars.now atom }
 {
     match atom {
         Atom::Const(number) => number,
@@ -22,7 +22,7 @@ pub(crate) fn atom(scalars: &[i64], atom: Atom) -> i64
 
 /// What atoms stand for, in order.
 pub(crate) fn atoms(alloc: Global, scalars: &[i64], atoms: &[Atom]) -> Result<Seq<i64>, NoMemory>
-    ensures { IfOk result (λ numbers. numbers ≡ map (atom_of scalars.now) atoms.now) }
+    ensures { IfOk result (λ numbers. numbers ≡ map (atom_value scalars.now) atoms.now) }
 {
     let mut numbers = Seq::new(alloc);
     for one in atoms {
@@ -65,7 +65,7 @@ pub(crate) fn is_met(scalars: &[i64], cond: Cond) -> bool
 
 /// What two numbers give.
 fn calculate(sign: Arith, left: i64, right: i64) -> i64
-    ensures { result ≡ arith_of sign left right }
+    ensures { result ≡ arith_value sign left right }
 {
     match sign {
         Arith::Plus => left.wrapping_add(right),

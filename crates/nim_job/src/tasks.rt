@@ -1,8 +1,8 @@
 ghost use Rattle.std.specs.Prelude.{◌≡◌, ◌<◌, length, map, IfOk, IsTrue};
 ghost use Rattle.std.specs.List.{list_all};
 ghost use Rattle.nim_job.specs.Objects.{objects_of};
-ghost use Rattle.nim_job.specs.Tasks.{block_tasks_of, param_of, task_of, takes_of};
-ghost use Rattle.nim_job.specs.Whole.{is_task, is_whole};
+ghost use Rattle.nim_job.specs.Tasks.{block_tasks_of, param_of, task_with_args, takes_of};
+ghost use Rattle.nim_job.specs.Whole.{is_whole_task, is_whole};
 
 use crate::{Job, block_forms};
 use nim_base::{NoMemory, Param, Seq, Task, TaskForm};
@@ -15,7 +15,7 @@ pub fn block_tasks(alloc: Global, job: &Job, block: u8, args: &[i64]) -> Result<
     requires block { block < length job.now.blocks }
     requires args { length args.now ≡ takes_of job.now block }
     ensures tasks { IfOk result (λ tasks. tasks.items ≡ block_tasks_of job.now block args.now) }
-    ensures fits { IfOk result (λ tasks. IsTrue (list_all (is_task (objects_of job.now.vars)) tasks.items)) }
+    ensures fits { IfOk result (λ tasks. IsTrue (list_all (is_whole_task (objects_of job.now.vars)) tasks.items)) }
 {
     let forms = block_forms(alloc, job, block)?;
     let tasks = with_arguments(alloc, args, forms)?;
@@ -38,7 +38,7 @@ pub fn param_of(args: &[i64], param: Param) -> i64
 
 /// Tasks with the arguments put in, in order.
 fn with_arguments(alloc: Global, args: &[i64], forms: Vec<TaskForm>) -> Result<Vec<Task>, NoMemory>
-    ensures { IfOk result (λ tasks. tasks.items ≡ map (task_of args.now) forms.items) }
+    ensures { IfOk result (λ tasks. tasks.items ≡ map (task_with_args args.now) forms.items) }
 {
     let mut tasks = Vec::new(alloc);
     for form in forms {
@@ -49,7 +49,7 @@ fn with_arguments(alloc: Global, args: &[i64], forms: Vec<TaskForm>) -> Result<V
 
 /// A task with the arguments put in.
 fn task(alloc: Global, args: &[i64], form: TaskForm) -> Result<Task, NoMemory>
-    ensures { IfOk result (λ task. task ≡ task_of args.now form) }
+    ensures { IfOk result (λ task. task ≡ task_with_args args.now form) }
 {
     let TaskForm {
         func,

@@ -7,7 +7,7 @@ use Rattle.std.proofs.lemmas.Bool.Decides.{Decides-eqb, nat_tests}
 use Rattle.nim_lex.specs.Bytes.{is_newline}
 use Rattle.nim_lex.specs.Rules.{is_too_long}
 use Rattle.nim_lex.specs.declared.fault.Refusal.{Refusal}
-use Rattle.nim_lex.specs.Source.{before_lines, cut, first_refusal, line_count, lines_of, refusal_of}
+use Rattle.nim_lex.specs.Source.{before_lines, cut, first_refusal, line_count, lines_of, token_refusal}
 
 before-some : (b : ℕ) (ls : List (List ℕ)) → 0 < length ls → length (before_lines b ls) ≡ length ls
 before-some b [] some = absurd (omega arith)
@@ -70,7 +70,7 @@ count_within (b ∷ rest) =
     [ true ↦ omega (arith, later) | false ↦ omega (arith, later, before-within b (cut rest)) ]
 
 -- a driver that the rules of its text take is short
-pub short : (source : List ℕ) → refusal_of source ≡ None → length source ≤ 1048576
+pub short : (source : List ℕ) → token_refusal source ≡ None → length source ≤ 1048576
 short source taken =
     let whole : Refusal = record { line = 0; rule = 1 } in
     elim (is_too_long source) as (λ t. is_too_long source ≡ t → cond t (Some whole) (first_refusal (lines_of source)) ≡ None → length source ≤ 1048576)

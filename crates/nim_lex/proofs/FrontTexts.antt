@@ -11,7 +11,7 @@ use Rattle.std.proofs.lemmas.Bool.Decides.{Decides-eqb}
 use Rattle.nim_lex.specs.declared.token.TokenKind.{TokenKind}
 use Rattle.nim_lex.specs.declared.token.TokenKind.TheVariants.{Name, Number, Sign}
 use Rattle.nim_lex.specs.Bytes.{is_name_byte}
-use Rattle.nim_lex.specs.Numbers.{number_of}
+use Rattle.nim_lex.specs.Numbers.{decimal_value}
 use Rattle.nim_lex.specs.Pieces.{Front, found_length, front_of, sign_length, signs}
 use Rattle.nim_lex.specs.Texts.{IsOfKind, is_name, is_numeral}
 
@@ -79,7 +79,7 @@ front_cases : (P : Front → Type 0) (b : ℕ) (rest : List ℕ)
     → (is_ascii_digit b ≡ true → P (record {
       len = prefix_len is_ascii_digit (b ∷ rest);
       kind =
-          Some (Number (number_of (take_while is_ascii_digit (b ∷ rest))));
+          Some (Number (decimal_value (take_while is_ascii_digit (b ∷ rest))));
     }))
     → P (record { len = 1; kind = None })
     → ((sign_length (b ∷ rest) ≡ 0 → ⊥) → P (record { len = sign_length (b ∷ rest); kind = Some Sign }))
@@ -88,7 +88,7 @@ front_cases P b rest named numbered stray signed =
     let n : ℕ = sign_length (b ∷ rest) in
     let D : Front = record { len = n; kind = Some Sign } in
     let C : Front = record { len = 1; kind = None } in
-    let B : Front = record { len = prefix_len is_ascii_digit (b ∷ rest); kind = Some (Number (number_of (take_while is_ascii_digit (b ∷ rest)))) } in
+    let B : Front = record { len = prefix_len is_ascii_digit (b ∷ rest); kind = Some (Number (decimal_value (take_while is_ascii_digit (b ∷ rest)))) } in
     let A : Front = record { len = prefix_len is_name_byte (b ∷ rest); kind = Some Name } in
     let by_sign : P (cond (n == 0) C D) =
     elim (n == 0) as (λ t. (n == 0) ≡ t → P (cond t C D))
@@ -108,7 +108,7 @@ front_text b rest kind is_kind =
     let same : Name ≡ kind = cc in
     subst (λ k. IsOfKind k (take (prefix_len is_name_byte (b ∷ rest)) (b ∷ rest))) same (name_text b rest letter))
     (λ digit e.
-    let same : Number (number_of (take_while is_ascii_digit (b ∷ rest))) ≡ kind = cc in
+    let same : Number (decimal_value (take_while is_ascii_digit (b ∷ rest))) ≡ kind = cc in
     subst (λ k. IsOfKind k (take (prefix_len is_ascii_digit (b ∷ rest)) (b ∷ rest))) same (number_text b rest digit, refl))
     (λ e. cc)
     (λ some e.

@@ -7,7 +7,7 @@ use Rattle.std.proofs.lemmas.List.Sums.{prefix_len-le-length}
 use Rattle.std.proofs.lemmas.Bool.{and_parts, not-true}
 use Rattle.std.specs.List.{list_all, position_or_len}
 use Rattle.nim_lex.specs.Bytes.{is_newline}
-use Rattle.nim_lex.specs.Source.{Line, before_lines, cut, first_refusal, numbered, pieces_of}
+use Rattle.nim_lex.specs.Source.{Line, before_lines, cut, first_refusal, numbered_lines, pieces_of}
 use Rattle.nim_lex.specs.Rules.{broken_by}
 
 -- a byte before a line
@@ -32,22 +32,22 @@ first_line b (c ∷ rest) =
     [ true ↦ refl | false ↦ ap (before_lines b) (first_line c rest) ∙ longer b k cs ]
 
 line_at : (number start n b : ℕ) (rest : List ℕ) → n ≡ position_or_len is_newline (b ∷ rest)
-    → numbered number start (cut (b ∷ rest))
-    ≡ record { number = number; at = start; bytes = take n (b ∷ rest) } ∷ numbered (number + 1) (start + (n + 1)) (cut (drop (n + 1) (b ∷ rest)))
+    → numbered_lines number start (cut (b ∷ rest))
+    ≡ record { number = number; at = start; bytes = take n (b ∷ rest) } ∷ numbered_lines (number + 1) (start + (n + 1)) (cut (drop (n + 1) (b ∷ rest)))
 line_at number start n b rest is_len =
     let bs : List ℕ = b ∷ rest in
     let m : ℕ = position_or_len is_newline bs in
     let all : length (take m bs) ≡ m = length-take-le m bs (prefix_len-le-length (λ x. not (is_newline x)) bs) in
     let next : start + length (take m bs) + 1 ≡ start + (m + 1) = omega arith in
     let here : Line = record { number = number; at = start; bytes = take m bs } in
-    rw is_len (ap (numbered number start) (first_line b rest) ∙ ap (λ k. here ∷ numbered (number + 1) k (cut (drop (m + 1) bs))) next)
+    rw is_len (ap (numbered_lines number start) (first_line b rest) ∙ ap (λ k. here ∷ numbered_lines (number + 1) k (cut (drop (m + 1) bs))) next)
 
 pub step_line : (number start n : ℕ) (bytes : List ℕ) → start < length bytes → n ≡ position_or_len is_newline (drop start bytes)
-    → numbered number start (cut (drop start bytes))
-    ≡ record { number = number; at = start; bytes = take n (drop start bytes) } ∷ numbered (number + 1) (start + (n + 1)) (cut (drop (start + (n + 1)) bytes))
+    → numbered_lines number start (cut (drop start bytes))
+    ≡ record { number = number; at = start; bytes = take n (drop start bytes) } ∷ numbered_lines (number + 1) (start + (n + 1)) (cut (drop (start + (n + 1)) bytes))
 step_line number start n bytes within is_len =
-    let P : List ℕ → Type 0 = λ xs. n ≡ position_or_len is_newline xs → numbered number start (cut xs)
-    ≡ record { number = number; at = start; bytes = take n xs } ∷ numbered (number + 1) (start + (n + 1)) (cut (drop (n + 1) xs)) in
+    let P : List ℕ → Type 0 = λ xs. n ≡ position_or_len is_newline xs → numbered_lines number start (cut xs)
+    ≡ record { number = number; at = start; bytes = take n xs } ∷ numbered_lines (number + 1) (start + (n + 1)) (cut (drop (n + 1) xs)) in
     let at_front : P (drop start bytes) =
     subst P (sym (drop-cons bytes start 0 within)) (line_at number start n (get_or bytes start 0) (drop (suc start) bytes)) in
     rw (← drop-drop (n + 1) start bytes) (at_front is_len)

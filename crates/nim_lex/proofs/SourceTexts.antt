@@ -8,14 +8,14 @@ use Rattle.std.proofs.lemmas.List.Sums.{prefix_len-le-length}
 use Rattle.std.proofs.lemmas.List.Elements.{All-nil, All-append}
 use Rattle.nim_lex.specs.declared.token.Token.{Token}
 use Rattle.nim_lex.specs.Bytes.{is_newline}
-use Rattle.nim_lex.specs.Source.{cut, line_at, line_tokens, numbered, tokens_of}
+use Rattle.nim_lex.specs.Source.{cut, line_at, line_tokens, numbered_lines, tokens_of}
 use Rattle.nim_lex.specs.Texts.{HasItsText, InOrder}
 use Rattle.nim_lex.proofs.LineTexts.{pieces_texts, pieces_order}
 use Rattle.nim_lex.proofs.SourceSteps.{step_line}
 
 -- the tokens of what is left of a source
 abbrev left : List ℕ → ℕ → ℕ → List Token
-left source number at = flat_map line_tokens (numbered number at (cut (drop at source)))
+left source number at = flat_map line_tokens (numbered_lines number at (cut (drop at source)))
 
 none_left : (source : List ℕ) (number at : ℕ) → length source ≤ at → left source number at ≡ []
 none_left source number at past = rw (drop_all at source past) refl

@@ -3,8 +3,8 @@ use Rattle.std.specs.Prelude.{ℕ, ◌+◌, ◌-◌, ◌*◌, nat_le, Bool, if�
 use Rattle.std.specs.List.{fold}
 
 -- the number that digits write
-abbrev pub number_of : List ℕ → ℕ
-number_of digits = fold (λ n digit. n * 10 + (digit - 48)) 0 digits
+abbrev pub decimal_value : List ℕ → ℕ
+decimal_value digits = fold (λ n digit. n * 10 + (digit - 48)) 0 digits
 
 -- the greatest i64
 abbrev pub most : ℕ

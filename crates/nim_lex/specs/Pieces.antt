@@ -5,7 +5,7 @@ use Rattle.std.specs.Char.{is_ascii_alphabetic, is_ascii_digit}
 use Rattle.nim_lex.specs.declared.token.TokenKind.{TokenKind}
 use Rattle.nim_lex.specs.declared.token.TokenKind.TheVariants.{Name, Number, Sign}
 use Rattle.nim_lex.specs.Bytes.{is_blank, is_hash, is_name_byte}
-use Rattle.nim_lex.specs.Numbers.{number_of}
+use Rattle.nim_lex.specs.Numbers.{decimal_value}
 
 -- the signs, the longest first
 abbrev pub signs : List (List ℕ)
@@ -37,7 +37,7 @@ front_of (b ∷ rest) =
     else (if is_ascii_digit b then record {
       len = prefix_len is_ascii_digit (b ∷ rest);
       kind =
-          Some (Number (number_of (take_while is_ascii_digit (b ∷ rest))));
+          Some (Number (decimal_value (take_while is_ascii_digit (b ∷ rest))));
     }
     else (if sign_length (b ∷ rest) == 0 then record { len = 1; kind = None }
     else record { len = sign_length (b ∷ rest); kind = Some Sign }))

@@ -34,14 +34,14 @@ abbrev pub line_at : ℕ → ℕ → List ℕ → Line
 line_at number at bytes = record { number = number; at = at; bytes = bytes }
 
 -- the lines that follow in the source, the first with this number and at this place
-abbrev pub numbered : ℕ → ℕ → List (List ℕ) → List Line
-numbered number at [] = []
-numbered number at (bytes ∷ rest) =
-    line_at number at bytes ∷ numbered (number + 1) (at + length bytes + 1) rest
+abbrev pub numbered_lines : ℕ → ℕ → List (List ℕ) → List Line
+numbered_lines number at [] = []
+numbered_lines number at (bytes ∷ rest) =
+    line_at number at bytes ∷ numbered_lines (number + 1) (at + length bytes + 1) rest
 
 -- the lines of a driver: their numbers count from 1
 abbrev pub lines_of : List ℕ → List Line
-lines_of bytes = numbered 1 0 (cut bytes)
+lines_of bytes = numbered_lines 1 0 (cut bytes)
 
 -- the pieces of a line
 abbrev pub pieces_of : Line → List Piece
@@ -66,6 +66,6 @@ first_refusal (line ∷ lines) =
     option_or (refused line.number (broken_by (pieces_of line))) (first_refusal lines)
 
 -- why a driver is refused, if it is
-abbrev pub refusal_of : List ℕ → Option Refusal
-refusal_of bytes =
+abbrev pub token_refusal : List ℕ → Option Refusal
+token_refusal bytes =
     if is_too_long bytes then Some (record { line = 0; rule = 1 }) else first_refusal (lines_of bytes)

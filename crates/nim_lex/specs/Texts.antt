@@ -6,12 +6,12 @@ use Rattle.nim_lex.specs.declared.token.Token.{Token}
 use Rattle.nim_lex.specs.declared.token.TokenKind.{TokenKind}
 use Rattle.nim_lex.specs.declared.token.TokenKind.TheVariants.{Name, Number, Sign}
 use Rattle.nim_lex.specs.Bytes.{is_name_byte}
-use Rattle.nim_lex.specs.Numbers.{number_of}
+use Rattle.nim_lex.specs.Numbers.{decimal_value}
 use Rattle.nim_lex.specs.Pieces.{signs}
 
 -- the bytes of a token
-abbrev pub text_of : List ℕ → Token → List ℕ
-text_of source t = take t.len (drop t.at source)
+abbrev pub token_text : List ℕ → Token → List ℕ
+token_text source t = take t.len (drop t.at source)
 
 -- a letter followed by letters, digits and underscores
 abbrev pub is_name : List ℕ → Bool
@@ -26,12 +26,12 @@ is_numeral (b ∷ rest) = is_ascii_digit b && list_all is_ascii_digit rest
 -- a text is of its kind, and a number is the value of its digits
 abbrev pub IsOfKind : TokenKind → List ℕ → Type 0
 IsOfKind Name text = is_name text ≡ true
-IsOfKind (Number value) text = (is_numeral text ≡ true) × (value ≡ number_of text)
+IsOfKind (Number value) text = (is_numeral text ≡ true) × (value ≡ decimal_value text)
 IsOfKind Sign text = Contains signs text
 
 -- the bytes of a token are what its kind says
 abbrev pub HasItsText : List ℕ → Token → Type 0
-HasItsText source t = IsOfKind t.kind (text_of source t)
+HasItsText source t = IsOfKind t.kind (token_text source t)
 
 -- tokens between two places: each ends before the next begins
 abbrev pub InOrder : ℕ → ℕ → List Token → Type 0

@@ -6,7 +6,7 @@ const MOST: u64 = 9_223_372_036_854_775_807;
 
 /// The number that digits write, or the greatest of a `u64` where it is greater.
 pub fn number(digits: &[u8]) -> u64
-    ensures { result ≡ min (spec.number_of digits.now) (2 ^ 64 - 1) }
+    ensures { result ≡ min (spec.decimal_value digits.now) (2 ^ 64 - 1) }
 {
     let mut value = 0u64;
     for digit in digits {

@@ -1,6 +1,6 @@
 ghost use Rattle.std.specs.Prelude.{◌≡◌, IfOk, length, All};
 ghost use Rattle.nim_lex.specs.Refusals.{Answers, told};
-ghost use Rattle.nim_lex.specs.Source.{tokens_of, refusal_of};
+ghost use Rattle.nim_lex.specs.Source.{tokens_of, token_refusal};
 ghost use Rattle.nim_lex.specs.Texts.{HasItsText, InOrder};
 
 use crate::line::read_line;
@@ -20,7 +20,7 @@ const TOO_LONG: u8 = 1;
 /// breaks. The tokens are defined in `specs/Source.antt` over `specs/Pieces.antt`, the rules in
 /// `specs/Rules.antt`. Any bytes are taken. Want of memory may come in place of any answer.
 pub fn tokens(alloc: Global, bytes: &[u8]) -> Result<Vec<Token>, LexFault>
-    ensures answers { Answers told (refusal_of bytes.now) result }
+    ensures answers { Answers told (token_refusal bytes.now) result }
     ensures tokens { IfOk result (λ all. all.items ≡ tokens_of bytes.now) }
     ensures texts { IfOk result (λ all. All (HasItsText bytes.now) all.items) }
     ensures order { IfOk result (λ all. InOrder 0 (length bytes.now) all.items) }

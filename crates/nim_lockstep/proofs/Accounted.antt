@@ -26,7 +26,7 @@ use Rattle.nim_course.specs.OrdersGiven.{flight_of, instance_orders, reused_flig
 use Rattle.nim_history.specs.History.{Asked, asked_at}
 use Rattle.nim_history.proofs.InTurn.{asked_still}
 use Rattle.nim_lockstep.specs.declared.ran.Ran.{Ran}
-use Rattle.nim_lockstep.specs.InStep.{has_run}
+use Rattle.nim_lockstep.specs.InStep.{was_run}
 use Rattle.nim_lockstep.proofs.Apart.{all_live, apart_for}
 use Rattle.nim_lockstep.proofs.BegunOnce.{is_begin}
 use Rattle.nim_lockstep.proofs.Course.{KeepsTo}
@@ -104,7 +104,7 @@ still_accounted job setup c next given more trace on later begun same gives acco
       either : (number : ℕ) → number < setup.workers → (place : ℕ) (asked : Asked)
           → asked_at (session_of (orders_to number (given ++ more))).groups place ≡ Some asked
           → (position : ℕ) → position_run asked.command.kind ≡ position ∷ [] → position < c.position
-          → (b : Bool) → is_begin c.pending ≡ b → (is_awaited_by c.flight number asked.group position || has_run trace position) ≡ true
+          → (b : Bool) → is_begin c.pending ≡ b → (is_awaited_by c.flight number asked.group position || was_run trace position) ≡ true
       either number below place asked there position runs early true begin =
           let none = none_given job c given c.pending begin on.leads.leading in absurd (omega (arith, early, none))
       either number below place asked there position runs early false open_now =
@@ -116,13 +116,13 @@ still_accounted job setup c next given more trace on later begun same gives acco
 -- ---- an instance task by task
 
 wider_accounted : (flights more : List Flight) (trace : List Ran) (number : ℕ) (group : Group) (position : ℕ)
-    → (is_awaited_by flights number group position || has_run trace position) ≡ true
-    → (is_awaited_by (flights ++ more) number group position || has_run trace position) ≡ true
+    → (is_awaited_by flights number group position || was_run trace position) ≡ true
+    → (is_awaited_by (flights ++ more) number group position || was_run trace position) ≡ true
 wider_accounted flights more trace number group position is =
     let now : Bool = is_awaited_by (flights ++ more) number group position in
-    elim (or_cases (is_awaited_by flights number group position) (has_run trace position) is) [
-      | inl awaited ↦ or_left now (has_run trace position) (more_awaited flights more number group position awaited)
-      | inr done ↦ or_right now (has_run trace position) done
+    elim (or_cases (is_awaited_by flights number group position) (was_run trace position) is) [
+      | inl awaited ↦ or_left now (was_run trace position) (more_awaited flights more number group position awaited)
+      | inr done ↦ or_right now (was_run trace position) done
     ]
 
 pub instance_accounted : (job : Job) (setup : Setup) (c : Controller) (given : List Directed) (block : ℕ) (tasks : List Task) (trace : List Ran)
@@ -135,7 +135,7 @@ instance_accounted job setup c given block tasks trace on later begun accounted 
     let gives : Each (Gives IsOther) more = instance_each (Gives IsOther) (λ epoch instance commands. refl) c 0 c.versions tasks in
     let grows = singles_grow given more number gives in
     let old : asked_at (session_of (orders_to number given)).groups place ≡ Some asked
-    → (is_awaited_by next.flight number asked.group position || has_run trace position) ≡ true =
+    → (is_awaited_by next.flight number asked.group position || was_run trace position) ≡ true =
     λ at. wider_accounted c.flight (flight_of c tasks) trace number asked.group position (accounted number below place asked at position runs) in
     elim
     (old_or_new (session_of (orders_to number given)).groups grows.news place asked
@@ -147,7 +147,7 @@ instance_accounted job setup c given block tasks trace on later begun accounted 
                 old (was_there job setup c next given (given ++ more) on later begun
                 (λ n under. let other = singles_grow given more n gives in (other.news, other.are)) number below place position asked there runs early)
             | inr late ↦
-                or_left (is_awaited_by next.flight number asked.group position) (has_run trace position)
+                or_left (is_awaited_by next.flight number asked.group position) (was_run trace position)
                 (single_awaited c c.flight tasks number asked.group position (each_at IsOther grows.news new.behind asked.group grows.all new.there) late
                 (omega (arith, given_now job setup next (given ++ more) later refl number below place position asked there runs)))
           ]
@@ -195,9 +195,9 @@ reused_accounted setup c given block args trace keeps accounted = λ number belo
     let none : position_run asked.command.kind ≡ [] =
     each_at RunsNone asked.group.commands new.at asked.command (each_at IsQuiet grows.quiet new.behind asked.group grows.all new.there).1 new.command in
     let nothing : [] ≡ position ∷ [] = sym none ∙ runs in cc in
-    let last : IsNew grows.last asked → (is_awaited_by (with_reused c block).flight number asked.group position || has_run trace position) ≡ true = λ new.
+    let last : IsNew grows.last asked → (is_awaited_by (with_reused c block).flight number asked.group position || was_run trace position) ≡ true = λ new.
     let is = last_is (nat_lt 0 (length (half_of template number))) c.instance grows.last new.behind asked.group grows.is new.there in
-    or_left (is_awaited_by (with_reused c block).flight number asked.group position) (has_run trace position)
+    or_left (is_awaited_by (with_reused c block).flight number asked.group position) (was_run trace position)
     (reused_awaited c c.flight awaited number asked.group position is.0 is.1.0 (entries_awaited (length c.live) template number few is.1.1)) in
     elim (old_or_new (own ++ grows.quiet) grows.last place asked (sym (ap (λ (groups : List Group). asked_at groups place) grows.are) ∙ there)) [
       | inl before ↦

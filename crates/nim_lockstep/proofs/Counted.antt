@@ -18,8 +18,8 @@ use Rattle.nim_course.specs.declared.pending.Pending.{Pending}
 use Rattle.nim_course.specs.declared.pending.Pending.TheVariants.{Begin, Idle, Block, Cell, Parts, Ended}
 use Rattle.nim_course.specs.declared.setup.Setup.{Setup}
 use Rattle.nim_course.specs.Controller.{Controller}
-use Rattle.nim_course.specs.Leads.{HasAsked, Leads, StandsFor, begun_by}
-use Rattle.nim_course.specs.Moves.{IsTurned, AreFree, after_moves, asked, does_wait, done_with, is_held_up, moved, orders_asked, orders_in, orders_of, orders_of_block, orders_with, with_block}
+use Rattle.nim_course.specs.Leads.{HasAsked, Leads, IsDriverAt, instances_begun}
+use Rattle.nim_course.specs.Moves.{IsTurned, AreFree, after_moves, asked, does_wait, after_pending, is_held_up, moved, orders_asked, orders_of_moves, orders_of, orders_of_block, orders_with, with_block}
 use Rattle.nim_course.specs.OrdersGiven.{epoch_orders, first_commands, instance_orders, reused_orders, single_for}
 use Rattle.nim_course.specs.Summaries.{counted_on}
 use Rattle.nim_course.proofs.Asking.{asks_count, goes_on}
@@ -42,8 +42,8 @@ use Rattle.nim_lockstep.proofs.UnderWay.{AreAccounted, AreAllSeparate, AreSepara
 instance_counts : (job : Job) (c : Controller) (given : List Directed) (block : ℕ) (args : List ℤ) → Leads job c given → c.outcome ≡ None
     → c.pending ≡ Block block args → counted_on c.instance 1 ≡ c.instance + 1
 instance_counts job c given block args leads none is =
-    let ask : HasAsked job (Ask.Run block args) c.machine c.position = subst (StandsFor job c) is (leads.driver none) in
-    let few : c.instance + 1 ≤ c.machine.driver.count = subst (λ (pending : Pending). begun_by c pending ≤ c.machine.driver.count) is leads.instances in
+    let ask : HasAsked job (Ask.Run block args) c.machine c.position = subst (IsDriverAt job c) is (leads.driver none) in
+    let few : c.instance + 1 ≤ c.machine.driver.count = subst (λ (pending : Pending). instances_begun c pending ≤ c.machine.driver.count) is leads.instances in
     let counted = asks_count job ask.before c.position ask.opened (ap goes_on ask.asks) in
     omega (arith, few, counted.within, ap (λ (m : Machine). m.driver.count) ask.after, steps_few job leads.whole)
 
@@ -137,10 +137,10 @@ block_counted true job setup c given block args trace on later begun next counte
 }
 
 done_counted : (job : Job) (setup : Setup) (c : Controller) (given : List Directed) (pending : Pending) (trace : List Ran) → c.pending ≡ pending
-    → c.outcome ≡ None → LeadsOnCourse job setup c given → LeadsOnCourse job setup (done_with c pending) (given ++ orders_with c pending)
-    → IsCounted setup c given trace → IsCounted setup (done_with c pending) (given ++ orders_with c pending) trace
+    → c.outcome ≡ None → LeadsOnCourse job setup c given → LeadsOnCourse job setup (after_pending c pending) (given ++ orders_with c pending)
+    → IsCounted setup c given trace → IsCounted setup (after_pending c pending) (given ++ orders_with c pending) trace
 done_counted job setup c given Begin trace is none on later counted = record {
-  accounted = still_accounted job setup c (done_with c Begin) given (epoch_orders c) trace on later refl refl
+  accounted = still_accounted job setup c (after_pending c Begin) given (epoch_orders c) trace on later refl refl
       (λ open_now. absurd (both_ways true (sym (ap is_begin is) ∙ open_now) refl)) counted.accounted;
   separate = first_separate setup c given on.keeps.live
       (λ number below. subst (λ (pending : Pending). BeginOnce pending (orders_to number given)) is (on.keeps.once number below));
@@ -152,13 +152,13 @@ done_counted job setup c given (Block block args) trace is none on later counted
     block_counted (is_recorded c.decisions block) job setup c given block args trace on later (ap is_begin is)
     (instance_counts job c given block args on.leads none is) counted
 done_counted job setup c given (Cell row cell) trace is none on later counted =
-    same_counted job setup c (done_with c (Cell row cell)) given [] trace on later refl
+    same_counted job setup c (after_pending c (Cell row cell)) given [] trace on later refl
     (record { position = refl; flight = refl; instance = refl }) tt counted
 done_counted job setup c given (Parts var) trace is none on later counted =
-    same_counted job setup c (done_with c (Parts var)) given [] trace on later refl
+    same_counted job setup c (after_pending c (Parts var)) given [] trace on later refl
     (record { position = refl; flight = refl; instance = refl }) tt counted
 done_counted job setup c given Ended trace is none on later counted =
-    same_counted job setup c (done_with c Ended) given [] trace on later (ap is_begin is)
+    same_counted job setup c (after_pending c Ended) given [] trace on later (ap is_begin is)
     (record { position = refl; flight = refl; instance = refl }) tt counted
 
 -- ---- one after another
@@ -172,7 +172,7 @@ move_up : (job : Job) (setup : Setup) (c : Controller) (given : List Directed) (
     → IsUpTo job setup c given trace → IsUpTo job setup (moved c) (given ++ orders_of c) trace
 move_up job setup c given trace free up =
     let parts = held_parts c.outcome (does_wait c c.pending) free in
-    let next : Controller = done_with c c.pending in
+    let next : Controller = after_pending c c.pending in
     let all : List Directed = given ++ orders_of c in
     let leads : Leads job (moved c) all = move_leads job c given up.on.leads free in
     let keeps : KeepsTo setup (moved c) all = move_keeps setup c given up.on.keeps in
@@ -184,12 +184,12 @@ move_up job setup c given trace free up =
     record { on = record { leads = leads; keeps = keeps }; counted = record { accounted = counted.accounted; separate = counted.separate } }
 
 moves_up : (job : Job) (setup : Setup) (c : Controller) (given : List Directed) (trace : List Ran) (count : ℕ) → AreFree count c
-    → IsUpTo job setup c given trace → IsUpTo job setup (after_moves count c) (given ++ orders_in count c) trace
+    → IsUpTo job setup c given trace → IsUpTo job setup (after_moves count c) (given ++ orders_of_moves count c) trace
 moves_up job setup c given trace zero free up = subst (λ (all : List Directed). IsUpTo job setup c all trace) (sym (append-nil given)) up
 moves_up job setup c given trace (suc count) free up =
     let now : Controller = after_moves count c in
-    subst (λ (all : List Directed). IsUpTo job setup (moved now) all trace) (append_assoc given (orders_in count c) (orders_of now))
-    (move_up job setup now (given ++ orders_in count c) trace free.1 (moves_up job setup c given trace count free.0 up))
+    subst (λ (all : List Directed). IsUpTo job setup (moved now) all trace) (append_assoc given (orders_of_moves count c) (orders_of now))
+    (move_up job setup now (given ++ orders_of_moves count c) trace free.1 (moves_up job setup c given trace count free.0 up))
 
 due_counted : (setup : Setup) (c : Controller) (put : List Directed) (trace : List Ran) → IsCounted setup c put trace
     → IsCounted setup (record c { due = false }) put trace
@@ -200,9 +200,9 @@ pub turn_counted : (job : Job) (setup : Setup) (before after : Controller) (give
     → IsCounted setup after (given ++ orders) trace
 turn_counted job setup before after given orders trace on turned counted =
     let moves = turned.moved in
-    let up : IsUpTo job setup (after_moves moves.count before) (given ++ orders_in moves.count before) trace =
+    let up : IsUpTo job setup (after_moves moves.count before) (given ++ orders_of_moves moves.count before) trace =
     moves_up job setup before given trace moves.count moves.free (record { on = on; counted = counted }) in
     let end : IsCounted setup turned.end (given ++ orders) trace =
     subst (λ (ds : List Directed). IsCounted setup turned.end (given ++ ds) trace) (sym moves.gave)
-    (subst (λ (c : Controller). IsCounted setup c (given ++ orders_in moves.count before) trace) (sym moves.state) up.counted) in
+    (subst (λ (c : Controller). IsCounted setup c (given ++ orders_of_moves moves.count before) trace) (sym moves.state) up.counted) in
     subst (λ (c : Controller). IsCounted setup c (given ++ orders) trace) (sym turned.rests) (due_counted setup turned.end (given ++ orders) trace end)

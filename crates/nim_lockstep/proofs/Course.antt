@@ -16,9 +16,9 @@ use Rattle.nim_course.specs.declared.pending.Pending.{Pending}
 use Rattle.nim_course.specs.declared.pending.Pending.TheVariants.{Begin, Idle, Block, Ended}
 use Rattle.nim_course.specs.declared.setup.Setup.{Setup}
 use Rattle.nim_course.specs.Controller.{Controller}
-use Rattle.nim_course.specs.Moves.{IsTurned, after_moves, asked, done_with, moved, orders_in, orders_of, orders_with, with_block}
+use Rattle.nim_course.specs.Moves.{IsTurned, after_moves, asked, after_pending, moved, orders_of_moves, orders_of, orders_with, with_block}
 use Rattle.nim_course.specs.OrdersGiven.{epoch_orders}
-use Rattle.nim_course.specs.Reports.{after_report, flight_after, flight_through, reported, told}
+use Rattle.nim_course.specs.Reports.{after_report, flight_after, flight_through, reported, value_reported}
 use Rattle.nim_course.proofs.Homes.{live_below}
 use Rattle.nim_lockstep.proofs.BegunOnce.{HasBegun, begun_once, epoch_begins, is_begin, more_begun, move_plain, once_begun}
 use Rattle.nim_lockstep.proofs.UnderWay.{BeginOnce}
@@ -39,7 +39,7 @@ block_alike : (recorded : Bool) (c : Controller) (block : ℕ) (args : List ℤ)
 block_alike false c block args = record { live = refl; place = refl; epoch = refl }
 block_alike true c block args = record { live = refl; place = refl; epoch = refl }
 
-done_alike : (c : Controller) (pending : Pending) → KeepsCourse c (done_with c pending)
+done_alike : (c : Controller) (pending : Pending) → KeepsCourse c (after_pending c pending)
 done_alike c Idle = asked_alike c (ask_of c.machine)
 done_alike c (Block block args) = block_alike (is_recorded c.decisions block) c block args
 done_alike c pending = record { live = refl; place = refl; epoch = refl }
@@ -53,7 +53,7 @@ block_begun : (recorded : Bool) (c : Controller) (block : ℕ) (args : List ℤ)
 block_begun false c block args = refl
 block_begun true c block args = refl
 
-pub done_begun : (c : Controller) (pending : Pending) → c.pending ≡ pending → is_begin (done_with c pending).pending ≡ false
+pub done_begun : (c : Controller) (pending : Pending) → c.pending ≡ pending → is_begin (after_pending c pending).pending ≡ false
 done_begun c Idle is = asked_begun c (ask_of c.machine) (ap is_begin is)
 done_begun c (Block block args) is = block_begun (is_recorded c.decisions block) c block args
 done_begun c Ended is = ap is_begin is
@@ -61,25 +61,25 @@ done_begun c pending is = refl
 
 once_later : (c : Controller) (given : List Directed) (pending : Pending) (number : ℕ) → c.pending ≡ pending → is_begin pending ≡ false
     → number < length c.live → BeginOnce pending (orders_to number given)
-    → BeginOnce (done_with c pending).pending (orders_to number (given ++ orders_with c pending))
+    → BeginOnce (after_pending c pending).pending (orders_to number (given ++ orders_with c pending))
 once_later c given pending number is later below once =
     let more : List Directed = orders_with c pending in
-    begun_once (done_with c pending).pending (orders_to number (given ++ more)) (done_begun c pending is)
+    begun_once (after_pending c pending).pending (orders_to number (given ++ more)) (done_begun c pending is)
     (subst HasBegun (sym (to_append number given more))
     (more_begun (orders_to number given) (orders_to number more) (once_begun pending (orders_to number given) later once)
     (move_plain c pending number below later)))
 
 once_moved : (c : Controller) (given : List Directed) (pending : Pending) (number : ℕ) → c.pending ≡ pending → is_live c.live (worker_of number) ≡ true
-    → BeginOnce pending (orders_to number given) → BeginOnce (done_with c pending).pending (orders_to number (given ++ orders_with c pending))
+    → BeginOnce pending (orders_to number given) → BeginOnce (after_pending c pending).pending (orders_to number (given ++ orders_with c pending))
 once_moved c given pending number is there once = either (is_begin pending) refl where
   below : number < length c.live
   below = live_below c.live (worker_of number) there
 
-  either : (b : Bool) → is_begin pending ≡ b → BeginOnce (done_with c pending).pending (orders_to number (given ++ orders_with c pending))
+  either : (b : Bool) → is_begin pending ≡ b → BeginOnce (after_pending c pending).pending (orders_to number (given ++ orders_with c pending))
   either true first = begins pending first once where
     begins : (p : Pending) → is_begin p ≡ true → BeginOnce p (orders_to number given)
-        → BeginOnce (done_with c p).pending (orders_to number (given ++ orders_with c p))
-    begins Begin begin none = begun_once (done_with c Begin).pending (orders_to number (given ++ epoch_orders c)) refl (epoch_begins c given number there none)
+        → BeginOnce (after_pending c p).pending (orders_to number (given ++ orders_with c p))
+    begins Begin begin none = begun_once (after_pending c Begin).pending (orders_to number (given ++ epoch_orders c)) refl (epoch_begins c given number there none)
     begins p begin none = absurd (both_ways false refl begin)
   either false later = once_later c given pending number is later below once
 
@@ -94,7 +94,7 @@ pub record KeepsTo (setup : Setup) (c : Controller) (given : List Directed) : Ty
 
 pub move_keeps : (setup : Setup) (c : Controller) (given : List Directed) → KeepsTo setup c given → KeepsTo setup (moved c) (given ++ orders_of c)
 move_keeps setup c given keeps =
-    let alike : KeepsCourse c (done_with c c.pending) = done_alike c c.pending in
+    let alike : KeepsCourse c (after_pending c c.pending) = done_alike c c.pending in
     record {
       live = alike.live ∙ keeps.live;
       place = alike.place ∙ keeps.place;
@@ -106,12 +106,12 @@ move_keeps setup c given keeps =
     }
 
 moves_keep : (setup : Setup) (c : Controller) (given : List Directed) (count : ℕ) → KeepsTo setup c given
-    → KeepsTo setup (after_moves count c) (given ++ orders_in count c)
+    → KeepsTo setup (after_moves count c) (given ++ orders_of_moves count c)
 moves_keep setup c given zero keeps = subst (KeepsTo setup c) (sym (append-nil given)) keeps
 moves_keep setup c given (suc count) keeps =
     let now : Controller = after_moves count c in
-    subst (KeepsTo setup (moved now)) (append_assoc given (orders_in count c) (orders_of now))
-    (move_keeps setup now (given ++ orders_in count c) (moves_keep setup c given count keeps))
+    subst (KeepsTo setup (moved now)) (append_assoc given (orders_of_moves count c) (orders_of now))
+    (move_keeps setup now (given ++ orders_of_moves count c) (moves_keep setup c given count keeps))
 
 -- where only the turn that is due changes
 due_keeps : (setup : Setup) (c : Controller) (given : List Directed) → KeepsTo setup c given → KeepsTo setup (record c { due = false }) given
@@ -123,7 +123,7 @@ turn_keeps setup before after given orders keeps turned =
     let moves = turned.moved in
     let end : KeepsTo setup turned.end (given ++ orders) =
     subst (λ (ds : List Directed). KeepsTo setup turned.end (given ++ ds)) (sym moves.gave)
-    (subst (λ (c : Controller). KeepsTo setup c (given ++ orders_in moves.count before)) (sym moves.state)
+    (subst (λ (c : Controller). KeepsTo setup c (given ++ orders_of_moves moves.count before)) (sym moves.state)
     (moves_keep setup before given moves.count keeps)) in
     subst (λ (c : Controller). KeepsTo setup c (given ++ orders)) (sym turned.rests) (due_keeps setup turned.end (given ++ orders) end)
 
@@ -139,7 +139,7 @@ pub record IsStill (before after : Controller) : Type 0 where
 
 reported_still : (c : Controller) (from : Worker) (report : FromWorker) → IsStill c (reported c from report)
 reported_still c from (Value epoch ticket object version value) = either (epoch == c.epoch) where
-  either : (b : Bool) → IsStill c (if b then record c { fetched = told c ticket object version value } else c)
+  either : (b : Bool) → IsStill c (if b then record c { fetched = value_reported c ticket object version value } else c)
   either true = record { live = refl; place = refl; epoch = refl; pending = refl; position = refl }
   either false = record { live = refl; place = refl; epoch = refl; pending = refl; position = refl }
 reported_still c from (Ran epoch position reads) = either (epoch == c.epoch) where

@@ -14,7 +14,7 @@ use Rattle.nim_history.specs.History.{orders_in, state_of}
 use Rattle.nim_history.specs.InTurn.{is_reset}
 use Rattle.nim_lockstep.specs.Cluster.{Batched, ClusterState, Node, has_ended}
 use Rattle.nim_lockstep.specs.Events.{at_node, batch_finished, is_enabled, may_come, of_live, out_sent, passed, report_taken}
-use Rattle.nim_lockstep.specs.Nodes.{begun, finished, frame_taken, frames_from, has_any, may_begin, may_finish, may_frame, may_order, may_report, order_taken, outs_by}
+use Rattle.nim_lockstep.specs.Nodes.{batch_begun, finished, frame_taken, frames_from, has_any, may_begin, may_finish, may_frame, may_order, may_report, order_taken, outs_by}
 use Rattle.nim_lockstep.proofs.FewNodes.{Uses, all_use, done_at, dones, loads, uses_begin, uses_finish, uses_frame, uses_order, uses_report}
 use Rattle.nim_lockstep.proofs.FewOuts.{few_given, ran_finished, some_places}
 use Rattle.nim_lockstep.proofs.FewRan.{few_ran}
@@ -137,7 +137,7 @@ coming_takes s (Data from to) under may =
     (uses_frame from (frames_from from is.node) is.node refl is.does)
 coming_takes s (Begin worker most) under may =
     let is = live_there s (may_begin most) worker may in
-    node_takes s (begun (worker_of worker) most) worker is.node is.there (uses_begin (worker_of worker) most is.node is.does)
+    node_takes s (batch_begun (worker_of worker) most) worker is.node is.there (uses_begin (worker_of worker) most is.node is.does)
 coming_takes s (Finish worker) under may = finished_takes s worker under (live_there s may_finish worker may)
 coming_takes s (Lose worker) under may = absurd (both_ways false refl may)
 coming_takes s (Propose block task to) under may = absurd (both_ways false refl may)

@@ -18,7 +18,7 @@ use Rattle.nim_history.proofs.GoesOn.{history_goes_on}
 use Rattle.nim_history.proofs.Ordered.{ordered_is}
 use Rattle.nim_worker.specs.Taken.{has_released}
 use Rattle.nim_lockstep.specs.Cluster.{Batched, Node, new_node}
-use Rattle.nim_lockstep.specs.Nodes.{batch_after, begun, finished, frame_taken, frames_from, has_any, may_begin, order_taken}
+use Rattle.nim_lockstep.specs.Nodes.{batch_after, batch_begun, finished, frame_taken, frames_from, has_any, may_begin, order_taken}
 use Rattle.nim_lockstep.proofs.FewLists.{sum_replicate, sum_set}
 
 -- ---- what waits at a worker
@@ -119,7 +119,7 @@ idle_none : (batch : Option Batched) → is_some batch ≡ false → idle batch 
 idle_none None is = refl
 idle_none (Some b) is = absurd (both_ways true is refl)
 
-pub uses_begin : (worker : Worker) (most : ℕ) (node : Node) → may_begin most node ≡ true → Uses 1 node (begun worker most node)
+pub uses_begin : (worker : Worker) (most : ℕ) (node : Node) → may_begin most node ≡ true → Uses 1 node (batch_begun worker most node)
 uses_begin worker most node may =
     let front = (and_parts _ (has_released (state_of node.happened)) may).0 in
     let out = (and_parts (nat_le 1 most && nat_le most 16) (not (is_some node.batch)) front).1 in

@@ -10,12 +10,12 @@ use Rattle.nim_command.specs.declared.command.Kind.TheVariants.{Fetch, Run, Send
 use Rattle.nim_command.specs.Waits.{Group, Source, FromInstance}
 use Rattle.nim_store.specs.declared.held.Held.{Held}
 use Rattle.nim_history.specs.declared.out.Out.{Out}
-use Rattle.nim_history.specs.History.{Asked, Completed, Happening, WorkerState, asked_at, completed, left_of, outs_of, state_of, through_outs}
+use Rattle.nim_history.specs.History.{Asked, Completed, Happening, WorkerState, asked_at, completed, left_in_group, outs_of, state_of, through_outs}
 use Rattle.nim_history.specs.InTurn.{MayAllComplete}
 use Rattle.nim_history.specs.Kept.{is_single, own_outs}
 use Rattle.nim_worker.specs.Stands.{after_completions, outs_at}
 use Rattle.nim_lockstep.specs.Cluster.{Batched, Node}
-use Rattle.nim_lockstep.specs.Nodes.{completions, finished, outs_by}
+use Rattle.nim_lockstep.specs.Nodes.{batch_completions, finished, outs_by}
 use Rattle.nim_lockstep.proofs.NodesOuts.{finish_state, given_by, outs_from, ran_after}
 
 -- ---- what one command gives
@@ -39,7 +39,7 @@ few_at state place = either (asked_at state.session.groups place) where
   either : (o : Option Asked) → length (option_map_or (outs_of state place) o []) ≤ 2
   either None = omega arith
   either (Some asked) =
-      let left : ℕ = left_of state.session.groups asked.number (state.ran ++ place ∷ []) in
+      let left : ℕ = left_in_group state.session.groups asked.number (state.ran ++ place ∷ []) in
       omega (
         arith,
         length-append (own_outs asked.group asked.command.kind state.slots) (through_outs asked.group.source asked.group left),
@@ -60,11 +60,11 @@ few_outs state (place ∷ places) =
     )
 
 -- a batch that no Reset came behind completes its commands
-all_complete : (b : Batched) → b.stale ≡ false → completions b ≡ map Completed b.places
+all_complete : (b : Batched) → b.stale ≡ false → batch_completions b ≡ map Completed b.places
 all_complete b fresh = cond-false b.stale [] (map Completed b.places) fresh
 
 finishes_to : (node : Node) (b : Batched) → b.stale ≡ false
-    → state_of (node.happened ++ completions b) ≡ after_completions (state_of node.happened) b.places
+    → state_of (node.happened ++ batch_completions b) ≡ after_completions (state_of node.happened) b.places
 finishes_to node b fresh =
     ap (λ (more : List Happening). state_of (node.happened ++ more)) (all_complete b fresh) ∙ finish_state node.happened b.places
 

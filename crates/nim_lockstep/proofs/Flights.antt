@@ -10,7 +10,7 @@ use Rattle.nim_base.specs.declared.task.Task.{Task}
 use Rattle.nim_command.specs.Waits.{Group}
 use Rattle.nim_order.proofs.Items.{any_of_filter, any_weaker}
 use Rattle.nim_course.specs.Controller.{Controller, Flight, is_in_flight}
-use Rattle.nim_course.specs.OrdersGiven.{awaited_of, flight_of, reused_flight}
+use Rattle.nim_course.specs.OrdersGiven.{awaited_worker, flight_of, reused_flight}
 use Rattle.nim_course.specs.Reports.{after_ran, after_through, flight_after, flight_through, is_of}
 use Rattle.nim_lockstep.proofs.NodesLists.{get_set_other}
 use Rattle.nim_lockstep.proofs.UnderWay.{awaits_through, is_awaited_by, is_awaited_in, is_from_instance}
@@ -19,7 +19,7 @@ use Rattle.nim_lockstep.proofs.UnderWay.{awaits_through, is_awaited_by, is_await
 
 -- each task of a new instance is awaited
 each_awaited : (c : Controller) (tasks : List Task) (k : ℕ) → k < length tasks
-    → option_map_or (λ (run : Option Worker). is_some run) (slice_get (map (awaited_of c) tasks) k) false ≡ true
+    → option_map_or (λ (run : Option Worker). is_some run) (slice_get (map (awaited_worker c) tasks) k) false ≡ true
 each_awaited c [] k below = absurd (omega (arith, below))
 each_awaited c (task ∷ tasks) zero below = refl
 each_awaited c (task ∷ tasks) (suc k) below = each_awaited c tasks k (omega (arith, below))
@@ -28,9 +28,9 @@ new_awaited : (c : Controller) (tasks : List Task) (position : ℕ) → c.positi
     → list_any (is_awaited_in position) (flight_of c tasks) ≡ true
 new_awaited c [] position from below = absurd (omega (arith, from, below))
 new_awaited c (task ∷ tasks) position from below =
-    or_left (is_awaited_in position (record { instance = c.instance; base = c.position; runs = map (awaited_of c) (task ∷ tasks); through = [] })) false
+    or_left (is_awaited_in position (record { instance = c.instance; base = c.position; runs = map (awaited_worker c) (task ∷ tasks); through = [] })) false
     (and_from (nat_le c.position position)
-    (option_map_or (λ (run : Option Worker). is_some run) (slice_get (map (awaited_of c) (task ∷ tasks)) (position - c.position)) false)
+    (option_map_or (λ (run : Option Worker). is_some run) (slice_get (map (awaited_worker c) (task ∷ tasks)) (position - c.position)) false)
     (le-leb c.position position from) (each_awaited c (task ∷ tasks) (position - c.position) (omega (arith, from, below))))
 
 -- a task that was scheduled by itself is awaited with its instance

@@ -15,7 +15,7 @@ use Rattle.nim_lockstep.specs.Cluster.{Batched, ClusterState, Node, has_ended, u
 use Rattle.nim_lockstep.specs.Events.{HasTurned, IsNew, IsPassed, IsStep, at_node, batch_finished, noted, passed, report_taken}
 use Rattle.nim_lockstep.specs.InStep.{AreSteps, IsReached}
 use Rattle.nim_lockstep.specs.Law.{EventsGoOn, HasFollowed}
-use Rattle.nim_lockstep.specs.Nodes.{begun, frame_taken, frames_from, order_taken}
+use Rattle.nim_lockstep.specs.Nodes.{batch_begun, frame_taken, frames_from, order_taken}
 use Rattle.nim_lockstep.specs.Schedules.{AreLines, IsLine, IsOne, IsRunBy, Reaches}
 use Rattle.nim_lockstep.proofs.Keeping.{HasOtherNodes, finish_beside, finished_to, node_beside, turn_beside, turned_to}
 
@@ -63,7 +63,7 @@ passed_same : (s : ClusterState) (event : Event) → IsOfSame s (passed s event)
 passed_same s (Order number) = node_same (λ (node : Node). order_taken node.orders node) number s
 passed_same s (Report number) = report_same s number
 passed_same s (Data from to) = node_same (λ (node : Node). frame_taken from (frames_from from node) node) to s
-passed_same s (Begin number most) = node_same (begun (worker_of number) most) number s
+passed_same s (Begin number most) = node_same (batch_begun (worker_of number) most) number s
 passed_same s (Finish number) = finish_same s number
 passed_same s event = record { job = refl; setup = refl }
 

@@ -32,20 +32,20 @@ use Rattle.nim_worker.proofs.Released.{may_all, none_may}
 use Rattle.nim_lockstep.specs.declared.ran.Ran.{Ran}
 use Rattle.nim_lockstep.specs.Cluster.{Node}
 use Rattle.nim_lockstep.specs.InStep.{ReadsByOrder}
-use Rattle.nim_lockstep.specs.Nodes.{begun, run_at, run_of, runs_at}
+use Rattle.nim_lockstep.specs.Nodes.{batch_begun, run_at, ran_by_command, runs_at}
 use Rattle.nim_lockstep.proofs.NodesLists.{All_flat_map}
 use Rattle.nim_lockstep.proofs.UnderWay.{IsNodeUnderWay, position_at, positions_of}
 
 -- ---- the positions of the runs
 
-positions_run : (worker : Worker) (epoch : ℕ) (slots : Slot → Option Held) (kind : Kind) → positions_of (run_of worker epoch slots kind) ≡ position_run kind
+positions_run : (worker : Worker) (epoch : ℕ) (slots : Slot → Option Held) (kind : Kind) → positions_of (ran_by_command worker epoch slots kind) ≡ position_run kind
 positions_run worker epoch slots (Run position func params reads writes) = refl
 positions_run worker epoch slots kind = refl
 
 positions_at : (worker : Worker) (state : WorkerState) (place : ℕ) → positions_of (run_at worker state place) ≡ position_at state place
 positions_at worker state place = either (asked_at state.session.groups place) where
   either : (o : Option Asked)
-      → positions_of (option_map_or (λ (asked : Asked). run_of worker state.session.epoch state.slots asked.command.kind) o [])
+      → positions_of (option_map_or (λ (asked : Asked). ran_by_command worker state.session.epoch state.slots asked.command.kind) o [])
       ≡ option_map_or (λ (asked : Asked). position_run asked.command.kind) o []
   either None = refl
   either (Some asked) = positions_run worker state.session.epoch state.slots asked.command.kind
@@ -65,7 +65,7 @@ record IsRunRight (job : Job) (number : ℕ) (ran : Ran) : Type 0 where
   reads : ReadsByOrder job ran
 
 run_right : (job : Job) (number epoch : ℕ) (slots : Slot → Option Held) (kind : Kind) → epoch ≡ 0 → ReadsRight job slots kind
-    → All (IsRunRight job number) (run_of (worker_of number) epoch slots kind)
+    → All (IsRunRight job number) (ran_by_command (worker_of number) epoch slots kind)
 run_right job number epoch slots (Run position func params reads writes) first right =
     let ran : Ran = record {
       worker = worker_of number;
@@ -87,7 +87,7 @@ place_right : (job : Job) (number : ℕ) (state : WorkerState) (place : ℕ) →
 place_right job number state place first = either (asked_at state.session.groups place) where
   either : (o : Option Asked) → IfSome o (FindsRight job state place)
       → All (IsRunRight job number)
-      (option_map_or (λ (asked : Asked). run_of (worker_of number) state.session.epoch state.slots asked.command.kind) o [])
+      (option_map_or (λ (asked : Asked). ran_by_command (worker_of number) state.session.epoch state.slots asked.command.kind) o [])
   either None finds = All-nil (IsRunRight job number)
   either (Some asked) finds = run_right job number state.session.epoch state.slots asked.command.kind first finds.reads
 
@@ -121,7 +121,7 @@ some_taken state most least any none =
 
 pub begun_way : (job : Job) (workers number : ℕ) (trace : List Ran) (sent : List ToWorker) (most : ℕ) (node : Node) → is_whole job ≡ true → 1 ≤ most
     → has_released (state_of node.happened) ≡ true → (state_of node.happened).session.epoch ≡ 0 → IsNodeUnderWay job workers number trace sent node
-    → IsNodeUnderWay job workers number trace sent (begun (worker_of number) most node)
+    → IsNodeUnderWay job workers number trace sent (batch_begun (worker_of number) most node)
 begun_way job workers number trace sent most node whole least any first is =
     let state : WorkerState = state_of node.happened in
     let true_of : IsTrueOf job state = histories_are_true job node.happened whole is.history is.handed in

@@ -20,7 +20,7 @@ use Rattle.nim_history.proofs.GoesOn.{history_goes_on}
 use Rattle.nim_worker.specs.Taken.{has_released}
 use Rattle.nim_lockstep.specs.Cluster.{Batched, ClusterState, Node, has_ended}
 use Rattle.nim_lockstep.specs.Events.{batch_finished, is_enabled, may_come, passed, report_taken}
-use Rattle.nim_lockstep.specs.Nodes.{begun, frame_taken, frames_from, may_begin, order_taken}
+use Rattle.nim_lockstep.specs.Nodes.{batch_begun, frame_taken, frames_from, may_begin, order_taken}
 use Rattle.nim_lockstep.proofs.NodesAt.{GoesWell, at_well}
 use Rattle.nim_lockstep.proofs.NodesBegin.{begun_way}
 use Rattle.nim_lockstep.proofs.NodesFinish.{finish_well}
@@ -84,7 +84,7 @@ begin_well : (s : ClusterState) (worker most : ℕ) → IsUnderWay s → is_enab
 begin_well s worker most under enabled =
     let may = and_parts (not (has_ended s)) (may_come s (Begin worker most)) enabled in
     let parts = and_parts (is_live s.control.live (worker_of worker)) (option_map_or (may_begin most) (slice_get s.nodes worker) false) may.1 in
-    at_well s (begun (worker_of worker) most) worker (well s under)
+    at_well s (batch_begun (worker_of worker) most) worker (well s under)
     (λ node there is.
     let begins = may_begin_parts most node (ap (λ (o : Option Node). option_map_or (may_begin most) o false) (sym there) ∙ parts.1) in
     begun_way s.job s.setup.workers worker s.trace (orders_to worker s.put) most node under.leads.whole begins.0 begins.1

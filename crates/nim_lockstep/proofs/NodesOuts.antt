@@ -19,16 +19,16 @@ use Rattle.nim_order.specs.Progress.{is_one_of}
 use Rattle.nim_place.specs.TaskRuns.{position_run}
 use Rattle.nim_store.specs.declared.held.Held.{Held}
 use Rattle.nim_history.specs.declared.out.Out.{Out}
-use Rattle.nim_history.specs.History.{Asked, Completed, Happening, MayComplete, WorkerState, after_asked, asked_at, completed, has_frame, left_of, order_in, orders_in, outs_of, state_of, through_outs}
+use Rattle.nim_history.specs.History.{Asked, Completed, Happening, MayComplete, WorkerState, after_asked, asked_at, completed, has_frame, left_in_group, order_in, orders_in, outs_of, state_of, through_outs}
 use Rattle.nim_history.specs.InTurn.{MayAllComplete}
-use Rattle.nim_history.specs.Kept.{contents_read, frame_of, is_single, own_outs, seen}
+use Rattle.nim_history.specs.Kept.{contents_read, frame_of, is_single, own_outs, held_or_empty}
 use Rattle.nim_history.proofs.Completed.{completed_session}
 use Rattle.nim_history.proofs.GoesOn.{history_goes_on}
 use Rattle.nim_history.proofs.InTurn.{session_stays}
 use Rattle.nim_worker.specs.Stands.{after_completions, outs_at}
 use Rattle.nim_worker.proofs.Finished.{gave_one}
 use Rattle.nim_lockstep.specs.declared.ran.Ran.{Ran as ran_type}
-use Rattle.nim_lockstep.specs.InStep.{has_run}
+use Rattle.nim_lockstep.specs.InStep.{was_run}
 use Rattle.nim_lockstep.proofs.NodesAt.{IsPast}
 use Rattle.nim_lockstep.proofs.NodesOnce.{position_in}
 use Rattle.nim_lockstep.proofs.NodesThrough.{AllRun, through_of}
@@ -106,11 +106,11 @@ one_if P x is true = only_one P x is
 one_if P x is false = All-nil P
 
 own_told : (sent : List ToWorker) (trace : List ran_type) (group : Group) (kind : Kind) (slots : Slot → Option Held)
-    → ((position : ℕ) → position_run kind ≡ position ∷ [] → has_run trace position ≡ true) → All (IsToldOut sent trace) (own_outs group kind slots)
+    → ((position : ℕ) → position_run kind ≡ position ∷ [] → was_run trace position ≡ true) → All (IsToldOut sent trace) (own_outs group kind slots)
 own_told sent trace group (Send slot peer entry) slots have =
-    only_one (IsToldOut sent trace) (Out.Data peer (frame_of group entry (seen slots slot))) tt
+    only_one (IsToldOut sent trace) (Out.Data peer (frame_of group entry (held_or_empty slots slot))) tt
 own_told sent trace group (Fetch slot ticket) slots have =
-    only_one (IsToldOut sent trace) (Out.Report (Value group.epoch ticket (seen slots slot).object (seen slots slot).version (seen slots slot).value)) tt
+    only_one (IsToldOut sent trace) (Out.Report (Value group.epoch ticket (held_or_empty slots slot).object (held_or_empty slots slot).version (held_or_empty slots slot).value)) tt
 own_told sent trace group (Run position func params reads writes) slots have =
     one_if (IsToldOut sent trace) (Out.Report (Ran group.epoch position (contents_read func params reads writes slots))) (have position refl)
     (is_single group.source)
@@ -128,7 +128,7 @@ at_told sent trace state place same have = either (asked_at state.session.groups
   either : (o : Option Asked) → asked_at state.session.groups place ≡ o → All (IsToldOut sent trace) (option_map_or (outs_of state place) o [])
   either None at = All-nil (IsToldOut sent trace)
   either (Some asked) at =
-      let left : ℕ = left_of state.session.groups asked.number (state.ran ++ place ∷ []) in
+      let left : ℕ = left_in_group state.session.groups asked.number (state.ran ++ place ∷ []) in
       All-append (IsToldOut sent trace) (own_outs asked.group asked.command.kind state.slots) (through_outs asked.group.source asked.group left)
       (own_told sent trace asked.group asked.command.kind state.slots
       (λ position run. have place position (among_later state.ran (place ∷ []) place (or_left (place == place) false (eq-eqb place place refl)))
@@ -163,15 +163,15 @@ outs_told sent trace state (place ∷ places) same have =
     (λ at position is. have at position (ran_among state place places at is)))
 
 -- a trace that has runs has their positions
-has_positions : (runs : List ran_type) (position : ℕ) → has_run runs position ≡ is_one_of (positions_of runs) position
+has_positions : (runs : List ran_type) (position : ℕ) → was_run runs position ≡ is_one_of (positions_of runs) position
 has_positions [] position = refl
 has_positions (run ∷ runs) position = ap (λ (b : Bool). (run.position == position) || b) (has_positions runs position)
 
-pub more_run : (trace more : List ran_type) (position : ℕ) → has_run trace position ≡ true → has_run (trace ++ more) position ≡ true
+pub more_run : (trace more : List ran_type) (position : ℕ) → was_run trace position ≡ true → was_run (trace ++ more) position ≡ true
 more_run trace more position is =
-    list_any-append (λ (ran : ran_type). ran.position == position) trace more ∙ or_left (has_run trace position) (has_run more position) is
+    list_any-append (λ (ran : ran_type). ran.position == position) trace more ∙ or_left (was_run trace position) (was_run more position) is
 
-pub run_behind : (trace runs : List ran_type) (position : ℕ) → is_one_of (positions_of runs) position ≡ true → has_run (trace ++ runs) position ≡ true
+pub run_behind : (trace runs : List ran_type) (position : ℕ) → is_one_of (positions_of runs) position ≡ true → was_run (trace ++ runs) position ≡ true
 run_behind trace runs position is =
     list_any-append (λ (ran : ran_type). ran.position == position) trace runs
-    ∙ or_right (has_run trace position) (has_run runs position) (has_positions runs position ∙ is)
+    ∙ or_right (was_run trace position) (was_run runs position) (has_positions runs position ∙ is)

@@ -18,11 +18,11 @@ use Rattle.nim_order.proofs.Items.{get_front}
 use Rattle.nim_order.proofs.Longer.{members_append}
 use Rattle.nim_course.specs.declared.pending.Pending.{Pending}
 use Rattle.nim_place.specs.TaskRuns.{position_run}
-use Rattle.nim_history.specs.History.{Asked, asked_at, is_of_group, left_of}
+use Rattle.nim_history.specs.History.{Asked, asked_at, is_of_group, left_in_group}
 use Rattle.nim_history.proofs.InTurn.{asked_still}
 use Rattle.nim_history.proofs.Left.{asked_is}
 use Rattle.nim_lockstep.specs.declared.ran.Ran.{Ran as ran_type}
-use Rattle.nim_lockstep.specs.InStep.{has_run}
+use Rattle.nim_lockstep.specs.InStep.{was_run}
 use Rattle.nim_lockstep.proofs.NodesLists.{All_behind}
 use Rattle.nim_lockstep.proofs.NodesOnce.{NoReset, groups_grow, once_of, position_in}
 use Rattle.nim_lockstep.proofs.UnderWay.{BeginOnce, IsThrough, IsThroughOf, IsTold, is_from_instance}
@@ -144,7 +144,7 @@ told_front pending front rest trace report once told = tt
 -- all Runs at these places were performed
 abbrev pub AllRun : List ran_type → List Group → List ℕ → Type 0
 AllRun trace groups places =
-    (place position : ℕ) → is_one_of places place ≡ true → position_in groups place ≡ position ∷ [] → has_run trace position ≡ true
+    (place position : ℕ) → is_one_of places place ≡ true → position_in groups place ≡ position ∷ [] → was_run trace position ≡ true
 
 -- a number that passes a test is counted
 none_kept : (p : ℕ → Bool) (from count k : ℕ) → length (filter p (range_with_len from count)) ≡ 0 → from ≤ k → k < from + count → p k ≡ false
@@ -166,7 +166,7 @@ among_left true false is none = absurd (both_ways true none refl)
 among_left false c is none = absurd (both_ways false refl is)
 
 -- where none of a group is left, each of its places is complete
-none_left : (groups : List Group) (ran : List ℕ) (place : ℕ) (asked : Asked) → left_of groups asked.number ran ≡ 0
+none_left : (groups : List Group) (ran : List ℕ) (place : ℕ) (asked : Asked) → left_in_group groups asked.number ran ≡ 0
     → asked_at groups place ≡ Some asked → is_one_of ran place ≡ true
 none_left groups ran place asked none at =
     let of : IsAsked groups place asked = is_asked groups place asked at in
@@ -178,7 +178,7 @@ none_left groups ran place asked none at =
 
 -- where the Runs at all complete places were performed, an instance with none left is through
 pub through_of : (trace : List ran_type) (groups : List Group) (ran : List ℕ) (place : ℕ) (asked : Asked) → asked_at groups place ≡ Some asked
-    → is_from_instance asked.group.source ≡ true → left_of groups asked.number ran ≡ 0 → AllRun trace groups ran
+    → is_from_instance asked.group.source ≡ true → left_in_group groups asked.number ran ≡ 0 → AllRun trace groups ran
     → IsThroughOf groups trace asked.group.instance
 through_of trace groups ran place asked at whole none have = record {
   number = asked.number;
@@ -188,6 +188,6 @@ through_of trace groups ran place asked at whole none have = record {
   whole = whole;
   all = λ other o position there same run.
       have other position
-      (none_left groups ran other o (ap (λ (number : ℕ). left_of groups number ran) same ∙ none) there)
+      (none_left groups ran other o (ap (λ (number : ℕ). left_in_group groups number ran) same ∙ none) there)
       (ap (λ (x : Option Asked). option_map_or (λ (a : Asked). position_run a.command.kind) x []) there ∙ run);
 }

@@ -14,7 +14,7 @@ use Rattle.nim_course.specs.PutLists.{ArePut}
 use Rattle.nim_course.proofs.Puts.{controllers_put}
 use Rattle.nim_lockstep.specs.Cluster.{Batched, ClusterState, Node}
 use Rattle.nim_lockstep.specs.Events.{HasTurned, IsPassed, IsStep, batch_finished, noted, passed, report_taken}
-use Rattle.nim_lockstep.specs.Nodes.{begun, frame_taken, frames_from, order_taken}
+use Rattle.nim_lockstep.specs.Nodes.{batch_begun, frame_taken, frames_from, order_taken}
 use Rattle.nim_lockstep.proofs.Keeping.{HasOtherNodes, finish_beside, finished_to, node_beside, turn_beside, turned_to}
 
 -- what a cluster's controller gave is put
@@ -60,7 +60,7 @@ event_is_put s (Order number) put =
 event_is_put s (Report number) put = report_is_put s number (slice_get s.nodes number) put
 event_is_put s (Data from to) put =
     beside_put s (passed s (Data from to)) (node_beside (λ (node : Node). frame_taken from (frames_from from node) node) to s) put
-event_is_put s (Begin number most) put = beside_put s (passed s (Begin number most)) (node_beside (begun (worker_of number) most) number s) put
+event_is_put s (Begin number most) put = beside_put s (passed s (Begin number most)) (node_beside (batch_begun (worker_of number) most) number s) put
 event_is_put s (Finish number) put = finished_is_put s number (slice_get s.nodes number) put
 event_is_put s (Lose number) put = put
 event_is_put s (Propose block task to) put = put

@@ -13,10 +13,10 @@ use Rattle.nim_place.specs.Extends.{is_live, worker_of}
 use Rattle.nim_place.specs.TaskRuns.{position_run}
 use Rattle.nim_course.specs.declared.setup.Setup.{Setup}
 use Rattle.nim_course.specs.Controller.{Controller, Flight}
-use Rattle.nim_course.specs.Reports.{after_report, flight_after, flight_through, reported, told}
+use Rattle.nim_course.specs.Reports.{after_report, flight_after, flight_through, reported, value_reported}
 use Rattle.nim_history.specs.History.{Asked, asked_at}
 use Rattle.nim_lockstep.specs.declared.ran.Ran.{Ran as ran_type}
-use Rattle.nim_lockstep.specs.InStep.{has_run}
+use Rattle.nim_lockstep.specs.InStep.{was_run}
 use Rattle.nim_lockstep.proofs.Counted.{IsCounted}
 use Rattle.nim_lockstep.proofs.Flights.{still_ran, still_through}
 use Rattle.nim_lockstep.proofs.Groups.{group_asked}
@@ -34,7 +34,7 @@ longer_accounted : (flights : List Flight) (workers : ℕ) (put : List Directed)
 longer_accounted flights workers put trace more accounted = λ number below place asked there position runs.
     let awaited : Bool = is_awaited_by flights number asked.group position in
     ap (λ (b : Bool). awaited || b) (list_any-append (λ (ran : ran_type). ran.position == position) trace more)
-    ∙ or_wider awaited (has_run trace position) (has_run more position) (accounted number below place asked there position runs)
+    ∙ or_wider awaited (was_run trace position) (was_run more position) (accounted number below place asked there position runs)
 
 -- a longer trace accounts for more
 pub longer_counted : (setup : Setup) (c : Controller) (put : List Directed) (trace more : List ran_type) → IsCounted setup c put trace
@@ -46,17 +46,17 @@ longer_counted setup c put trace more counted = record {
 
 -- ---- a report
 
-ran_accounted : (flights : List Flight) (workers : ℕ) (put : List Directed) (trace : List ran_type) (from : Worker) (at : ℕ) → has_run trace at ≡ true
+ran_accounted : (flights : List Flight) (workers : ℕ) (put : List Directed) (trace : List ran_type) (from : Worker) (at : ℕ) → was_run trace at ≡ true
     → AreAccounted flights workers put trace → AreAccounted (flight_after from at flights) workers put trace
 ran_accounted flights workers put trace from at ran accounted = λ number below place asked there position runs.
     let awaited : Bool = is_awaited_by (flight_after from at flights) number asked.group position in
     elim (cases_eq position at) [
-      | inl same ↦ or_right awaited (has_run trace position) (subst (λ (p : ℕ). has_run trace p ≡ true) (sym same) ran)
+      | inl same ↦ or_right awaited (was_run trace position) (subst (λ (p : ℕ). was_run trace p ≡ true) (sym same) ran)
       | inr other ↦
           elim
-          (or_cases (is_awaited_by flights number asked.group position) (has_run trace position) (accounted number below place asked there position runs)) [
-            | inl was ↦ or_left awaited (has_run trace position) (still_ran from at flights number asked.group position other was)
-            | inr done ↦ or_right awaited (has_run trace position) done
+          (or_cases (is_awaited_by flights number asked.group position) (was_run trace position) (accounted number below place asked there position runs)) [
+            | inl was ↦ or_left awaited (was_run trace position) (still_ran from at flights number asked.group position other was)
+            | inr done ↦ or_right awaited (was_run trace position) done
           ]
     ]
 
@@ -64,7 +64,7 @@ ran_accounted flights workers put trace from at ran accounted = λ number below 
 through_ran : (instance workers : ℕ) (put : List Directed) (trace : List ran_type) (from ended number place position : ℕ) (asked : Asked)
     → IsThrough (orders_to from put) trace ended → AreAllSeparate instance workers put → number < workers
     → asked_at (session_of (orders_to number put)).groups place ≡ Some asked → position_run asked.command.kind ≡ position ∷ []
-    → is_from_instance asked.group.source ≡ true → number ≡ from → asked.group.instance ≡ ended → has_run trace position ≡ true
+    → is_from_instance asked.group.source ≡ true → number ≡ from → asked.group.instance ≡ ended → was_run trace position ≡ true
 through_ran instance workers put trace from ended number place position asked through separate below there runs whole own same =
     let groups : List Group = (session_of (orders_to number put)).groups in
     let here : IsThrough (orders_to number put) trace ended = subst (λ (n : ℕ). IsThrough (orders_to n put) trace ended) (sym own) through in
@@ -77,28 +77,28 @@ through_accounted : (flights : List Flight) (instance workers : ℕ) (put : List
     → AreAccounted (flight_through (worker_of from) ended flights) workers put trace
 through_accounted flights instance workers put trace from ended through separate accounted = λ number below place asked there position runs.
     let awaited : Bool = is_awaited_by (flight_through (worker_of from) ended flights) number asked.group position in
-    elim (or_cases (is_awaited_by flights number asked.group position) (has_run trace position) (accounted number below place asked there position runs)) [
+    elim (or_cases (is_awaited_by flights number asked.group position) (was_run trace position) (accounted number below place asked there position runs)) [
       | inl was ↦
-          either number below place asked there position runs was (has_run trace position) refl
-      | inr done ↦ or_right awaited (has_run trace position) done
+          either number below place asked there position runs was (was_run trace position) refl
+      | inr done ↦ or_right awaited (was_run trace position) done
     ] where
       -- a run that wasn't performed isn't of what it is through with
       either : (number : ℕ) → number < workers → (place : ℕ) (asked : Asked) → asked_at (session_of (orders_to number put)).groups place ≡ Some asked
           → (position : ℕ) → position_run asked.command.kind ≡ position ∷ [] → is_awaited_by flights number asked.group position ≡ true
-          → (b : Bool) → has_run trace position ≡ b
-          → (is_awaited_by (flight_through (worker_of from) ended flights) number asked.group position || has_run trace position) ≡ true
+          → (b : Bool) → was_run trace position ≡ b
+          → (is_awaited_by (flight_through (worker_of from) ended flights) number asked.group position || was_run trace position) ≡ true
       either number below place asked there position runs was true done =
-          or_right (is_awaited_by (flight_through (worker_of from) ended flights) number asked.group position) (has_run trace position) done
+          or_right (is_awaited_by (flight_through (worker_of from) ended flights) number asked.group position) (was_run trace position) done
       either number below place asked there position runs was false done =
-          or_left (is_awaited_by (flight_through (worker_of from) ended flights) number asked.group position) (has_run trace position)
+          or_left (is_awaited_by (flight_through (worker_of from) ended flights) number asked.group position) (was_run trace position)
           (still_through (worker_of from) ended flights number asked.group position
-          (λ whole own same. both_ways (has_run trace position) done
+          (λ whole own same. both_ways (was_run trace position) done
           (through_ran instance workers put trace from ended number place position asked through separate below there runs whole own same)) was)
 
 reported_counted : (setup : Setup) (c : Controller) (put : List Directed) (from : ℕ) (report : FromWorker) (trace : List ran_type)
     → IsTold (orders_to from put) trace report → IsCounted setup c put trace → IsCounted setup (reported c (worker_of from) report) put trace
 reported_counted setup c put from (Value epoch ticket object version value) trace is counted = either (epoch == c.epoch) where
-  either : (b : Bool) → IsCounted setup (if b then record c { fetched = told c ticket object version value } else c) put trace
+  either : (b : Bool) → IsCounted setup (if b then record c { fetched = value_reported c ticket object version value } else c) put trace
   either true = record { accounted = counted.accounted; separate = counted.separate }
   either false = counted
 reported_counted setup c put from (Ran epoch position reads) trace is counted = either (epoch == c.epoch) where

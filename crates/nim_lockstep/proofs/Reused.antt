@@ -18,7 +18,7 @@ use Rattle.nim_template.specs.Instance.{half_of}
 use Rattle.nim_patch.specs.declared.patch.PatchCopy.{PatchCopy}
 use Rattle.nim_patch.specs.Given.{install_parts, run_parts}
 use Rattle.nim_patch.specs.Parts.{patch_parts_of}
-use Rattle.nim_patch.specs.Patches.{after_copies, copies_of}
+use Rattle.nim_patch.specs.Patches.{after_copies, patch_copies}
 use Rattle.nim_reuse.specs.declared.reused.Patched.{Patched}
 use Rattle.nim_reuse.specs.declared.reused.Patched.TheVariants.{Not, Repeated, Made}
 use Rattle.nim_reuse.specs.Decisions.{decided_of}
@@ -59,7 +59,7 @@ abbrev pub patch_for : Controller → ℕ → Patched
 patch_for c block = patched_at c.place c.live (instance_at c block) c.versions c.decisions
 
 abbrev pub copies_for : Controller → ℕ → List PatchCopy
-copies_for c block = copies_of c.versions (template_for c block).preconditions
+copies_for c block = patch_copies c.versions (template_for c block).preconditions
 
 -- what a worker gets before its part of the instance
 abbrev pub orders_before : Controller → ℕ → ℕ → List ToWorker

@@ -15,8 +15,8 @@ use Rattle.nim_course.specs.declared.pending.Pending.{Pending}
 use Rattle.nim_course.specs.declared.pending.Pending.TheVariants.{Begin, Idle, Block, Cell, Parts, Ended}
 use Rattle.nim_course.specs.Controller.{Controller, Flight}
 use Rattle.nim_place.specs.Directed.{Directed}
-use Rattle.nim_course.specs.Moves.{AreFree, IsTurned, after_moves, asked, does_wait, done_with, with_block}
-use Rattle.nim_course.specs.Reports.{after_report, flight_after, flight_through, reported, told}
+use Rattle.nim_course.specs.Moves.{AreFree, IsTurned, after_moves, asked, does_wait, after_pending, with_block}
+use Rattle.nim_course.specs.Reports.{after_report, flight_after, flight_through, reported, value_reported}
 use Rattle.nim_course.proofs.Standing.{held_parts}
 
 -- how it ends
@@ -54,12 +54,12 @@ block_settled : (recorded : Bool) (c : Controller) (block : ℕ) (args : List �
 block_settled false c block args none = none_settled (with_block false c block args) none
 block_settled true c block args none = none_settled (with_block true c block args) none
 
-done_settled : (c : Controller) (pending : Pending) → c.outcome ≡ None → does_wait c pending ≡ false → EndsSettled (done_with c pending)
-done_settled c Begin none free = none_settled (done_with c Begin) none
+done_settled : (c : Controller) (pending : Pending) → c.outcome ≡ None → does_wait c pending ≡ false → EndsSettled (after_pending c pending)
+done_settled c Begin none free = none_settled (after_pending c Begin) none
 done_settled c Idle none free = asked_settled c (ask_of c.machine) none
 done_settled c (Block block args) none free = block_settled (is_recorded c.decisions block) c block args none
-done_settled c (Cell row cell) none free = none_settled (done_with c (Cell row cell)) none
-done_settled c (Parts var) none free = none_settled (done_with c (Parts var)) none
+done_settled c (Cell row cell) none free = none_settled (after_pending c (Cell row cell)) none
+done_settled c (Parts var) none free = none_settled (after_pending c (Parts var)) none
 done_settled c Ended none free =
     record { settled = λ is. none_fly c.flight free; some = λ is. let done : Some Done ≡ Some NoWorker = is in absurd cc }
 
@@ -84,8 +84,8 @@ turn_settled before after orders settled turned =
 
 reported_settled : (c : Controller) (from : Worker) (report : FromWorker) → c.outcome ≡ None → EndsSettled (reported c from report)
 reported_settled c from (Value epoch ticket object version value) none = either (epoch == c.epoch) where
-  either : (b : Bool) → EndsSettled (if b then record c { fetched = told c ticket object version value } else c)
-  either true = none_settled (record c { fetched = told c ticket object version value }) none
+  either : (b : Bool) → EndsSettled (if b then record c { fetched = value_reported c ticket object version value } else c)
+  either true = none_settled (record c { fetched = value_reported c ticket object version value }) none
   either false = none_settled c none
 reported_settled c from (Ran epoch position reads) none = either (epoch == c.epoch) where
   either : (b : Bool) → EndsSettled (if b then record c { flight = flight_after from position c.flight } else c)

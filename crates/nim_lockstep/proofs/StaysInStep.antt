@@ -13,7 +13,7 @@ use Rattle.nim_course.proofs.Puts.{controllers_put}
 use Rattle.nim_history.specs.History.{Asked}
 use Rattle.nim_lockstep.specs.Cluster.{ClusterState, unbegun}
 use Rattle.nim_lockstep.specs.Events.{HasTurned, IsStep}
-use Rattle.nim_lockstep.specs.InStep.{AreSteps, HasTruth, IsInStep, IsReached, has_run}
+use Rattle.nim_lockstep.specs.InStep.{AreSteps, HasTruth, IsInStep, IsReached, was_run}
 use Rattle.nim_lockstep.specs.Law.{ClustersStayInStep}
 use Rattle.nim_lockstep.proofs.AtHomes.{are_at_homes}
 use Rattle.nim_lockstep.proofs.BegunOnce.{is_begin}
@@ -37,7 +37,7 @@ none_awaited number group position ran = either (is_from_instance group.source) 
 
 -- once the job is done each task was run
 all_ran : (s : ClusterState) → IsUnderWay s → s.control.outcome ≡ Some Done → (position : ℕ) → position < length (tasks_of s.job)
-    → has_run s.trace position ≡ true
+    → was_run s.trace position ≡ true
 all_ran s under done position below =
     let ended : s.control.pending ≡ Ended = under.leads.done done in
     let all : s.control.position ≡ length (tasks_of s.job) = under.leads.all_run ended in
@@ -45,8 +45,8 @@ all_ran s under done position below =
     given_to s.job s.control s.put s.setup.workers position under.course.live under.course.epoch
     (leading_on s.job s.control s.put s.control.pending (ap is_begin ended) under.leads.leading) (omega (arith, below, all)) in
     let asked : Asked = to.runs.asked in
-    none_awaited to.number asked.group position (has_run s.trace position)
-    (subst (λ (flights : List Flight). (is_awaited_by flights to.number asked.group position || has_run s.trace position) ≡ true) (under.settled done)
+    none_awaited to.number asked.group position (was_run s.trace position)
+    (subst (λ (flights : List Flight). (is_awaited_by flights to.number asked.group position || was_run s.trace position) ≡ true) (under.settled done)
     (under.accounted to.number to.below to.place asked to.runs.there position to.runs.runs))
 
 under_way_in_step : (s : ClusterState) → IsUnderWay s → IsPut s → IsInStep s

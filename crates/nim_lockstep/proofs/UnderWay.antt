@@ -26,7 +26,7 @@ use Rattle.nim_history.specs.Truth.{IsHandedTruth}
 use Rattle.nim_lockstep.specs.declared.ran.Ran.{Ran as ran_type}
 use Rattle.nim_lockstep.specs.Cluster.{Batched, ClusterState, Node, unbegun}
 use Rattle.nim_lockstep.specs.Events.{HasTurned, is_enabled, passed}
-use Rattle.nim_lockstep.specs.InStep.{AreOnce, HasTruth, ReadsByOrder, has_run}
+use Rattle.nim_lockstep.specs.InStep.{AreOnce, HasTruth, ReadsByOrder, was_run}
 
 -- ---- runs and their places
 
@@ -70,7 +70,7 @@ pub record IsThroughOf (groups : List Group) (trace : List ran_type) (instance :
   pub is : group.instance ≡ instance
   pub whole : is_from_instance group.source ≡ true
   pub all : (place : ℕ) (asked : Asked) (position : ℕ) → asked_at groups place ≡ Some asked → asked.number ≡ number
-      → position_run asked.command.kind ≡ position ∷ [] → has_run trace position ≡ true
+      → position_run asked.command.kind ≡ position ∷ [] → was_run trace position ≡ true
 
 -- the same of a worker that was sent these orders
 abbrev pub IsThrough : List ToWorker → List ran_type → ℕ → Type 0
@@ -78,14 +78,14 @@ IsThrough sent trace instance = IsThroughOf (session_of sent).groups trace insta
 
 -- a Run that a worker reports was performed, and so were those of an instance that is through
 abbrev pub IsTold : List ToWorker → List ran_type → FromWorker → Type 0
-IsTold sent trace (Ran epoch position reads) = has_run trace position ≡ true
+IsTold sent trace (Ran epoch position reads) = was_run trace position ≡ true
 IsTold sent trace (Through epoch instance) = IsThrough sent trace instance
 IsTold sent trace report = Unit {0}
 
 -- each Run that a worker completed stands in the trace
 abbrev pub AreTraced : List ran_type → WorkerState → Type 0
 AreTraced trace state =
-    (place position : ℕ) → is_one_of state.ran place ≡ true → position_at state place ≡ position ∷ [] → has_run trace position ≡ true
+    (place position : ℕ) → is_one_of state.ran place ≡ true → position_at state place ≡ position ∷ [] → was_run trace position ≡ true
 
 -- A worker is under way behind these orders: it took the front of them and the rest waits, it was handed what is true of
 -- the job, and so is what it gave; each Run that it completed stands in the trace, and so does each that it reports.
@@ -144,7 +144,7 @@ is_awaited_by flights number group position =
 abbrev pub IsAccounted : List Flight → List ran_type → ℕ → Asked → Type 0
 IsAccounted flights trace number asked =
     (position : ℕ) → position_run asked.command.kind ≡ position ∷ []
-    → (is_awaited_by flights number asked.group position || has_run trace position) ≡ true
+    → (is_awaited_by flights number asked.group position || was_run trace position) ≡ true
 
 -- each run that so many workers are asked for is awaited or was performed
 abbrev pub AreAccounted : List Flight → ℕ → List Directed → List ran_type → Type 0

@@ -24,7 +24,7 @@ use Rattle.nim_lockstep.specs.declared.ran.Ran.{Ran}
 use Rattle.nim_lockstep.specs.Cluster.{Batched, ClusterState, Node, has_ended, unbegun}
 use Rattle.nim_lockstep.specs.Events.{HasTurned, IsPassed, IsStep, at_node, batch_finished, is_enabled, may_come, noted, passed, report_taken}
 use Rattle.nim_lockstep.specs.InStep.{AreOnce, ReadsByOrder}
-use Rattle.nim_lockstep.specs.Nodes.{begun, frame_taken, frames_from, order_taken, runs_by}
+use Rattle.nim_lockstep.specs.Nodes.{batch_begun, frame_taken, frames_from, order_taken, runs_by}
 use Rattle.nim_lockstep.proofs.Apart.{are_apart}
 use Rattle.nim_lockstep.proofs.Counted.{IsCounted, turn_counted}
 use Rattle.nim_lockstep.proofs.Course.{report_keeps, turn_keeps}
@@ -166,7 +166,7 @@ handled_goes : NodesGoOn → (s : ClusterState) (event : Event) → IsUnderWay s
 handled_goes go s (Order number) under none handled = node_goes s (λ (node : Node). order_taken node.orders node) number under handled
 handled_goes go s (Report number) under none handled = reports_go s number under none handled
 handled_goes go s (Data from to) under none handled = node_goes s (λ (node : Node). frame_taken from (frames_from from node) node) to under handled
-handled_goes go s (Begin number most) under none handled = node_goes s (begun (worker_of number) most) number under handled
+handled_goes go s (Begin number most) under none handled = node_goes s (batch_begun (worker_of number) most) number under handled
 handled_goes go s (Finish number) under none handled = finishes go s number under handled
 handled_goes go s (Lose number) under none handled = under
 handled_goes go s (Propose block task to) under none handled = under

@@ -14,7 +14,7 @@ use Rattle.nim_course.specs.Moves.{IsTurned}
 use Rattle.nim_course.specs.Reports.{after_report}
 use Rattle.nim_history.specs.declared.out.Out.{Out}
 use Rattle.nim_lockstep.specs.Cluster.{Batched, ClusterState, Node, has_ended, unbegun}
-use Rattle.nim_lockstep.specs.Nodes.{begun, finished, frame_sent, frame_taken, frames_from, may_begin, may_finish, may_frame, may_order, may_report, order_taken, outs_by, runs_by}
+use Rattle.nim_lockstep.specs.Nodes.{batch_begun, finished, frame_sent, frame_taken, frames_from, may_begin, may_finish, may_frame, may_order, may_report, order_taken, outs_by, runs_by}
 
 -- ---- which events are enabled
 
@@ -93,7 +93,7 @@ passed s (Order worker) = at_node (λ (node : Node). order_taken node.orders nod
 passed s (Report worker) =
     option_map_or (λ (node : Node). report_taken worker node node.reports s) (slice_get s.nodes worker) s
 passed s (Data from to) = at_node (λ (node : Node). frame_taken from (frames_from from node) node) to s
-passed s (Begin worker most) = at_node (begun (worker_of worker) most) worker s
+passed s (Begin worker most) = at_node (batch_begun (worker_of worker) most) worker s
 passed s (Finish worker) =
     option_map_or
     (λ (node : Node). option_map_or (λ (b : Batched). batch_finished worker node s b) node.batch s)

@@ -70,8 +70,8 @@ AreOnce [] = Unit {0}
 AreOnce (ran ∷ more) = (list_any (is_same ran) more ≡ false) × AreOnce more
 
 -- whether the task at a position stands among Runs
-abbrev pub has_run : List Ran → ℕ → Bool
-has_run runs position = list_any (λ (ran : Ran). ran.position == position) runs
+abbrev pub was_run : List Ran → ℕ → Bool
+was_run runs position = list_any (λ (ran : Ran). ran.position == position) runs
 
 -- A cluster is in step with program order.
 pub record IsInStep (s : ClusterState) : Type 0 where
@@ -87,7 +87,7 @@ pub record IsInStep (s : ClusterState) : Type 0 where
   pub once : AreOnce s.trace
   -- once the job is done each of its tasks was run
   pub every : s.control.outcome ≡ Some Done → (position : ℕ) → position < length (tasks_of s.job)
-      → has_run s.trace position ≡ true
+      → was_run s.trace position ≡ true
   -- and it printed what the job prints; or the job passes its limits
   pub ends : IfSome s.control.outcome (EndsBy s.job s.control)
   -- no worker was lost

@@ -75,19 +75,19 @@ frame_taken from (frame ∷ rest) node = record node {
 -- ---- batches
 
 -- what a command runs, with what it reads of these slots, if it is a Run
-abbrev pub run_of : Worker → ℕ → (Slot → Option Held) → Kind → List Ran
-run_of worker epoch slots (Run position func params reads writes) = record {
+abbrev pub ran_by_command : Worker → ℕ → (Slot → Option Held) → Kind → List Ran
+ran_by_command worker epoch slots (Run position func params reads writes) = record {
   worker = worker;
   epoch = epoch;
   position = position;
   reads = contents_read func params reads writes slots;
 } ∷ []
-run_of worker epoch slots kind = []
+ran_by_command worker epoch slots kind = []
 
 -- what the command at a place runs
 abbrev pub run_at : Worker → WorkerState → ℕ → List Ran
 run_at worker state place =
-    option_map_or (λ (asked : Asked). run_of worker state.session.epoch state.slots asked.command.kind)
+    option_map_or (λ (asked : Asked). ran_by_command worker state.session.epoch state.slots asked.command.kind)
     (asked_at state.session.groups place)
     []
 
@@ -102,12 +102,12 @@ batch_of worker most state =
     record { places = places; runs = runs_at worker state places; stale = false }
 
 -- a worker that begins it
-abbrev pub begun : Worker → ℕ → Node → Node
-begun worker most node = record node { batch = Some (batch_of worker most (state_of node.happened)) }
+abbrev pub batch_begun : Worker → ℕ → Node → Node
+batch_begun worker most node = record node { batch = Some (batch_of worker most (state_of node.happened)) }
 
 -- what is completed when a batch is finished: nothing where a Reset came since it was begun
-abbrev pub completions : Batched → List Happening
-completions b = if b.stale then [] else map Completed b.places
+abbrev pub batch_completions : Batched → List Happening
+batch_completions b = if b.stale then [] else map Completed b.places
 
 -- what is run by then: a batch that is dropped runs nothing
 abbrev pub runs_by : Batched → List Ran
@@ -115,12 +115,12 @@ runs_by b = if b.stale then [] else b.runs
 
 -- a worker that has finished its batch
 abbrev pub finished : Batched → Node → Node
-finished b node = record node { happened = node.happened ++ completions b; batch = None }
+finished b node = record node { happened = node.happened ++ batch_completions b; batch = None }
 
 -- what it gave by that
 abbrev pub outs_by : Batched → Node → List Out
 outs_by b node =
-    drop (length (state_of node.happened).gave) (state_of (node.happened ++ completions b)).gave
+    drop (length (state_of node.happened).gave) (state_of (node.happened ++ batch_completions b)).gave
 
 -- one more frame of data waits that a worker sent
 abbrev pub frame_sent : ℕ → Data → Node → Node

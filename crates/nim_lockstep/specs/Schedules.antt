@@ -63,7 +63,7 @@ AreLines (line ∷ lines) before after =
     (between : ClusterState) × (IsLine line before between × AreLines lines between after)
 
 -- Events follow a schedule: those of its lines, and then events by the default rule until none is enabled.
-pub record Follows (lines : List Line) (before after : ClusterState) : Type 0 where
+pub record FollowsSchedule (lines : List Line) (before after : ClusterState) : Type 0 where
   pub behind : ClusterState
   pub by_lines : AreLines lines before behind
   pub count : ℕ
@@ -74,4 +74,4 @@ pub record Follows (lines : List Line) (before after : ClusterState) : Type 0 wh
 pub record IsRunBy (job : Job) (setup : Setup) (lines : List Line) (after : ClusterState) : Type 0 where
   pub first : ClusterState
   pub new : IsNew job setup first
-  pub follows : Follows lines first after
+  pub follows : FollowsSchedule lines first after

@@ -99,10 +99,10 @@ abbrev pub data_body : Data → ℕ
 data_body frame = 23 + value_bytes frame.value
 
 -- what follows the length number of any message
-abbrev pub body_of : Message → ℕ
-body_of (Message.Order order) = order_body order
-body_of (Message.Report report) = report_body report
-body_of (Message.Data frame) = data_body frame
+abbrev pub message_body : Message → ℕ
+message_body (Message.Order order) = order_body order
+message_body (Message.Report report) = report_body report
+message_body (Message.Data frame) = data_body frame
 
 -- the bytes of a length number of 64 bits, seven bits a byte
 abbrev pub number_bytes : ℕ → ℕ

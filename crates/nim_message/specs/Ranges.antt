@@ -21,7 +21,7 @@ use Rattle.nim_message.specs.declared.frame.Data.{Data}
 use Rattle.nim_message.specs.declared.message.Message.{Message}
 use Rattle.nim_message.specs.declared.order.ToWorker.{ToWorker}
 use Rattle.nim_message.specs.declared.report.FromWorker.{FromWorker}
-use Rattle.nim_message.specs.Lengths.{body_of}
+use Rattle.nim_message.specs.Lengths.{message_body}
 
 -- one of the 1,024 slots of a worker, two an object
 abbrev pub is_slot : Slot → Bool
@@ -156,4 +156,4 @@ has_fields (Message.Data frame) = is_data frame
 
 -- a message has a frame
 abbrev pub is_in_range : Message → Bool
-is_in_range message = has_fields message && nat_le (body_of message) 1048576
+is_in_range message = has_fields message && nat_le (message_body message) 1048576

@@ -25,7 +25,7 @@ pub fn report_length(report: &FromWorker) -> u64
 
 /// The bytes of a message's body.
 pub(crate) fn body_length(message: &Message) -> u64
-    ensures { result ≡ capped (spec.body_of message.now) }
+    ensures { result ≡ capped (spec.message_body message.now) }
 {
     match message {
         Message::Order(order) => order_body(order),

@@ -34,7 +34,7 @@ AnyOrder X =
     → OrderIsFree leave start commands ran
 
 -- Two commands are released at one time.
-pub record AreReleased (commands : List Command) (done : ℕ → Bool) (one other : ℕ) : Type 0 where
+pub record AreBothReleased (commands : List Command) (done : ℕ → Bool) (one other : ℕ) : Type 0 where
   pub first : IsReleasedAt commands done one
   pub second : IsReleasedAt commands done other
   pub distinct : one ≢ other
@@ -68,7 +68,7 @@ pub record StepIsFree {X : Type 0} (leave : Leave X) (start : Slot → X) (comma
       → conflict_at commands earlier later ≡ true
       → done later ≡ true → done earlier ≡ true
   -- two that are released at one time may run at one time
-  pub apart : (one other : ℕ) → AreReleased commands done one other → AreApart leave start commands done one other
+  pub apart : (one other : ℕ) → AreBothReleased commands done one other → AreApart leave start commands done one other
 
 -- Where the complete places of a covered list are closed under waits, each step is free.
 abbrev pub AnyStep : Type 0 → Type 0

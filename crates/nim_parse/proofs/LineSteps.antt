@@ -6,7 +6,7 @@ use Rattle.std.proofs.lemmas.List.{drop-drop, length-drop}
 use Rattle.std.proofs.lemmas.Bool.Decides.{Decides-eqb}
 use Rattle.nim_lex.specs.declared.token.Token.{Token}
 use Rattle.nim_parse.specs.declared.state.State.{State}
-use Rattle.nim_parse.specs.Driver.{before, first_refusal, found, lines, next, number_of}
+use Rattle.nim_parse.specs.Driver.{before, first_refusal, found_line, lines, next_state, number_of}
 use Rattle.nim_parse.specs.Rules.{rule_of}
 
 abbrev is_on : ℕ → Token → Bool
@@ -47,10 +47,10 @@ step_lines ts at len within is_len =
     rw (← drop-drop len at ts) (at_front (drop at ts) len (omega (arith, length-drop at ts)) is_len)
 
 -- a line that a rule refuses, and one that none does
-pub refusal_here : (source : List ℕ) (st : State) (line : List Token) (rest : List (List Token)) (rule : ℕ) → rule_of st (found source st line) ≡ Some rule
+pub refusal_here : (source : List ℕ) (st : State) (line : List Token) (rest : List (List Token)) (rule : ℕ) → rule_of st (found_line source st line) ≡ Some rule
     → first_refusal source st (line ∷ rest) ≡ Some (record { line = number_of line; rule = rule })
 refusal_here source st line rest rule broken = rw broken refl
 
-pub refusal_later : (source : List ℕ) (st : State) (line : List Token) (rest : List (List Token)) → rule_of st (found source st line) ≡ None
-    → first_refusal source st (line ∷ rest) ≡ first_refusal source (next source st line) rest
+pub refusal_later : (source : List ℕ) (st : State) (line : List Token) (rest : List (List Token)) → rule_of st (found_line source st line) ≡ None
+    → first_refusal source st (line ∷ rest) ≡ first_refusal source (next_state source st line) rest
 refusal_later source st line rest sound = rw sound refl

@@ -14,7 +14,7 @@ use Rattle.nim_parse.specs.declared.nest.Open.{Open}
 use Rattle.nim_parse.specs.declared.state.State.{State}
 use Rattle.nim_parse.specs.declared.sections.Block.{Block}
 use Rattle.nim_parse.specs.declared.sections.Line.{Line}
-use Rattle.nim_parse.specs.Driver.{after_form, after_lines, first_refusal, found, lines, next, number_of, refusal_of, tree_of}
+use Rattle.nim_parse.specs.Driver.{after_form, after_lines, first_refusal, found_line, lines, next_state, number_of, grammar_refusal, tree_of}
 use Rattle.nim_parse.specs.Nesting.{is_empty, may_stand, nested, open_after}
 use Rattle.nim_parse.specs.Rules.{rule_10, rule_11, rule_12, rule_13, rule_14, rule_15, rule_16, rule_at_end, rule_of, is_start}
 use Rattle.nim_parse.specs.States.{first}
@@ -79,15 +79,15 @@ all_lines source st [] h before =
     let none = no_rule (line_count source + 1) (rule_at_end st) None (end_only (line_count source + 1) (rule_at_end st) h) in
     (before, none.0)
 all_lines source st (line ∷ rest) h before =
-    let none = no_rule (number_of line) (rule_of st (found source st line)) (first_refusal source (next source st line) rest) h in
-    all_lines source (next source st line) rest none.1
-    (one_form st (found source st line).head (found source st line).fits (found source st line).form none.0 before)
+    let none = no_rule (number_of line) (rule_of st (found_line source st line)) (first_refusal source (next_state source st line) rest) h in
+    all_lines source (next_state source st line) rest none.1
+    (one_form st (found_line source st line).head (found_line source st line).fits (found_line source st line).form none.0 before)
 
 closed_all : (st : State) → rule_at_end st ≡ None → st.opened ≡ []
 unfolding rule_at_end
 closed_all st h = empty st.block st.opened (passes (rule_16 st) 16 None (later (is_start st.phase) 10 _ h))
 
-pub all_nest : (source : List ℕ) → refusal_of source ≡ None → open_after [] (tree_of source).statements ≡ Some []
+pub all_nest : (source : List ℕ) → grammar_refusal source ≡ None → open_after [] (tree_of source).statements ≡ Some []
 all_nest source sound =
     let all = all_lines source first (lines (tokens_of source)) sound refl in
     all.0 ∙ ap Some (closed_all (after_lines source first (lines (tokens_of source))) all.1)

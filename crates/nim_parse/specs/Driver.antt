@@ -13,9 +13,9 @@ use Rattle.nim_parse.specs.declared.form.Head.{Head}
 use Rattle.nim_parse.specs.declared.state.State.{State}
 use Rattle.nim_parse.specs.declared.sections.Sections.{Sections}
 use Rattle.nim_parse.specs.Grammar.{head_of, line_form}
-use Rattle.nim_parse.specs.Input.{Input, Outcome, start}
+use Rattle.nim_parse.specs.Input.{Input, Outcome, unread_line}
 use Rattle.nim_parse.specs.Rules.{rule_of, rule_at_end}
-use Rattle.nim_parse.specs.States.{after, first}
+use Rattle.nim_parse.specs.States.{with_form, first}
 
 -- ---- lines
 
@@ -43,42 +43,42 @@ with_head head None = record { head = head; form = None; fits = true }
 with_head head (Some (form, rest)) = record { head = head; form = Some form; fits = rest.fits }
 
 -- what a line is of which nothing was read yet, by its first word and whether a block is open
-abbrev pub begun : State → ℕ → Input → Found
-begun st line i = with_head (head_of i) (line_form (is_some st.block) line (head_of i) i)
+abbrev pub found_in_input : State → ℕ → Input → Found
+found_in_input st line i = with_head (head_of i) (line_form (is_some st.block) line (head_of i) i)
 
 -- what a line is, after the lines before it
-unfoldable pub found : List ℕ → State → List Token → Found
-found source st line = begun st (number_of line) (start source line)
+unfoldable pub found_line : List ℕ → State → List Token → Found
+found_line source st line = found_in_input st (number_of line) (unread_line source line)
 
 -- ---- one line after the other
 
 -- after a line of this form; one that has none changes nothing
 abbrev pub after_form : State → Option Form → State
 after_form st None = st
-after_form st (Some form) = after st form
+after_form st (Some form) = with_form st form
 
 -- after one more line, given as its tokens
-abbrev pub next : List ℕ → State → List Token → State
-next source st line = after_form st (found source st line).form
+abbrev pub next_state : List ℕ → State → List Token → State
+next_state source st line = after_form st (found_line source st line).form
 
 -- after several lines
 abbrev pub after_lines : List ℕ → State → List (List Token) → State
 after_lines source st [] = st
-after_lines source st (line ∷ rest) = after_lines source (next source st line) rest
+after_lines source st (line ∷ rest) = after_lines source (next_state source st line) rest
 
 -- the first of some lines that a rule refuses, and the smallest that does; the end of the file has the line behind the
 -- last
 abbrev pub first_refusal : List ℕ → State → List (List Token) → Option Refusal
 first_refusal source st [] = refused (line_count source + 1) (rule_at_end st)
 first_refusal source st (line ∷ rest) =
-    option_or (refused (number_of line) (rule_of st (found source st line)))
-    (first_refusal source (next source st line) rest)
+    option_or (refused (number_of line) (rule_of st (found_line source st line)))
+    (first_refusal source (next_state source st line) rest)
 
 -- ---- a driver
 
 -- why the grammar refuses a driver, if it does
-abbrev pub refusal_of : List ℕ → Option Refusal
-refusal_of source = first_refusal source first (lines (tokens_of source))
+abbrev pub grammar_refusal : List ℕ → Option Refusal
+grammar_refusal source = first_refusal source first (lines (tokens_of source))
 
 -- the tree that the lines of a driver make
 abbrev pub tree_of : List ℕ → Sections

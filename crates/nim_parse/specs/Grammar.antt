@@ -165,16 +165,16 @@ unfoldable pub relation : Parser (Option Relation)
 relation = one_of relations
 
 -- a condition from its left atom: that alone where no sign stands behind it, else the sign and one more atom
-abbrev pub compared : Atom → Option Relation → Parser Condition
-compared left None = pure (NotZero left)
-compared left (Some sign) = Holds left sign <$> atom
+abbrev pub condition_behind : Atom → Option Relation → Parser Condition
+condition_behind left None = pure (NotZero left)
+condition_behind left (Some sign) = Holds left sign <$> atom
 
 -- cond = atom [("<"|"<="|"="|"!="|">"|">=") atom]
 unfoldable pub condition : Parser Condition
 condition = do
   left ← atom
   sign ← relation
-  compared left sign
+  condition_behind left sign
 
 -- ---- lines before the statements, the number of the line first
 

@@ -7,7 +7,7 @@ use Rattle.nim_lex.specs.declared.token.TokenKind.TheVariants.{Name, Number}
 use Rattle.nim_lex.specs.contracts.token.Token as token
 use Rattle.nim_lex.specs.contracts.token.TokenKind as kind
 use Rattle.nim_lex.specs.Numbers.{in_range, signed}
-use Rattle.nim_lex.specs.Texts.{text_of}
+use Rattle.nim_lex.specs.Texts.{token_text}
 use Rattle.nim_parse.specs.declared.fault.Unread.{Unread}
 use Rattle.nim_parse.specs.declared.fault.Unread.TheVariants.{Malformed}
 
@@ -35,8 +35,8 @@ input_code =
     (λ i. (i.source, (i.tokens, i.fits))) (λ p. record { source = p.0; tokens = p.1.0; fits = p.1.1 }) (λ _. refl)
 
 -- a line of which nothing was read
-abbrev pub start : List ℕ → List Token → Input
-start source tokens = record { source = source; tokens = tokens; fits = true }
+abbrev pub unread_line : List ℕ → List Token → Input
+unread_line source tokens = record { source = source; tokens = tokens; fits = true }
 
 -- ---- productions
 
@@ -85,27 +85,27 @@ left i = length i.tokens
 -- the next of some tokens has this text
 abbrev pub has_text : List ℕ → List ℕ → List Token → Bool
 has_text text source [] = false
-has_text text source (t ∷ ts) = bytes_eq (text_of source t) text
+has_text text source (t ∷ ts) = bytes_eq (token_text source t) text
 
 -- this word or sign comes next
 unfoldable pub sees : List ℕ → Input → Bool
 sees text i = has_text text i.source i.tokens
 
 -- the line without its next token
-unfoldable pub next : Input → Input
-next i = record i { tokens = drop 1 i.tokens }
+unfoldable pub past_token : Input → Input
+past_token i = record i { tokens = drop 1 i.tokens }
 
 -- the line without its next token where that is this word or sign, else the whole line
-unfoldable pub after : List ℕ → Input → Input
-after text i = if sees text i then next i else i
+unfoldable pub past_if_seen : List ℕ → Input → Input
+past_if_seen text i = if sees text i then past_token i else i
 
 -- takes this word or sign, if it comes next
 abbrev pub eat : List ℕ → Parser Bool
-eat text = λ i. Some (sees text i, after text i)
+eat text = λ i. Some (sees text i, past_if_seen text i)
 
 -- this word or sign
 unfoldable pub expect : List ℕ → Parser (Unit {0})
-expect text = λ i. if sees text i then Some (tt, next i) else None
+expect text = λ i. if sees text i then Some (tt, past_token i) else None
 
 -- the end of the line
 unfoldable pub done : Parser (Unit {0})
@@ -116,7 +116,7 @@ abbrev pub first_name : List ℕ → List Token → Option (List ℕ)
 first_name source [] = None
 first_name source (t ∷ ts) = by_kind t.kind where
   by_kind : TokenKind → Option (List ℕ)
-  by_kind Name = Some (text_of source t)
+  by_kind Name = Some (token_text source t)
   by_kind _ = None
 
 -- the number that the first of some tokens is
@@ -130,7 +130,7 @@ first_number (t ∷ ts) = by_kind t.kind where
 -- takes the next token, if it is something
 abbrev pub taken : {A : Type 0} → Option A → Parser A
 taken None = refuse
-taken (Some x) = λ i. Some (x, next i)
+taken (Some x) = λ i. Some (x, past_token i)
 
 -- a name
 unfoldable pub name : Parser (List ℕ)

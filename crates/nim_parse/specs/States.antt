@@ -20,18 +20,18 @@ first = record {
 }
 
 -- a block with one more stage
-abbrev pub longer : Stage → Option Block → Option Block
-longer s None = None
-longer s (Some b) = Some (record b { stages = b.stages ++ s ∷ [] })
+abbrev pub stage_added : Stage → Option Block → Option Block
+stage_added s None = None
+stage_added s (Some b) = Some (record b { stages = b.stages ++ s ∷ [] })
 
 -- a stage goes into the block that is open
 abbrev pub with_stage : Stage → State → State
-with_stage s st = record st { block = longer s st.block }
+with_stage s st = record st { block = stage_added s st.block }
 
 -- the block that is open, if one is
-abbrev pub closed : Option Block → List Block
-closed None = []
-closed (Some b) = b ∷ []
+abbrev pub block_closed : Option Block → List Block
+block_closed None = []
+block_closed (Some b) = b ∷ []
 
 -- the block that is open goes to those before it
 abbrev pub with_block_end : State → State
@@ -39,7 +39,7 @@ with_block_end st = record st {
   phase = Blocks;
   block = None;
   sections =
-      record st.sections { blocks = st.sections.blocks ++ closed st.block };
+      record st.sections { blocks = st.sections.blocks ++ block_closed st.block };
 }
 
 -- a statement goes behind those before it, and what is open changes with it
@@ -51,11 +51,11 @@ with_statement l st = record st {
 }
 
 -- after one more line
-abbrev pub after : State → Form → State
-after st form.Header = record st { phase = Header }
-after st (form.Steps s) = record st { phase = Vars; sections = record st.sections { steps = Some s } }
-after st (form.Var v) = record st { phase = Vars; sections = record st.sections { vars = st.sections.vars ++ v ∷ [] } }
-after st (form.Block b) = record st { phase = Blocks; block = Some b }
-after st (form.Stage s) = with_stage s st
-after st form.BlockEnd = with_block_end st
-after st (form.Statement l) = with_statement l st
+abbrev pub with_form : State → Form → State
+with_form st form.Header = record st { phase = Header }
+with_form st (form.Steps s) = record st { phase = Vars; sections = record st.sections { steps = Some s } }
+with_form st (form.Var v) = record st { phase = Vars; sections = record st.sections { vars = st.sections.vars ++ v ∷ [] } }
+with_form st (form.Block b) = record st { phase = Blocks; block = Some b }
+with_form st (form.Stage s) = with_stage s st
+with_form st form.BlockEnd = with_block_end st
+with_form st (form.Statement l) = with_statement l st

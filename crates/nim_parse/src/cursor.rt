@@ -3,7 +3,7 @@
 ghost use Rattle.std.specs.Prelude.{◌≡◌, ◌-◌, take, drop, IfOk, None, Some, true, false};
 ghost use Rattle.nim_parse.specs.Input as spec;
 ghost use Rattle.nim_parse.specs.Input.{Reads};
-ghost use Rattle.nim_lex.specs.Texts.{text_of};
+ghost use Rattle.nim_lex.specs.Texts.{token_text};
 
 use crate::fault::Unread;
 use nim_base::{NoMemory, Seq};
@@ -34,7 +34,7 @@ impl<'a> Model for Cursor<'a> {
 impl<'a> Cursor<'a> {
     /// A line of which nothing was read: its tokens, and the bytes of the whole driver.
     pub fn new(source: &'a [u8], tokens: &'a [Token]) -> Cursor<'a>
-        ensures { result ≡ spec.start source.now tokens.now }
+        ensures { result ≡ spec.unread_line source.now tokens.now }
     {
         Cursor {
             source,
@@ -71,7 +71,7 @@ impl<'a> Cursor<'a> {
 
     #[tactic(auto, unfolding(crate::specs::Input::next))]
     fn advance(&mut self)
-        ensures { self.new ≡ spec.next self.old }
+        ensures { self.new ≡ spec.past_token self.old }
     {
         if let [_, rest @ ..] = self.tokens {
             self.tokens = rest;
@@ -82,7 +82,7 @@ impl<'a> Cursor<'a> {
     #[tactic(auto, unfolding(crate::specs::Input::after))]
     pub fn eat(&mut self, text: &[u8]) -> bool
         ensures found { result ≡ spec.sees text.now self.old }
-        ensures after { self.new ≡ spec.after text.now self.old }
+        ensures after { self.new ≡ spec.past_if_seen text.now self.old }
     {
         let found = self.sees(text);
         if found {
@@ -193,7 +193,7 @@ fn bytes(alloc: Global, text: &[u8]) -> Result<Seq<u8>, NoMemory>
 
 /// The bytes of a token.
 fn text_of<'a>(source: &'a [u8], token: Token) -> &'a [u8]
-    ensures { result.now ≡ text_of source.now token }
+    ensures { result.now ≡ token_text source.now token }
 {
     let at = source.len().min(token.at as usize);
     let rest = &source[at..];

@@ -3,7 +3,7 @@ ghost use Rattle.std.specs.List.{prefix_len};
 ghost use Rattle.nim_lex.specs.Refusals.{Answers, refused};
 ghost use Rattle.nim_lex.specs.Source.{tokens_of};
 ghost use Rattle.nim_lex.specs.Source as lex;
-ghost use Rattle.nim_parse.specs.Driver.{found, next, number_of, refusal_of, told, tree_of};
+ghost use Rattle.nim_parse.specs.Driver.{found_line, next_state, number_of, grammar_refusal, told, tree_of};
 ghost use Rattle.nim_parse.specs.Rules.{rule_of};
 
 use crate::Tree;
@@ -22,9 +22,9 @@ use std::alloc::Global;
 /// lines are defined in `specs/Grammar.antt`, the rules in `specs/Rules.antt`, the tree in
 /// `specs/Driver.antt`. Want of memory may come in place of any answer.
 pub fn parse(alloc: Global, bytes: &[u8], tokens: &[Token]) -> Result<Tree, ParseFault>
-    requires sound { lex.refusal_of bytes.now ≡ None }
+    requires sound { lex.token_refusal bytes.now ≡ None }
     requires tokens { tokens.now ≡ tokens_of bytes.now }
-    ensures answers { Answers told (refusal_of bytes.now) result }
+    ensures answers { Answers told (grammar_refusal bytes.now) result }
     ensures tree { IfOk result (λ tree. tree ≡ tree_of bytes.now) }
 {
     let mut state = State::new(alloc);
@@ -70,7 +70,7 @@ fn number_of(line: &[Token]) -> u32
 
 #[tactic(auto, unfolding(crate::specs::Driver::found))]
 fn find(alloc: Global, source: &[u8], state: &State, line: &[Token]) -> Result<Found, NoMemory>
-    ensures { IfOk result (λ line_found. line_found ≡ found source.now state.now line.now) }
+    ensures { IfOk result (λ line_found. line_found ≡ found_line source.now state.now line.now) }
 {
     let mut cursor = Cursor::new(source, line);
     let head = head_of(&cursor);
@@ -97,8 +97,8 @@ fn take_line(
     state: &mut State,
     line: &[Token],
 ) -> Result<Option<u8>, NoMemory>
-    ensures rule { IfOk result (λ rule. rule ≡ rule_of state.old (found source.now state.old line.now)) }
-    ensures next { IfOk result (λ rule. rule ≡ None → state.new ≡ next source.now state.old line.now) }
+    ensures rule { IfOk result (λ rule. rule ≡ rule_of state.old (found_line source.now state.old line.now)) }
+    ensures next { IfOk result (λ rule. rule ≡ None → state.new ≡ next_state source.now state.old line.now) }
 {
     let found = find(alloc, source, state, line)?;
     if let Some(rule) = rule_of(state, &found) {

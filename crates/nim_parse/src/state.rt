@@ -1,5 +1,5 @@
 ghost use Rattle.std.specs.Prelude.{◌≡◌, OnOk, IfOk};
-ghost use Rattle.nim_parse.specs.States.{after, first, with_block_end, with_stage, with_statement};
+ghost use Rattle.nim_parse.specs.States.{with_form, first, with_block_end, with_stage, with_statement};
 
 use crate::form::Form;
 use crate::nest::Nest;
@@ -80,7 +80,7 @@ impl State {
 
     /// Takes a line in.
     pub fn add(&mut self, form: Form) -> Result<(), NoMemory>
-        ensures { OnOk result (self.new ≡ after self.old form) }
+        ensures { OnOk result (self.new ≡ with_form self.old form) }
     {
         match form {
             Form::Header => {

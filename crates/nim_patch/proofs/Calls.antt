@@ -6,7 +6,7 @@ use Rattle.lru.specs.LruCache.{LruCache, last_entry, promoted, put_entries}
 use Rattle.nim_patch.specs.declared.kept.Key.{Key}
 use Rattle.nim_patch.specs.declared.kept.Kept.{Kept}
 use Rattle.nim_patch.specs.declared.patch.PatchCopy.{PatchCopy}
-use Rattle.nim_patch.specs.Cache.{IsValid, after_find, after_use, found, least_free, number_for, oldest_number}
+use Rattle.nim_patch.specs.Cache.{IsValid, after_find, after_use, patch_number_kept, least_free, number_for, oldest_number}
 use Rattle.nim_patch.specs.Uses.{StandsFor, Use, hit, same_key, use_of}
 use Rattle.nim_patch.proofs.Hits.{found_hits, stands_used}
 use Rattle.nim_patch.proofs.Numbers.{free_below, least_is_length, none_is_free, valid_again, valid_used}
@@ -41,7 +41,7 @@ pub record IsFinding (key : Key) (copies : List PatchCopy) (number : ℕ) (old n
   pub stands : (uses : List Use) → StandsFor uses old → StandsFor (use_of key number copies ∷ uses) new
 
 pub finds : (key : Key) (copies : List PatchCopy) (number : ℕ) (entries old new : List Use) → entries ≡ old → IsValid entries
-    → Some number ≡ found key copies old → new ≡ promoted (same_key key) entries → IsFinding key copies number old new
+    → Some number ≡ patch_number_kept key copies old → new ≡ promoted (same_key key) entries → IsFinding key copies number old new
 finds key copies number entries old new same valid told moved =
     let whole = subst IsValid same valid in
     let kept = moved ∙ ap (λ (l : List Use). promoted (same_key key) l) same ∙ promoted_found key copies number old whole.few (sym told) in
@@ -55,7 +55,7 @@ finds key copies number entries old new same valid told moved =
     }
 
 -- one that answers none
-pub misses : (key : Key) (copies : List PatchCopy) (old : List Use) → None ≡ found key copies old → (uses : List Use) → StandsFor uses old → None
+pub misses : (key : Key) (copies : List PatchCopy) (old : List Use) → None ≡ patch_number_kept key copies old → (uses : List Use) → StandsFor uses old → None
     ≡ hit key copies uses
 misses key copies old told uses stands = told ∙ found_hits key copies uses old stands
 

@@ -10,7 +10,7 @@ use Rattle.nim_base.specs.declared.number.Worker.{Worker}
 use Rattle.nim_command.specs.Numbers.{main_slot}
 use Rattle.nim_patch.specs.declared.patch.PatchCopy.{PatchCopy}
 use Rattle.nim_patch.specs.Mends.{is_target}
-use Rattle.nim_patch.specs.Patches.{after_copy, copies_of, copy_first, copy_from}
+use Rattle.nim_patch.specs.Patches.{after_copy, patch_copies, copy_first, copy_to_precondition}
 use Rattle.nim_patch.proofs.Copied.{IsCopied, copied_one}
 use Rattle.nim_patch.proofs.Mended.{current_kept, holds_then}
 use Rattle.nim_patch.proofs.Runs.{AreWithinWorkers}
@@ -41,13 +41,13 @@ AreThere live objects slots = AllByRecursion (λ (slot : Worker × Object). (is_
 
 -- the copies for such slots are due
 slots_due : (live : List Bool) (objects : ℕ) (versions : Versions) (slots : List (Worker × Object)) → versions.workers ≡ length live
-    → versions.objects ≡ objects → AreThere live objects slots → AreDue live versions (copies_of versions slots)
+    → versions.objects ≡ objects → AreThere live objects slots → AreDue live versions (patch_copies versions slots)
 slots_due live objects versions [] rows columns are = tt
 slots_due live objects versions (slot ∷ slots) rows columns are =
     either (is_current versions slot.1 slot.0) (holder versions slot.1) refl refl (slots_due live objects versions slots rows columns are.1) where
       either : (b : Bool) (o : Option Worker) → is_current versions slot.1 slot.0 ≡ b → holder versions slot.1 ≡ o
-          → AreDue live versions (copies_of versions slots)
-          → AreDue live versions (copy_first (if not b then option_map (copy_from slot) o else None) (copies_of versions slots))
+          → AreDue live versions (patch_copies versions slots)
+          → AreDue live versions (copy_first (if not b then option_map (copy_to_precondition slot) o else None) (patch_copies versions slots))
       either true o current held rest = rest
       either false None current held rest = rest
       either false (Some from) current held rest =
@@ -68,7 +68,7 @@ slots_due live objects versions (slot ∷ slots) rows columns are =
 
 -- so those of a patch are
 pub copies_due : (live : List Bool) (objects : ℕ) (versions : Versions) (preconditions : List (Worker × Object)) → versions.workers ≡ length live
-    → versions.objects ≡ objects → AreMainSlots live objects preconditions → AreDue live versions (copies_of versions preconditions)
+    → versions.objects ≡ objects → AreMainSlots live objects preconditions → AreDue live versions (patch_copies versions preconditions)
 copies_due live objects versions preconditions rows columns are =
     slots_due live objects versions preconditions rows columns
     (recursion_from_All (λ (slot : Worker × Object). (is_live live slot.0 ≡ true) × (slot.1.0 < objects)) preconditions are.there)

@@ -22,7 +22,7 @@ use Rattle.nim_patch.specs.declared.patch.PatchCopy.{PatchCopy}
 use Rattle.nim_patch.specs.Given.{HasParts, PatchInstallsExtend, PatchRunsExtend, install_parts, is_patch_key_in, patch_installs_of, patch_runs_of, run_parts}
 use Rattle.nim_patch.specs.Mends.{Mends, is_target}
 use Rattle.nim_patch.specs.Parts.{patch_parts_of, patch_commands_of, run_commands}
-use Rattle.nim_patch.specs.Patches.{after_copies, copies_of}
+use Rattle.nim_patch.specs.Patches.{after_copies, patch_copies}
 use Rattle.nim_patch.proofs.Copied.{IsCopied, copied_all, same_slots}
 use Rattle.nim_patch.proofs.Due.{AreDue, behind_none, copies_due, due_within}
 use Rattle.nim_patch.proofs.InTurn.{copies_given, copies_legal}
@@ -129,7 +129,7 @@ copies_before workers objects base versions copies before = record {
 all_hold : (live : List Bool) (objects : ℕ) (versions : Versions) (preconditions : List (Worker × Object)) → IsWhole versions
     → versions.workers ≡ length live → versions.objects ≡ objects → AreMainSlots live objects preconditions
     → ((object : Object) → object.0 < versions.objects → is_some (holder versions object) ≡ true)
-    → are_current (after_copies versions (copies_of versions preconditions)) preconditions ≡ true
+    → are_current (after_copies versions (patch_copies versions preconditions)) preconditions ≡ true
 all_hold live objects versions preconditions whole rows columns are held =
     list_all-from_AllPass holds preconditions
     (All-weaker (Contains preconditions) (λ (need : Worker × Object). holds need ≡ true)
@@ -140,16 +140,16 @@ all_hold live objects versions preconditions whole rows columns are held =
     not-false (holds need) (mends.holds need among (omega (arith, rows, within)) (held need.1 (omega (arith, columns, inside)))))
     preconditions (All-contains_itself preconditions)) where
       holds : Worker × Object → Bool
-      holds need = is_current (after_copies versions (copies_of versions preconditions)) need.1 need.0
+      holds need = is_current (after_copies versions (patch_copies versions preconditions)) need.1 need.0
 
-      mends : Mends versions preconditions (copies_of versions preconditions)
+      mends : Mends versions preconditions (patch_copies versions preconditions)
       mends = patch_mends versions preconditions whole
 
 -- ---- a run
 
 -- orders that run a patch
 pub patch_runs : (live : List Bool) (objects : ℕ) (versions : Versions) (preconditions : List (Worker × Object))
-    → AreMainSlots live objects preconditions → PatchRunsExtend live objects preconditions (copies_of versions preconditions) versions
+    → AreMainSlots live objects preconditions → PatchRunsExtend live objects preconditions (patch_copies versions preconditions) versions
 patch_runs live objects versions preconditions are epoch instance patch base lists given may =
     record {
       so_far = record {
@@ -194,7 +194,7 @@ patch_runs live objects versions preconditions are epoch instance patch base lis
       next = λ job at. (legal_at job at).at;
     } where
       copies : List PatchCopy
-      copies = copies_of versions preconditions
+      copies = patch_copies versions preconditions
 
       after : Versions
       after = after_copies versions copies

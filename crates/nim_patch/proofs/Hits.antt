@@ -8,7 +8,7 @@ use Rattle.std.proofs.Math.Dec.{leb-suc-suc}
 use Rattle.nim_patch.specs.declared.kept.Key.{Key}
 use Rattle.nim_patch.specs.declared.kept.Kept.{Kept}
 use Rattle.nim_patch.specs.declared.patch.PatchCopy.{PatchCopy}
-use Rattle.nim_patch.specs.Cache.{after_use, found, number_if_equal}
+use Rattle.nim_patch.specs.Cache.{after_use, patch_number_kept, number_if_equal}
 use Rattle.nim_patch.specs.Uses.{StandsFor, Use, hit, keys_in, lasts, same_copies, same_key, since, used}
 use Rattle.nim_patch.proofs.Entries.{take_removed}
 use Rattle.nim_patch.proofs.Tests.{key_apart}
@@ -100,7 +100,7 @@ both_ways copies false (Some kept) = by (same_copies kept.patch.copies copies) w
   by false = refl
 
 -- what is found are the hits
-pub found_hits : (key : Key) (copies : List PatchCopy) (uses kept : List Use) → StandsFor uses kept → found key copies kept ≡ hit key copies uses
+pub found_hits : (key : Key) (copies : List PatchCopy) (uses kept : List Use) → StandsFor uses kept → patch_number_kept key copies kept ≡ hit key copies uses
 found_hits key copies uses kept is =
     let choose : Bool → Option Kept → Option Kept = λ b o. if b then o else None in
     ap (λ (o : Option Kept). option_map_or (number_if_equal copies) o None)

@@ -11,7 +11,7 @@ use Rattle.nim_patch.specs.Patches.{after_copies, after_copy}
 use Rattle.nim_patch.proofs.Due.{AreDue, IsBehind, behind_more, due_copy}
 use Rattle.nim_patch.proofs.Runs.{copied_from, copy_for}
 use Rattle.nim_place.specs.Extends.{is_live}
-use Rattle.nim_place.specs.Stands.{Stands}
+use Rattle.nim_place.specs.Stands.{MapStands}
 use Rattle.nim_place.specs.TaskOrders.{AreSoFar, IsAt}
 use Rattle.nim_place.specs.Versions.{Versions, latest_of, with_version}
 use Rattle.nim_place.proofs.Given.{all_stand}
@@ -52,7 +52,7 @@ copies_given live epoch instance number versions now (copy ∷ copies) lists giv
 
 -- they are legal for a job at whose position the map is, and the map stays there
 pub copies_legal : (live : List Bool) (job : Job) (position number : ℕ) (versions now : Versions) (copies : List PatchCopy)
-    (given : List (Worker × Command)) → Stands given now → objects_of job.vars ≤ 512 → IsAt job position now → IsBehind versions now
+    (given : List (Worker × Command)) → MapStands given now → objects_of job.vars ≤ 512 → IsAt job position now → IsBehind versions now
     → AreDue live versions copies → AreLegalAt job position given (copied_from versions number copies) (after_copies now copies)
 copies_legal live job position number versions now [] given stands small at behind due = record { legal = λ worker. tt; at = at }
 copies_legal live job position number versions now (copy ∷ copies) given stands small at behind due =
@@ -62,8 +62,8 @@ copies_legal live job position number versions now (copy ∷ copies) given stand
     let left = copy_left versions now copy behind in
     let here : IsAt job position next =
     subst (IsAt job position) left (copy_at_position job position given now copy.from copy.to copy.object (latest_of versions copy.object) stands at copied) in
-    let on : Stands (given ++ commands) next =
-    subst (Stands (given ++ commands)) left (all_stand commands now (copied.from_below, refl, (copied.to_below, refl, tt)) given stands) in
+    let on : MapStands (given ++ commands) next =
+    subst (MapStands (given ++ commands)) left (all_stand commands now (copied.from_below, refl, (copied.to_below, refl, tt)) given stands) in
     legal_then job position position given commands (copied_from versions (number + 1) copies) next (after_copies next copies)
     (record {
       legal = copy_legal job position (patch_number number) given now copy.from copy.to copy.object (latest_of versions copy.object) stands at small copied;

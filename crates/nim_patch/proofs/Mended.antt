@@ -11,10 +11,10 @@ use Rattle.nim_command.specs.Numbers.{main_slot}
 use Rattle.nim_command.specs.declared.command.Command.{Command}
 use Rattle.nim_patch.specs.declared.patch.PatchCopy.{PatchCopy}
 use Rattle.nim_patch.specs.Mends.{Mends, is_target}
-use Rattle.nim_patch.specs.Patches.{after_copies, copies_of, copy_first, copy_from, copy_of, fails}
+use Rattle.nim_patch.specs.Patches.{after_copies, patch_copies, copy_first, copy_to_precondition, copy_of, fails}
 use Rattle.nim_patch.proofs.Copied.{IsCopied, copied_all, same_slots}
 use Rattle.nim_patch.proofs.Sources.{found_from}
-use Rattle.nim_place.specs.Stands.{Stands}
+use Rattle.nim_place.specs.Stands.{MapStands}
 use Rattle.nim_place.specs.Versions.{Versions, held_at, holder, is_current, is_kept, latest_of, place_of}
 use Rattle.nim_place.proofs.Puts.{IsWhole, kept_bounds, kept_for}
 
@@ -50,7 +50,7 @@ first_target : (versions : Versions) (precondition : Worker × Object) (copies :
     → is_target (copy_first (copy_of versions precondition) copies) precondition.0 (main_slot precondition.1) ≡ true
 first_target versions precondition copies wanted some = by (fails versions precondition) (holder versions precondition.1) wanted some where
   by : (b : Bool) (o : Option Worker) → b ≡ true → is_some o ≡ true
-      → is_target (copy_first (if b then option_map (copy_from precondition) o else None) copies) precondition.0 (main_slot precondition.1) ≡ true
+      → is_target (copy_first (if b then option_map (copy_to_precondition precondition) o else None) copies) precondition.0 (main_slot precondition.1) ≡ true
   by true (Some from) is some =
       or_left ((precondition.1.0 == precondition.1.0) && (precondition.0.0 == precondition.0.0)) (is_target copies precondition.0 (main_slot precondition.1))
       (and_from (precondition.1.0 == precondition.1.0) (precondition.0.0 == precondition.0.0) (eq-eqb precondition.1.0 precondition.1.0 refl)
@@ -61,12 +61,12 @@ first_target versions precondition copies wanted some = by (fails versions preco
 -- a precondition that fails has a copy
 targeted : (versions : Versions) (preconditions : List (Worker × Object)) (precondition : Worker × Object) → Contains preconditions precondition
     → fails versions precondition ≡ true → is_some (holder versions precondition.1) ≡ true
-    → is_target (copies_of versions preconditions) precondition.0 (main_slot precondition.1) ≡ true
+    → is_target (patch_copies versions preconditions) precondition.0 (main_slot precondition.1) ≡ true
 targeted versions [] precondition among wanted some = absurd (Contains-nil precondition among)
 targeted versions (first ∷ rest) precondition among wanted some = elim (Contains-cons first rest precondition among) [
-  | inl same ↦ subst (λ (p : Worker × Object). is_target (copies_of versions (p ∷ rest)) precondition.0 (main_slot precondition.1) ≡ true) (sym same)
-      (first_target versions precondition (copies_of versions rest) wanted some)
-  | inr later ↦ still_target (copy_of versions first) (copies_of versions rest) precondition.0 (main_slot precondition.1)
+  | inl same ↦ subst (λ (p : Worker × Object). is_target (patch_copies versions (p ∷ rest)) precondition.0 (main_slot precondition.1) ≡ true) (sym same)
+      (first_target versions precondition (patch_copies versions rest) wanted some)
+  | inr later ↦ still_target (copy_of versions first) (patch_copies versions rest) precondition.0 (main_slot precondition.1)
       (targeted versions rest precondition later wanted some)
 ]
 
@@ -81,38 +81,38 @@ holds_then false o latest copied = by (option_map_or (λ (n : ℕ). n == latest)
 
 -- what a patch is for
 pub patch_mends : (versions : Versions) (preconditions : List (Worker × Object)) → IsWhole versions
-    → Mends versions preconditions (copies_of versions preconditions)
+    → Mends versions preconditions (patch_copies versions preconditions)
 patch_mends versions preconditions whole = record { holds = holds; others = others; latest = λ object. latest object } where
-  done : IsCopied versions (copies_of versions preconditions) (after_copies versions (copies_of versions preconditions))
-  done = copied_all versions (copies_of versions preconditions) whole
+  done : IsCopied versions (patch_copies versions preconditions) (after_copies versions (patch_copies versions preconditions))
+  done = copied_all versions (patch_copies versions preconditions) whole
 
-  latest : (object : Object) → latest_of (after_copies versions (copies_of versions preconditions)) object ≡ latest_of versions object
+  latest : (object : Object) → latest_of (after_copies versions (patch_copies versions preconditions)) object ≡ latest_of versions object
   latest object = ap (λ (l : List ℕ). get_or l object.0 0) done.latest
 
   holds : (precondition : Worker × Object) → Contains preconditions precondition → precondition.0.0 < versions.workers
-      → is_some (holder versions precondition.1) ≡ true → fails (after_copies versions (copies_of versions preconditions)) precondition ≡ false
+      → is_some (holder versions precondition.1) ≡ true → fails (after_copies versions (patch_copies versions preconditions)) precondition ≡ false
   holds precondition among within some =
       let slot : Slot = main_slot precondition.1 in
       let kept = kept_for versions precondition.0 slot within (held_object versions precondition.1 some) in
       let current : ℕ → Option ℕ → Bool = λ l o. option_map_or (λ (n : ℕ). n == l) o false in
       ap not (ap₂ current (latest precondition.1) (done.held precondition.0 slot kept)
-      ∙ holds_then (is_target (copies_of versions preconditions) precondition.0 slot) (held_at versions precondition.0 slot) (latest_of versions precondition.1)
+      ∙ holds_then (is_target (patch_copies versions preconditions) precondition.0 slot) (held_at versions precondition.0 slot) (latest_of versions precondition.1)
       (λ apart. targeted versions preconditions precondition among (ap not apart) some))
 
-  others : (worker : Worker) (slot : Slot) → is_target (copies_of versions preconditions) worker slot ≡ false
-      → held_at (after_copies versions (copies_of versions preconditions)) worker slot ≡ held_at versions worker slot
+  others : (worker : Worker) (slot : Slot) → is_target (patch_copies versions preconditions) worker slot ≡ false
+      → held_at (after_copies versions (patch_copies versions preconditions)) worker slot ≡ held_at versions worker slot
   others worker slot apart = either (is_kept versions worker slot) refl where
     either : (b : Bool) → is_kept versions worker slot ≡ b
-        → held_at (after_copies versions (copies_of versions preconditions)) worker slot ≡ held_at versions worker slot
+        → held_at (after_copies versions (patch_copies versions preconditions)) worker slot ≡ held_at versions worker slot
     either true kept = done.held worker slot kept
         ∙ ap (λ (b : Bool). if b then Some (get_or versions.latest slot.0 0) else held_at versions worker slot) apart
     either false kept =
-        let there = same_slots versions (after_copies versions (copies_of versions preconditions)) worker slot done.workers done.objects ∙ kept in
-        ap (λ (b : Bool). if b then get_or (after_copies versions (copies_of versions preconditions)).held
-        (place_of (after_copies versions (copies_of versions preconditions)) worker slot) None else None) there
+        let there = same_slots versions (after_copies versions (patch_copies versions preconditions)) worker slot done.workers done.objects ∙ kept in
+        ap (λ (b : Bool). if b then get_or (after_copies versions (patch_copies versions preconditions)).held
+        (place_of (after_copies versions (patch_copies versions preconditions)) worker slot) None else None) there
         ∙ sym (ap (λ (b : Bool). if b then get_or versions.held (place_of versions worker slot) None else None) kept)
 
 -- for a map that stands for any commands
-pub mends_given : (given : List (Worker × Command)) (versions : Versions) (preconditions : List (Worker × Object)) → Stands given versions
-    → Mends versions preconditions (copies_of versions preconditions)
+pub mends_given : (given : List (Worker × Command)) (versions : Versions) (preconditions : List (Worker × Object)) → MapStands given versions
+    → Mends versions preconditions (patch_copies versions preconditions)
 mends_given given versions preconditions stands = patch_mends versions preconditions (record { slots = stands.slots; all = stands.all })

@@ -9,7 +9,7 @@ use Rattle.std.proofs.lemmas.List.{length-take-le}
 use Rattle.nim_patch.specs.declared.kept.Key.{Key}
 use Rattle.nim_patch.specs.declared.kept.Kept.{Kept}
 use Rattle.nim_patch.specs.declared.patch.PatchCopy.{PatchCopy}
-use Rattle.nim_patch.specs.Cache.{AreNumbered, IsValid, after_use, free_from, least_free, number_for, oldest_number, times}
+use Rattle.nim_patch.specs.Cache.{AreNumbered, IsValid, after_use, free_from, least_free, number_for, oldest_number, times_kept}
 use Rattle.nim_patch.specs.Uses.{Use, same_key, use_of}
 use Rattle.nim_patch.proofs.Entries.{IsFound, IsMissing, find_entry, miss_entry}
 use Rattle.nim_patch.proofs.Using.{kept_again, kept_new}
@@ -19,10 +19,10 @@ abbrev has : ℕ → Use → ℕ
 has number first = if first.1.number == number then 1 else 0
 
 -- a number below the length is that of one patch, and no other is
-taken : (kept : List Use) → AreNumbered kept → (number : ℕ) → number < length kept → times number kept ≡ 1
+taken : (kept : List Use) → AreNumbered kept → (number : ℕ) → number < length kept → times_kept number kept ≡ 1
 taken kept numbered number below = numbered number ∙ cond-true (nat_lt number (length kept)) 1 0 (lt-ltb number (length kept) below)
 
-free : (kept : List Use) → AreNumbered kept → (number : ℕ) → length kept ≤ number → times number kept ≡ 0
+free : (kept : List Use) → AreNumbered kept → (number : ℕ) → length kept ≤ number → times_kept number kept ≡ 0
 free kept numbered number above = numbered number ∙ cond-false (nat_lt number (length kept)) 1 0 (le-ltb number (length kept) above)
 
 -- the first free number is the length
@@ -52,7 +52,7 @@ unfolding least_free
 none_is_free kept numbered many = none_free kept numbered 0 64 (omega arith)
 
 -- a number that some patch has is below the length
-taken_below : (kept : List Use) → AreNumbered kept → (number : ℕ) → 1 ≤ times number kept → number < length kept
+taken_below : (kept : List Use) → AreNumbered kept → (number : ℕ) → 1 ≤ times_kept number kept → number < length kept
 taken_below kept numbered number some = elim (cases_lt number (length kept)) [
   | inl below ↦ below
   | inr above ↦ absurd (let none = free kept numbered number above in omega arith)
@@ -60,18 +60,18 @@ taken_below kept numbered number some = elim (cases_lt number (length kept)) [
 
 -- without a pair
 times_found : (number : ℕ) (key : Key) (kept : List Use) (e : Use) → lookup_entry (same_key key) kept ≡ Some e
-    → times number kept ≡ has number e + times number (remove_entry (same_key key) kept)
+    → times_kept number kept ≡ has number e + times_kept number (remove_entry (same_key key) kept)
 times_found number key [] e is = cc
 times_found number key (first ∷ kept) e is = by (same_key key first.0) is (times_found number key kept e) where
   by : (b : Bool) → (if b then Some first else lookup_entry (same_key key) kept) ≡ Some e
-      → (lookup_entry (same_key key) kept ≡ Some e → times number kept ≡ has number e + times number (remove_entry (same_key key) kept))
-      → has number first + times number kept ≡ has number e + times number (if b then kept else first ∷ remove_entry (same_key key) kept)
-  by true is rest = let same : first ≡ e = cc in ap (λ (u : Use). has number u + times number kept) same
+      → (lookup_entry (same_key key) kept ≡ Some e → times_kept number kept ≡ has number e + times_kept number (remove_entry (same_key key) kept))
+      → has number first + times_kept number kept ≡ has number e + times_kept number (if b then kept else first ∷ remove_entry (same_key key) kept)
+  by true is rest = let same : first ≡ e = cc in ap (λ (u : Use). has number u + times_kept number kept) same
   by false is rest = let on = rest is in omega arith
 
 -- without the last
-times_cut : (number n : ℕ) (kept : List Use) (e : Use) → length kept ≡ suc n → slice_get kept n ≡ Some e → times number kept
-    ≡ has number e + times number (take n kept)
+times_cut : (number n : ℕ) (kept : List Use) (e : Use) → length kept ≡ suc n → slice_get kept n ≡ Some e → times_kept number kept
+    ≡ has number e + times_kept number (take n kept)
 times_cut number n [] e long is = absurd (omega arith)
 times_cut number zero (first ∷ []) e long is = let same : first ≡ e = cc in ap (λ (u : Use). has number u + 0) same
 times_cut number zero (first ∷ other ∷ kept) e long is = absurd (omega arith)
@@ -94,7 +94,7 @@ oldest_is kept e long is =
     ∙ ap (λ (o : Option Use). option_map_or (λ (u : Use). u.1.number) o 0) is
 
 -- what is kept after a keeping has numbers as before
-same_numbers : (before after : List Use) → length after ≡ length before → ((number : ℕ) → times number after ≡ times number before) → AreNumbered before
+same_numbers : (before after : List Use) → length after ≡ length before → ((number : ℕ) → times_kept number after ≡ times_kept number before) → AreNumbered before
     → AreNumbered after
 same_numbers before after long same numbered number =
     same number ∙ numbered number ∙ ap (λ (n : ℕ). if nat_lt number n then 1 else 0) (sym long)

@@ -6,7 +6,7 @@ use Rattle.nim_base.specs.declared.number.Object.{Object}
 use Rattle.nim_base.specs.declared.number.Worker.{Worker}
 use Rattle.nim_patch.specs.declared.patch.PatchCopy.{PatchCopy}
 use Rattle.nim_patch.specs.Mends.{AreSourced, IsSourced}
-use Rattle.nim_patch.specs.Patches.{copies_of, copy_first, copy_from, copy_of, fails}
+use Rattle.nim_patch.specs.Patches.{patch_copies, copy_first, copy_to_precondition, copy_of, fails}
 use Rattle.nim_place.specs.Versions.{Versions, holder, holder_from, is_current}
 
 -- a worker holds the latest version, and none from one on that is lower
@@ -38,26 +38,26 @@ found_from versions object from (suc more) found is =
 
 -- the lowest worker that holds the latest version
 pub holder_sourced : (versions : Versions) (precondition : Worker × Object) (from : Worker) → holder versions precondition.1 ≡ Some from
-    → IsSourced versions (copy_from precondition from)
+    → IsSourced versions (copy_to_precondition precondition from)
 holder_sourced versions precondition from is =
     let on = found_from versions precondition.1 0 versions.workers from is in
     record { holds = on.0; lowest = λ worker below. on.1 worker (omega arith) below }
 
 -- all copies
-pub copies_sourced : (versions : Versions) (preconditions : List (Worker × Object)) → AreSourced versions (copies_of versions preconditions)
+pub copies_sourced : (versions : Versions) (preconditions : List (Worker × Object)) → AreSourced versions (patch_copies versions preconditions)
 copies_sourced versions [] = tt
 copies_sourced versions (precondition ∷ rest) = first (fails versions precondition) (holder versions precondition.1) refl (copies_sourced versions rest) where
-  first : (b : Bool) (o : Option Worker) → holder versions precondition.1 ≡ o → AreSourced versions (copies_of versions rest)
-      → AreSourced versions (copy_first (if b then option_map (copy_from precondition) o else None) (copies_of versions rest))
+  first : (b : Bool) (o : Option Worker) → holder versions precondition.1 ≡ o → AreSourced versions (patch_copies versions rest)
+      → AreSourced versions (copy_first (if b then option_map (copy_to_precondition precondition) o else None) (patch_copies versions rest))
   first true None is others = others
   first true (Some from) is others = (holder_sourced versions precondition from is, others)
   first false o is others = others
 
 -- there are no more copies than preconditions
-pub copies_few : (versions : Versions) (preconditions : List (Worker × Object)) → length (copies_of versions preconditions) ≤ length preconditions
+pub copies_few : (versions : Versions) (preconditions : List (Worker × Object)) → length (patch_copies versions preconditions) ≤ length preconditions
 copies_few versions [] = omega arith
 copies_few versions (precondition ∷ rest) = first (copy_of versions precondition) (copies_few versions rest) where
-  first : (o : Option PatchCopy) → length (copies_of versions rest) ≤ length rest
-      → length (copy_first o (copies_of versions rest)) ≤ length (precondition ∷ rest)
+  first : (o : Option PatchCopy) → length (patch_copies versions rest) ≤ length rest
+      → length (copy_first o (patch_copies versions rest)) ≤ length (precondition ∷ rest)
   first None few = omega (arith, few)
   first (Some copy) few = omega (arith, few)

@@ -5,12 +5,12 @@ use Rattle.std.proofs.lemmas.Bool.{and_from, and_parts}
 use Rattle.std.proofs.lemmas.Slice.Eq.{slice_eq-Decides}
 use Rattle.nim_patch.specs.declared.kept.Key.{Key}
 use Rattle.nim_patch.specs.declared.patch.PatchCopy.{PatchCopy}
-use Rattle.nim_patch.specs.Uses.{key_of, same_copies, same_copy, same_key}
+use Rattle.nim_patch.specs.Uses.{patch_key, same_copies, same_copy, same_key}
 
 pub key_equal : (a b : Key) → same_key a b ≡ true → a ≡ b
 key_equal a b is =
     let each = and_parts (a.previous == b.previous) (a.next == b.next) is in
-    ap₂ key_of (eqb-true a.previous b.previous each.0) (eqb-true a.next b.next each.1)
+    ap₂ patch_key (eqb-true a.previous b.previous each.0) (eqb-true a.next b.next each.1)
 
 -- where a key has one key, and another doesn't, the two differ
 pub key_apart : (a key other : Key) → same_key a other ≡ true → same_key key a ≡ false → same_key key other ≡ false

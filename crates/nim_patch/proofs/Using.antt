@@ -7,7 +7,7 @@ use Rattle.lru.specs.LruCache.{LruCache, promoted, put_entries}
 use Rattle.nim_patch.specs.declared.kept.Key.{Key}
 use Rattle.nim_patch.specs.declared.kept.Kept.{Kept}
 use Rattle.nim_patch.specs.declared.patch.PatchCopy.{PatchCopy}
-use Rattle.nim_patch.specs.Cache.{after_find, after_use, found, number_if_equal}
+use Rattle.nim_patch.specs.Cache.{after_find, after_use, patch_number_kept, number_if_equal}
 use Rattle.nim_patch.specs.Uses.{Use, same_copies, same_key, use_of}
 use Rattle.nim_patch.proofs.Entries.{IsFound, IsMissing, find_entry, miss_entry}
 use Rattle.nim_patch.proofs.Tests.{copies_equal, key_equal}
@@ -22,7 +22,7 @@ pub kept_new : (key : Key) (value : Kept) (kept : List Use) → IsMissing (same_
 kept_new key value kept is = ap (λ (l : List Use). (key, value) ∷ take 63 l) is.left
 
 -- a patch that is found is kept with these copies
-pub found_kept : (key : Key) (copies : List PatchCopy) (number : ℕ) (kept : List Use) → found key copies kept ≡ Some number
+pub found_kept : (key : Key) (copies : List PatchCopy) (number : ℕ) (kept : List Use) → patch_number_kept key copies kept ≡ Some number
     → IsFound (same_key key) kept (use_of key number copies)
 found_kept key copies number kept is = by (lookup (same_key key) kept) refl is where
   equal : (k : Kept) → lookup (same_key key) kept ≡ Some k → (b : Bool) → same_copies k.patch.copies copies ≡ b → (if b then Some k.number else None)
@@ -43,7 +43,7 @@ found_kept key copies number kept is = by (lookup (same_key key) kept) refl is w
   by (Some k) there e = equal k there (same_copies k.patch.copies copies) refl e
 
 -- finding moves the use to the front
-pub promoted_found : (key : Key) (copies : List PatchCopy) (number : ℕ) (kept : List Use) → length kept ≤ 64 → found key copies kept ≡ Some number
+pub promoted_found : (key : Key) (copies : List PatchCopy) (number : ℕ) (kept : List Use) → length kept ≤ 64 → patch_number_kept key copies kept ≡ Some number
     → promoted (same_key key) kept ≡ after_find key copies kept
 promoted_found key copies number kept few is =
     let on = found_kept key copies number kept is in

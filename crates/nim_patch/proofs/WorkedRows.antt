@@ -5,9 +5,9 @@ use Rattle.nim_base.specs.declared.number.Object.{Object}
 use Rattle.nim_base.specs.declared.number.Worker.{Worker}
 use Rattle.nim_patch.specs.declared.patch.PatchCopy.{PatchCopy}
 use Rattle.nim_patch.specs.declared.kept.Key.{Key}
-use Rattle.nim_patch.specs.Cache.{after_use, found, least_free, number_for}
-use Rattle.nim_patch.specs.Patches.{after_copies, copies_of, failing_in, flags_of}
-use Rattle.nim_patch.specs.Uses.{Use, hit, key_of, use_of}
+use Rattle.nim_patch.specs.Cache.{after_use, patch_number_kept, least_free, number_for}
+use Rattle.nim_patch.specs.Patches.{after_copies, patch_copies, failing_in, flags_of}
+use Rattle.nim_patch.specs.Uses.{Use, hit, patch_key, use_of}
 use Rattle.nim_place.specs.Versions.{Versions}
 
 abbrev needs : ℕ → ℕ → Worker × Object
@@ -39,7 +39,7 @@ two_in : failing_in before preconditions ≡ 2
 two_in = refl
 
 -- worker 0 gets a[1] in version 8, and worker 1 a[0] in version 7
-copies_two : copies_of before preconditions ≡ copies
+copies_two : patch_copies before preconditions ≡ copies
 copies_two = refl
 
 copied : (after_copies before copies).held ≡ Some 7 ∷ Some 8 ∷ Some 5 ∷ None ∷ Some 7 ∷ Some 8 ∷ None ∷ Some 6 ∷ []
@@ -50,10 +50,10 @@ none_left = refl
 
 -- block 0 after block 1
 abbrev turn : Key
-turn = key_of 1 0
+turn = patch_key 1 0
 
 -- before instance 2 no patch is kept, and the one that is made gets the number 0
-first_missed : found turn copies [] ≡ None
+first_missed : patch_number_kept turn copies [] ≡ None
 first_missed = refl
 
 first_number : number_for turn [] ≡ 0
@@ -64,15 +64,15 @@ abbrev made : List Use
 made = after_use (use_of turn 0 copies) []
 
 -- before instance 4 it is found, since that is a hit
-then_found : found turn copies made ≡ Some 0
+then_found : patch_number_kept turn copies made ≡ Some 0
 then_found = refl
 
 then_hit : hit turn copies (use_of turn 0 copies ∷ []) ≡ Some 0
 then_hit = refl
 
 -- one with other copies, or for other blocks, isn't
-others_missed : found turn (copy 1 0 1 ∷ []) made ≡ None
+others_missed : patch_number_kept turn (copy 1 0 1 ∷ []) made ≡ None
 others_missed = refl
 
-elsewhere_missed : found (key_of 0 0) copies made ≡ None
+elsewhere_missed : patch_number_kept (patch_key 0 0) copies made ≡ None
 elsewhere_missed = refl

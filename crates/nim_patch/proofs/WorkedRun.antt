@@ -12,7 +12,7 @@ use Rattle.nim_plan.specs.Paired.{Key}
 use Rattle.nim_patch.specs.declared.patch.PatchCopy.{PatchCopy}
 use Rattle.nim_patch.specs.Given.{is_patch_key_in, patch_installs_of, patch_runs_of}
 use Rattle.nim_patch.specs.Parts.{patch_parts_of, patch_commands_of}
-use Rattle.nim_patch.specs.Patches.{after_copies, copies_of}
+use Rattle.nim_patch.specs.Patches.{after_copies, patch_copies}
 use Rattle.nim_place.specs.Versions.{Versions}
 use Rattle.nim_template.specs.Again.{are_current}
 use Rattle.nim_template.specs.Given.{is_key_in}
@@ -46,7 +46,7 @@ copy from to number = record { from = worker from; to = worker to; object = obje
 abbrev copies : List PatchCopy
 copies = copy 1 0 1 ∷ []
 
-one_copy : copies_of before preconditions ≡ copies
+one_copy : patch_copies before preconditions ≡ copies
 one_copy = refl
 
 abbrev part : ℕ → Bool → ℕ → ℕ → PatchPart

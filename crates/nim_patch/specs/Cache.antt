@@ -17,23 +17,23 @@ abbrev pub number_if_equal : List PatchCopy → Kept → Option ℕ
 number_if_equal copies kept = if same_copies kept.patch.copies copies then Some kept.number else None
 
 -- the number of the patch that is kept under a key with these copies
-abbrev pub found : Key → List PatchCopy → List Use → Option ℕ
-found key copies kept = option_map_or (number_if_equal copies) (lookup (same_key key) kept) None
+abbrev pub patch_number_kept : Key → List PatchCopy → List Use → Option ℕ
+patch_number_kept key copies kept = option_map_or (number_if_equal copies) (lookup (same_key key) kept) None
 
 -- finding is a use, if there is such a patch
 abbrev pub after_find : Key → List PatchCopy → List Use → List Use
 after_find key copies kept =
-    option_map_or (λ (number : ℕ). after_use (use_of key number copies) kept) (found key copies kept) kept
+    option_map_or (λ (number : ℕ). after_use (use_of key number copies) kept) (patch_number_kept key copies kept) kept
 
 -- how many kept patches have a number
-abbrev pub times : ℕ → List Use → ℕ
-times number [] = 0
-times number (first ∷ kept) = (if first.1.number == number then 1 else 0) + times number kept
+abbrev pub times_kept : ℕ → List Use → ℕ
+times_kept number [] = 0
+times_kept number (first ∷ kept) = (if first.1.number == number then 1 else 0) + times_kept number kept
 
 -- the first number from one on that no kept patch has, of so many
 abbrev pub free_from : List Use → ℕ → ℕ → Option ℕ
 free_from kept from zero = None
-free_from kept from (suc more) = if times from kept == 0 then Some from else free_from kept (from + 1) more
+free_from kept from (suc more) = if times_kept from kept == 0 then Some from else free_from kept (from + 1) more
 
 -- the least number below 64 that no kept patch has
 unfoldable pub least_free : List Use → Option ℕ
@@ -51,7 +51,7 @@ number_for key kept = option_map_or (λ (k : Kept). k.number) (lookup (same_key 
 
 -- each number below the number of kept patches is that of just one of them, and no patch has another
 abbrev pub AreNumbered : List Use → Type 0
-AreNumbered kept = (number : ℕ) → times number kept ≡ (if nat_lt number (length kept) then 1 else 0)
+AreNumbered kept = (number : ℕ) → times_kept number kept ≡ (if nat_lt number (length kept) then 1 else 0)
 
 -- what holds of every cache
 pub record IsValid (kept : List Use) : Type 0 where

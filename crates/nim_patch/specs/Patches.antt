@@ -21,13 +21,13 @@ abbrev pub failing_in : Versions → List (Worker × Object) → ℕ
 failing_in versions preconditions = count_by (fails versions) preconditions
 
 -- the copy to a precondition's slot from a worker
-abbrev pub copy_from : Worker × Object → Worker → PatchCopy
-copy_from precondition from = record { from = from; to = precondition.0; object = precondition.1 }
+abbrev pub copy_to_precondition : Worker × Object → Worker → PatchCopy
+copy_to_precondition precondition from = record { from = from; to = precondition.0; object = precondition.1 }
 
 -- the copy for a precondition that fails, from the lowest worker whose main slot holds the latest version
 abbrev pub copy_of : Versions → Worker × Object → Option PatchCopy
 copy_of versions precondition =
-    if fails versions precondition then option_map (copy_from precondition) (holder versions precondition.1) else None
+    if fails versions precondition then option_map (copy_to_precondition precondition) (holder versions precondition.1) else None
 
 -- a copy, if there is one, before others
 abbrev pub copy_first : Option PatchCopy → List PatchCopy → List PatchCopy
@@ -35,9 +35,9 @@ copy_first None copies = copies
 copy_first (Some copy) copies = copy ∷ copies
 
 -- The copies of a patch: one for each precondition that fails, in their order.
-abbrev pub copies_of : Versions → List (Worker × Object) → List PatchCopy
-copies_of versions [] = []
-copies_of versions (precondition ∷ rest) = copy_first (copy_of versions precondition) (copies_of versions rest)
+abbrev pub patch_copies : Versions → List (Worker × Object) → List PatchCopy
+patch_copies versions [] = []
+patch_copies versions (precondition ∷ rest) = copy_first (copy_of versions precondition) (patch_copies versions rest)
 
 -- a copy has its receiver take in the latest version of its object
 abbrev pub after_copy : Versions → PatchCopy → Versions

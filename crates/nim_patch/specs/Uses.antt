@@ -12,8 +12,8 @@ abbrev pub Use : Type 0
 Use = Key × Kept
 
 -- what a patch is kept under: the block of the instance before, and that of the next
-abbrev pub key_of : ℕ → ℕ → Key
-key_of previous next = record { previous = previous; next = next }
+abbrev pub patch_key : ℕ → ℕ → Key
+patch_key previous next = record { previous = previous; next = next }
 
 -- a use of a patch with these copies, by its key and its number
 abbrev pub use_of : Key → ℕ → List PatchCopy → Use

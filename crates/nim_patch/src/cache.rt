@@ -1,6 +1,6 @@
 ghost use Rattle.std.specs.Prelude.{◌≡◌, ◌<◌, ◌∷◌, [], List, length, IfOk, OnErr, MatchOption, unwrap_or};
 ghost use Rattle.nim_patch.specs.Cache as spec;
-ghost use Rattle.nim_patch.specs.Uses.{StandsFor, Use, hit, key_of, same_copies, same_key, use_of};
+ghost use Rattle.nim_patch.specs.Uses.{StandsFor, Use, hit, patch_key, same_copies, same_key, use_of};
 
 use crate::kept::{Kept, Key};
 use crate::{Patch, PatchCopy};
@@ -54,13 +54,13 @@ impl PatchCache {
     /// The number of the patch that is kept under these blocks, if its copies are those of this one; that is a use.
     /// None exactly where there is no such patch, and then nothing has changed. Takes no memory.
     pub fn find(&mut self, previous: u8, next: u8, patch: &Patch) -> Option<u8>
-        ensures value { result ≡ spec.found (key_of previous next) patch.now.copies self.old }
-        ensures kept { self.new ≡ spec.after_find (key_of previous next) patch.now.copies self.old }
+        ensures value { result ≡ spec.patch_number_kept (patch_key previous next) patch.now.copies self.old }
+        ensures kept { self.new ≡ spec.after_find (patch_key previous next) patch.now.copies self.old }
         ensures valid { spec.IsValid self.new }
         ensures hit { (uses : List Use) → StandsFor uses self.old
-            → result ≡ hit (key_of previous next) patch.now.copies uses }
+            → result ≡ hit (patch_key previous next) patch.now.copies uses }
         ensures stands { (uses : List Use) → StandsFor uses self.old → MatchOption result (StandsFor uses self.new)
-            (λ number. StandsFor (use_of (key_of previous next) number patch.now.copies ∷ uses) self.new) }
+            (λ number. StandsFor (use_of (patch_key previous next) number patch.now.copies ∷ uses) self.new) }
     {
         let key = Key { previous, next };
         match self.number_of(&key, patch.copies.as_slice()) {
@@ -76,14 +76,14 @@ impl PatchCache {
     /// 64: the one that these blocks have, else the least that is free, else that of the patch that was used longest
     /// ago, which is dropped. After want of memory all is as it was.
     pub fn keep(&mut self, previous: u8, next: u8, patch: Patch) -> Result<u8, NoMemory>
-        ensures number { IfOk result (λ number. number ≡ spec.number_for (key_of previous next) self.old) }
+        ensures number { IfOk result (λ number. number ≡ spec.number_for (patch_key previous next) self.old) }
         ensures below { IfOk result (λ number. number < 64) }
         ensures kept { IfOk result (λ number.
-            self.new ≡ spec.after_use (use_of (key_of previous next) number patch.copies) self.old) }
+            self.new ≡ spec.after_use (use_of (patch_key previous next) number patch.copies) self.old) }
         ensures err { OnErr result (self.new ≡ self.old) }
         ensures valid { spec.IsValid self.new }
         ensures stands { (uses : List Use) → StandsFor uses self.old
-            → IfOk result (λ number. StandsFor (use_of (key_of previous next) number patch.copies ∷ uses) self.new) }
+            → IfOk result (λ number. StandsFor (use_of (patch_key previous next) number patch.copies ∷ uses) self.new) }
     {
         let key = Key { previous, next };
         let number = self.number_for(&key);
@@ -93,7 +93,7 @@ impl PatchCache {
 
     /// The number of the patch under a key, if its copies are these.
     fn number_of(&self, key: &Key, copies: &[PatchCopy]) -> Option<u8>
-        ensures { result ≡ spec.found key.now copies.now self.now }
+        ensures { result ≡ spec.patch_number_kept key.now copies.now self.now }
     {
         match self.kept.peek(key) {
             Some(kept) if is_equal(kept.patch.copies.as_slice(), copies) => Some(kept.number),

@@ -4,7 +4,7 @@ ghost use Rattle.nim_base.specs.declared.number.Worker.{Worker as worker_type};
 ghost use Rattle.nim_patch.specs.Given.{PatchInstallsExtend, PatchRunsExtend};
 ghost use Rattle.nim_patch.specs.Mends.{AreSourced, Mends};
 ghost use Rattle.nim_patch.specs.Patches as spec;
-ghost use Rattle.nim_place.specs.Stands.{Stands};
+ghost use Rattle.nim_place.specs.Stands.{MapStands};
 ghost use Rattle.nim_template.specs.MainSlots.{AreMainSlots};
 
 use nim_base::{NoMemory, Object, Seq, Worker};
@@ -46,7 +46,7 @@ pub fn failing(template: &WorkerTemplate, map: &VersionMap, flags: &mut [bool]) 
 }
 
 /// The patch for the preconditions that `failing` flagged: in their order, a copy for each from the lowest worker whose
-/// main slot holds the latest version. Its meaning is `copies_of` of `specs/Patches.antt`; one whose object no worker
+/// main slot holds the latest version. Its meaning is `patch_copies` of `specs/Patches.antt`; one whose object no worker
 /// holds gets no copy.
 pub fn build_patch(
     alloc: Global,
@@ -55,10 +55,10 @@ pub fn build_patch(
     flags: &[bool],
 ) -> Result<Patch, NoMemory>
     requires { flags.now ≡ spec.flags_of map.now template.now.preconditions }
-    ensures copies { IfOk result (λ patch. patch.copies ≡ spec.copies_of map.now template.now.preconditions) }
+    ensures copies { IfOk result (λ patch. patch.copies ≡ spec.patch_copies map.now template.now.preconditions) }
     ensures few { IfOk result (λ patch. length patch.copies ≤ length template.now.preconditions) }
     ensures sources { IfOk result (λ patch. AreSourced map.now patch.copies) }
-    ensures mends { (given : List (worker_type × Command)) → Stands given map.now
+    ensures mends { (given : List (worker_type × Command)) → MapStands given map.now
         → IfOk result (λ patch. Mends map.now template.now.preconditions patch.copies) }
     ensures installs { (live : List Bool) → IfOk result (λ patch. PatchInstallsExtend live patch.copies) }
     ensures runs { (live : List Bool) (objects : ℕ) → AreMainSlots live objects template.now.preconditions

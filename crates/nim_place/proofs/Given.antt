@@ -10,7 +10,7 @@ use Rattle.nim_command.specs.declared.command.Kind.{Kind}
 use Rattle.nim_command.specs.declared.command.Kind.TheVariants.{Create, Load, Send, Receive, Copy, Run, Fetch}
 use Rattle.nim_place.specs.declared.schedule.Moved.{Moved}
 use Rattle.nim_place.specs.Schedule.{copies_of, moves, run_of}
-use Rattle.nim_place.specs.Stands.{Stands, StandsOn, is_aside}
+use Rattle.nim_place.specs.Stands.{MapStands, StandsOn, is_aside}
 use Rattle.nim_place.specs.Versions.{Versions, after_commands, after_kind, puts_of, version_of}
 use Rattle.nim_place.proofs.History.{stands_more}
 use Rattle.nim_place.proofs.Moves.{AreMoves, moves_facts}
@@ -39,12 +39,12 @@ aside versions (Run position func params reads writes) is = refl
 aside versions (Fetch slot ticket) is = refl
 
 pub all_stand : (cs : List (Worker × Command)) (versions : Versions) → AllFit versions.workers cs → StandsOn versions (after_commands versions cs) cs
-all_stand [] versions fit given stands = subst (λ (l : List (Worker × Command)). Stands l versions) (sym (append-nil given)) stands
+all_stand [] versions fit given stands = subst (λ (l : List (Worker × Command)). MapStands l versions) (sym (append-nil given)) stands
 all_stand (c ∷ cs) versions fit given stands =
     let next : Versions = after_kind c.0 versions c.1.kind in
     let workers : next.workers
     ≡ versions.workers = (put_all versions c.0 (version_of c.1.kind) (puts_of c.1.kind) (record { slots = stands.slots; all = stands.all }) fit.0).workers in
-    subst (λ (l : List (Worker × Command)). Stands l (after_commands next cs)) (append_assoc given (c ∷ []) cs)
+    subst (λ (l : List (Worker × Command)). MapStands l (after_commands next cs)) (append_assoc given (c ∷ []) cs)
     (all_stand cs next (subst (λ (n : ℕ). AllFit n cs) (sym workers) fit.2) (given ++ c ∷ [])
     (stands_more given versions c.0 c.1 stands fit.0 (aside versions c.1.kind fit.1)))
 

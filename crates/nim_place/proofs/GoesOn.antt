@@ -21,7 +21,7 @@ use Rattle.nim_job.specs.Whole.{is_whole}
 use Rattle.nim_job.proofs.FewTasks.{few_tasks}
 use Rattle.nim_place.specs.declared.schedule.Moved.{Moved}
 use Rattle.nim_place.specs.Schedule.{copies_of, is_one_of, moves, run_of}
-use Rattle.nim_place.specs.TaskOrders.{GoesOn, IsRunAt, RunsAt}
+use Rattle.nim_place.specs.TaskOrders.{ComesToNext, IsRunAt, RunsAt}
 use Rattle.nim_place.specs.Versions.{Versions, after_commands, after_kind, held_at, holder, holder_from, is_current, latest_of}
 use Rattle.nim_place.proofs.Finds.{current_held}
 use Rattle.nim_place.proofs.Moves.{holder_facts}
@@ -216,7 +216,7 @@ pub schedule_goes_on : (before after : Versions) (owner : Worker) (task : Task) 
     → owner.0 < before.workers
     → commands ≡ copies_of before number owner (moves before owner [] task.reads) ++
     (owner, run_of task number position (moves before owner [] task.reads)) ∷ []
-    → after ≡ after_commands before commands → GoesOn before after task position
+    → after ≡ after_commands before commands → ComesToNext before after task position
 schedule_goes_on before after owner task number position commands below is same job given stands at next =
     let few = position_few job position task next.whole next.there in
     let run : IsRunAt before after owner task position =

@@ -17,7 +17,7 @@ use Rattle.nim_message.specs.declared.order.ToWorker.{ToWorker}
 use Rattle.nim_place.specs.declared.schedule.Moved.{Moved}
 use Rattle.nim_place.specs.Extends.{AskFor, is_live}
 use Rattle.nim_place.specs.Schedule.{moved_first, moves, send_of, source_of}
-use Rattle.nim_place.specs.Stands.{Stands, commands_for}
+use Rattle.nim_place.specs.Stands.{MapStands, commands_for}
 use Rattle.nim_place.specs.Versions.{Versions, held_at, is_current, is_kept, latest_of, place_of}
 use Rattle.nim_place.proofs.Finds.{current_held}
 use Rattle.nim_place.proofs.History.{holds_last}
@@ -44,7 +44,7 @@ current_kept versions object worker current = either (is_kept versions worker (m
       absurd (none-some (latest_of versions object) (sym (nothing is) ∙ held))
 
 -- so it has this version when the commands so far have run
-pub slot_held : (versions : Versions) (given : List (Worker × Command)) (object : Object) (worker : Worker) → Stands given versions
+pub slot_held : (versions : Versions) (given : List (Worker × Command)) (object : Object) (worker : Worker) → MapStands given versions
     → is_current versions object worker ≡ true
     → holds (commands_for worker given) (length (commands_for worker given)) (main_slot object)
     ≡ Some (object_of (main_slot object), latest_of versions object)
@@ -56,7 +56,7 @@ slot_held versions given object worker stands current =
 -- and the worker is live
 pub holder_lives : (versions : Versions) (live : List Bool) (epoch : ℕ) (lists : ℕ → List ToWorker) (given : List (Worker × Command)) (object : Object)
     (worker : Worker)
-    → Stands given versions → AskFor live epoch lists given → is_current versions object worker ≡ true → is_live live worker ≡ true
+    → MapStands given versions → AskFor live epoch lists given → is_current versions object worker ≡ true → is_live live worker ≡ true
 holder_lives versions live epoch lists given object worker stands ask current = either (is_live live worker) refl where
   either : (b : Bool) → is_live live worker ≡ b → b ≡ true
   either true is = refl
@@ -95,7 +95,7 @@ held_still versions number owner past sent (m ∷ ms) held =
     (holds_last past (send_of number owner sent).1 (main_slot m.object) ∙ held.0, held_still versions number owner past sent ms held.1)
 
 -- those that a worker sends it holds
-pub held_here : (versions : Versions) (given : List (Worker × Command)) (worker : Worker) (ms : List Moved) → Stands given versions → AreHeld versions ms
+pub held_here : (versions : Versions) (given : List (Worker × Command)) (worker : Worker) (ms : List Moved) → MapStands given versions → AreHeld versions ms
     → HeldIn versions (commands_for worker given) (filter (λ (m : Moved). m.from.0 == worker.0) ms)
 held_here versions given worker [] stands are = tt
 held_here versions given worker (m ∷ ms) stands are = either (m.from.0 == worker.0) refl (held_here versions given worker ms stands are.1) where

@@ -17,7 +17,7 @@ use Rattle.nim_command.specs.declared.command.Kind.TheVariants.{Create, Load, Se
 use Rattle.nim_command.specs.Holds.{Content, content_at, holds, left_by}
 use Rattle.nim_command.specs.Numbers.{main_slot}
 use Rattle.nim_command.specs.Slots.{is_among, object_of}
-use Rattle.nim_place.specs.Stands.{Stands, StandsOn, commands_for, greater_put, is_aside}
+use Rattle.nim_place.specs.Stands.{MapStands, StandsOn, commands_for, greater_put, is_aside}
 use Rattle.nim_place.specs.Versions.{Versions, after_kind, held_at, is_kept, puts_of, version_of}
 use Rattle.nim_place.proofs.Puts.{IsPut, IsWhole, kept_bounds, put_all, whole_after}
 
@@ -112,9 +112,9 @@ held_more commands c slot false true version old before left = ap (λ (cs : List
 held_more commands c slot false false version old before left = ap (λ (cs : List Command). holds cs (length cs) slot) (append-nil commands) ∙ before
 
 -- one more command
-pub stands_more : (given : List (Worker × Command)) (versions : Versions) (worker : Worker) (c : Command) → Stands given versions
+pub stands_more : (given : List (Worker × Command)) (versions : Versions) (worker : Worker) (c : Command) → MapStands given versions
     → worker.0 < versions.workers → is_aside versions c.kind ≡ true
-    → Stands (given ++ (worker, c) ∷ []) (after_kind worker versions c.kind)
+    → MapStands (given ++ (worker, c) ∷ []) (after_kind worker versions c.kind)
 stands_more given versions worker c stands below aside =
     let whole : IsWhole versions = record { slots = stands.slots; all = stands.all } in
     let after : Versions = after_kind worker versions c.kind in
@@ -141,5 +141,5 @@ stands_more given versions worker c stands below aside =
 pub stands_on : (before after : Versions) (worker : Worker) (c : Command) → after ≡ after_kind worker before c.kind → worker.0 < before.workers
     → is_aside before c.kind ≡ true
     → StandsOn before after ((worker, c) ∷ [])
-stands_on before after worker c is below aside given stands = subst (Stands (given ++ (worker, c) ∷ [])) (sym is)
+stands_on before after worker c is below aside given stands = subst (MapStands (given ++ (worker, c) ∷ [])) (sym is)
     (stands_more given before worker c stands below aside)

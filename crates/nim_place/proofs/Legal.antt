@@ -20,13 +20,13 @@ use Rattle.nim_job.specs.declared.job.Job.{Job}
 use Rattle.nim_job.specs.Objects.{objects_of}
 use Rattle.nim_job.specs.Serial.{tasks_of}
 use Rattle.nim_job.specs.Versions.{is_written, read_version, version_before}
-use Rattle.nim_job.specs.Whole.{is_object, is_task}
+use Rattle.nim_job.specs.Whole.{is_object_within, is_whole_task}
 use Rattle.nim_job.proofs.FewTasks.{tasks_fit}
 use Rattle.nim_job.proofs.Whole.{vars_sizes, whole_vars}
 use Rattle.nim_plan.specs.Legal.{AreLegal, IsLegalKind, IsRunOf, is_version}
 use Rattle.nim_place.specs.declared.schedule.Moved.{Moved}
 use Rattle.nim_place.specs.Schedule.{copies_of, is_one_of, moves, receive_of, run_of, send_of}
-use Rattle.nim_place.specs.Stands.{Stands, commands_for}
+use Rattle.nim_place.specs.Stands.{MapStands, commands_for}
 use Rattle.nim_place.specs.TaskOrders.{IsAt, IsTaskAt, StaysLegal}
 use Rattle.nim_place.specs.Versions.{Versions, latest_of}
 use Rattle.nim_place.proofs.ByTask.{for_other, for_owner}
@@ -57,7 +57,7 @@ before_written tasks (suc k) object =
 pub read_there : (job : Job) (position : ℕ) (object : Object) → object.0 < objects_of job.vars
     → is_version job object (read_version job position object) ≡ true
 read_there job position object below =
-    and_from (is_object (objects_of job.vars) object) (was_written (tasks_of job) object (read_version job position object))
+    and_from (is_object_within (objects_of job.vars) object) (was_written (tasks_of job) object (read_version job position object))
     (lt-ltb object.0 (objects_of job.vars) below) (before_written (tasks_of job) position object)
 
 -- a task that is there passes what all tasks pass
@@ -66,13 +66,13 @@ task_passes p [] i task all there = absurd (none-some task there)
 task_passes p (t ∷ tasks) zero task all there = ap p (sym (same_Some t task there)) ∙ (and_parts (p t) (list_all p tasks) all).0
 task_passes p (t ∷ tasks) (suc i) task all there = task_passes p tasks i task (and_parts (p t) (list_all p tasks) all).1 there
 
-pub task_objects : (n : ℕ) (task : Task) → is_task n task ≡ true → (list_all (is_object n) task.reads ≡ true) × (list_all (is_object n) task.writes ≡ true)
+pub task_objects : (n : ℕ) (task : Task) → is_whole_task n task ≡ true → (list_all (is_object_within n) task.reads ≡ true) × (list_all (is_object_within n) task.writes ≡ true)
 task_objects n task fit = grind (arith, nat_tests)
 
-pub read_within : (n : ℕ) (reads : List Object) (object : Object) → list_all (is_object n) reads ≡ true → is_one_of reads object ≡ true → object.0 < n
+pub read_within : (n : ℕ) (reads : List Object) (object : Object) → list_all (is_object_within n) reads ≡ true → is_one_of reads object ≡ true → object.0 < n
 read_within n [] object all read = absurd (false≢true read)
 read_within n (r ∷ reads) object all read =
-    let parts = and_parts (is_object n r) (list_all (is_object n) reads) all in
+    let parts = and_parts (is_object_within n r) (list_all (is_object_within n) reads) all in
     either (read_within n reads object parts.1) (ltb-true r.0 n parts.0) (r.0 == object.0) refl read where
       either : (is_one_of reads object ≡ true → object.0 < n) → r.0 < n → (b : Bool) → (r.0 == object.0) ≡ b → (b || is_one_of reads object)
           ≡ true → object.0 < n
@@ -83,10 +83,10 @@ read_within n (r ∷ reads) object all read =
 pub main_of : (object : Object) → object.0 < 512 → object_of (main_slot object) ≡ object
 main_of object below = let same : object.0 % 512 ≡ object.0 = omega (arith, below) in ap (λ (n : ℕ). record { 0 = n }) same
 
-pub mains_of : (n : ℕ) (objects : List Object) → n ≤ 512 → list_all (is_object n) objects ≡ true → map object_of (map main_slot objects) ≡ objects
+pub mains_of : (n : ℕ) (objects : List Object) → n ≤ 512 → list_all (is_object_within n) objects ≡ true → map object_of (map main_slot objects) ≡ objects
 mains_of n [] few are = refl
 mains_of n (o ∷ objects) few are =
-    let parts = and_parts (is_object n o) (list_all (is_object n) objects) are in
+    let parts = and_parts (is_object_within n o) (list_all (is_object_within n) objects) are in
     ap₂ (λ (p : Object) (ps : List Object). p ∷ ps) (main_of o (omega (arith, few, ltb-true o.0 n parts.0))) (mains_of n objects few parts.1)
 
 -- What the map and the job say of the objects of a task.
@@ -102,7 +102,7 @@ pub is_for : (job : Job) (versions : Versions) (task : Task) (position : ℕ) �
 is_for job versions task position at next =
     let n = objects_of job.vars in
     let few : n ≤ 512 = (vars_sizes job.vars (whole_vars job next.whole)).0 in
-    let objects = task_objects n task (task_passes (is_task n) (tasks_of job) position task (tasks_fit job next.whole) next.there) in
+    let objects = task_objects n task (task_passes (is_whole_task n) (tasks_of job) position task (tasks_fit job next.whole) next.there) in
     let below : (object : Object) → is_one_of task.reads object ≡ true → object.0 < n = λ object read. read_within n task.reads object objects.0 read in
     let in_map : (object : Object) → is_one_of task.reads object ≡ true → object.0 < versions.objects =
     λ object read. let there = below object read in omega (arith, there, at.objects) in
@@ -167,7 +167,7 @@ run_legal job before versions task position fits held =
 
 owner_legal : (job : Job) (versions : Versions) (owner : Worker) (task : Task) (number position : ℕ) (given : List (Worker × Command)) (ms : List Moved)
     → ms ≡ moves versions owner [] task.reads
-    → AreMoves versions owner task.reads ms → owner.0 < versions.workers → Stands given versions → IsAt job position versions → IsFor job versions task position
+    → AreMoves versions owner task.reads ms → owner.0 < versions.workers → MapStands given versions → IsAt job position versions → IsFor job versions task position
     → AreLegal job (commands_for owner given) (map (λ (m : Moved). (receive_of versions number owner m).1) ms ++ run_of task number position ms ∷ [])
 owner_legal job versions owner task number position given ms is are below stands at fits =
     legal_append job (commands_for owner given) received (run_of task number position ms ∷ [])
@@ -196,7 +196,7 @@ owner_legal job versions owner task number position given ms is are below stands
 pub worker_legal : (job : Job) (versions : Versions) (owner worker : Worker) (task : Task) (number position : ℕ) (given : List (Worker × Command))
     (ms : List Moved)
     → ms ≡ moves versions owner [] task.reads
-    → AreMoves versions owner task.reads ms → AreHeld versions ms → owner.0 < versions.workers → Stands given versions → IsAt job position versions
+    → AreMoves versions owner task.reads ms → AreHeld versions ms → owner.0 < versions.workers → MapStands given versions → IsAt job position versions
     → IsFor job versions task position
     → AreLegal job (commands_for worker given)
     (commands_for worker (copies_of versions number owner ms ++ (owner, run_of task number position ms) ∷ []))

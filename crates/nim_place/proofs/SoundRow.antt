@@ -20,10 +20,10 @@ use Rattle.nim_command.specs.Holds.{Content, content_at, version_after}
 use Rattle.nim_command.specs.Numbers.{counted_from, main_slot}
 use Rattle.nim_command.specs.Slots.{object_of}
 use Rattle.nim_job.specs.Serial.{tasks_of}
-use Rattle.nim_job.specs.Tasks.{task_of}
+use Rattle.nim_job.specs.Tasks.{task_with_args}
 use Rattle.nim_job.specs.Versions.{read_version}
 use Rattle.nim_plan.specs.Legal.{IsRunOf}
-use Rattle.nim_place.specs.Sound.{IsSound, first_plane, is_end, walked}
+use Rattle.nim_place.specs.Sound.{IsSound, first_plane, is_end, plane_left}
 use Rattle.nim_place.proofs.GoesOn.{position_few}
 
 abbrev home : Worker
@@ -79,7 +79,7 @@ kept slots worker slot x false is none = refl
 
 pub one_task_is_sound : IsSound template
 one_task_is_sound job base args slots may =
-    let task : Task = task_of args form in
+    let task : Task = task_with_args args form in
     let there : slice_get (tasks_of job) base ≡ Some task = first_there (tasks_of job) base task may.tasks in
     let few = position_few job base task may.whole there in
     let position : counted_from base 0 ≡ base = omega (arith, few) in
@@ -98,10 +98,10 @@ one_task_is_sound job base args slots may =
       owners = refl;
       runs = ap (λ (p : ℕ). (home, p) ∷ []) position;
       effect =
-          All-cons (λ (item : Worker × Slot × ℕ). (walked (first_plane slots) ((home, run base) ∷ [])).slots item.0 item.1
+          All-cons (λ (item : Worker × Slot × ℕ). (plane_left (first_plane slots) ((home, run base) ∷ [])).slots item.0 item.1
           ≡ content_at item.1 (version_at base (read_version job base (object_of item.1)) item.2)) (home, main_slot object, 1) []
           (ap (content_at (main_slot object)) next)
-          (All-nil (λ (item : Worker × Slot × ℕ). (walked (first_plane slots) ((home, run base) ∷ [])).slots item.0 item.1
+          (All-nil (λ (item : Worker × Slot × ℕ). (plane_left (first_plane slots) ((home, run base) ∷ [])).slots item.0 item.1
           ≡ content_at item.1 (version_at base (read_version job base (object_of item.1)) item.2)));
       rest = λ worker slot below none.
           kept slots worker slot (λ s. content_at s (version_after (counted_from base 0))) (worker.0 == 0) refl none;

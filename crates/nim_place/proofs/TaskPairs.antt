@@ -13,7 +13,7 @@ use Rattle.nim_command.specs.Holds.{Content}
 use Rattle.nim_command.specs.Numbers.{entry_number, main_slot, task_of}
 use Rattle.nim_command.specs.Slots.{object_of}
 use Rattle.nim_command.specs.Waits.{Group, single_group}
-use Rattle.nim_plan.specs.Paired.{Key, is_key, key_of, keys_received, keys_sent}
+use Rattle.nim_plan.specs.Paired.{Key, is_key, entry_key, keys_received, keys_sent}
 use Rattle.nim_place.specs.declared.schedule.Moved.{Moved}
 use Rattle.nim_place.specs.Extends.{is_live, live_workers, singles_of}
 use Rattle.nim_place.specs.Schedule.{copies_of, moved_first, moves, receive_of, run_of, send_of, source_of}
@@ -184,7 +184,7 @@ other_sends to epoch instance cs versions number owner past [] held = sym (nothi
 other_sends to epoch instance cs versions number owner past (m ∷ ms) held =
     let key = key_for epoch instance versions number in
     ap₂ (λ (k : Key) (rest : List Key). (if owner.0 == to.0 then k ∷ [] else []) ++ rest)
-    (ap (λ (c : Content). key_of (single_group epoch instance cs) (entry_number number 1 m.index) (object_of (main_slot m.object))
+    (ap (λ (c : Content). entry_key (single_group epoch instance cs) (entry_number number 1 m.index) (object_of (main_slot m.object))
     (option_map_or (λ (d : Object × ℕ). d.1) c 0)) held.0)
     (other_sends to epoch instance cs versions number owner (past ++ (send_of number owner m).1 ∷ []) ms (held_still versions number owner past m ms held.1))
     ∙ joined (owner.0 == to.0) (key m) (map key ms)

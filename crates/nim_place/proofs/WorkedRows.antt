@@ -20,7 +20,7 @@ use Rattle.nim_place.specs.declared.placement.Placement.{Placement}
 use Rattle.nim_place.specs.Extends.{longer, singles_of, worker_of}
 use Rattle.nim_place.specs.Orders.{resets_of}
 use Rattle.nim_place.specs.Schedule.{scheduled}
-use Rattle.nim_place.specs.Sound.{Plane, by_rank, commands_from, first_plane, walked}
+use Rattle.nim_place.specs.Sound.{Plane, by_rank, commands_from, first_plane, plane_left}
 use Rattle.nim_place.specs.Versions.{Versions, after_commands}
 
 abbrev slot : ℕ → Slot
@@ -101,11 +101,11 @@ ranked = by_rank 8 (commands_from read 8 [] 0 halves)
 ranked_numbers : map (λ (c : Worker × Command). c.1.id) ranked ≡ 32 ∷ 80 ∷ 88 ∷ 96 ∷ 104 ∷ 112 ∷ []
 ranked_numbers = refl
 
-home_holds : (walked first ranked).slots (worker_of 1) (slot 1) ≡ Some (object 1, 10)
+home_holds : (plane_left first ranked).slots (worker_of 1) (slot 1) ≡ Some (object 1, 10)
 home_holds = refl
 
-owner_holds : (walked first ranked).slots (worker_of 0) (slot 513) ≡ Some (object 1, 10)
+owner_holds : (plane_left first ranked).slots (worker_of 0) (slot 513) ≡ Some (object 1, 10)
 owner_holds = refl
 
-other_holds : (walked first ranked).slots (worker_of 0) (slot 0) ≡ Some (object 0, 9)
+other_holds : (plane_left first ranked).slots (worker_of 0) (slot 0) ≡ Some (object 0, 9)
 other_holds = refl

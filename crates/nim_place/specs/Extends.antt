@@ -56,14 +56,14 @@ LongerIsLegal job live lists more =
     → IsLegal job (longer lists more worker.0)
 
 -- Orders have the before sets of the rule, so that the commands that they come to are covered.
-pub record AreCovered (orders : List ToWorker) : Type 0 where
+pub record AreCoveredByRule (orders : List ToWorker) : Type 0 where
   pub by_rule : All IsOrderByRule orders
   pub covered : is_covered (placed_commands (session_of orders).groups) ≡ true
 
 -- Each worker's list that has the before sets of the rule has them with these orders behind it.
 abbrev pub LongerIsCovered : (ℕ → List ToWorker) → (ℕ → List ToWorker) → Type 0
 LongerIsCovered lists more =
-    (worker : Worker) → All IsOrderByRule (lists worker.0) → AreCovered (longer lists more worker.0)
+    (worker : Worker) → All IsOrderByRule (lists worker.0) → AreCoveredByRule (longer lists more worker.0)
 
 -- the live workers, in order
 abbrev pub live_workers : List Bool → List Worker

@@ -9,14 +9,14 @@ use Rattle.nim_command.specs.Holds.{holds}
 use Rattle.nim_command.specs.Numbers.{main_slot}
 use Rattle.nim_command.specs.Slots.{object_of}
 use Rattle.nim_place.specs.Schedule.{copies_of, is_one_of, moves}
-use Rattle.nim_place.specs.Stands.{Stands, commands_for}
+use Rattle.nim_place.specs.Stands.{MapStands, commands_for}
 use Rattle.nim_place.specs.Versions.{Versions, holder, latest_of}
 
 -- After a task's copies, the owner's main slot of each object that the task reads, and that some worker holds, holds
 -- the version that was the latest before them, whatever commands the map stood for.
 abbrev pub FindsLatest : Versions → Worker → Task → ℕ → Type 0
 FindsLatest versions owner task number =
-    (given : List (Worker × Command)) → Stands given versions → (object : Object) → is_one_of task.reads object ≡ true
+    (given : List (Worker × Command)) → MapStands given versions → (object : Object) → is_one_of task.reads object ≡ true
     → object.0 < versions.objects
     → is_some (holder versions object) ≡ true
     → let commands : List Command =

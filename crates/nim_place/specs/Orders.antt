@@ -20,7 +20,7 @@ resets_of live epoch workers shapes =
     λ number. if slice_index_or live number false then Reset epoch (worker_of number) workers shapes ∷ [] else []
 
 -- Resets begin an epoch, whatever the orders before them.
-pub record IsBegun (live : List Bool) (current workers : ℕ) (shapes : List Shape)
+pub record IsEpochBegun (live : List Bool) (current workers : ℕ) (shapes : List Shape)
     (lists : ℕ → List ToWorker) : Type 0 where
   -- nothing is asked for
   pub asked : AskFor live current (longer lists (resets_of live current workers shapes)) []
@@ -58,7 +58,7 @@ pub record AreExtended (live : List Bool) (current instance : ℕ) (lists : ℕ 
 abbrev pub ResetsBegin : Type 0
 ResetsBegin =
     (live : List Bool) (epoch workers : ℕ) (shapes : List Shape) (lists : ℕ → List ToWorker)
-    → IsBegun live epoch workers shapes lists
+    → IsEpochBegun live epoch workers shapes lists
 
 -- So Singles extend lists of orders.
 abbrev pub SinglesExtend : Type 0

@@ -19,7 +19,7 @@ use Rattle.nim_command.specs.Ranks.{rank_of, ranks_compared}
 use Rattle.nim_command.specs.Slots.{object_of}
 use Rattle.nim_job.specs.declared.job.Job.{Job}
 use Rattle.nim_job.specs.Serial.{tasks_of}
-use Rattle.nim_job.specs.Tasks.{task_of}
+use Rattle.nim_job.specs.Tasks.{task_with_args}
 use Rattle.nim_job.specs.Versions.{read_version}
 use Rattle.nim_job.specs.Whole.{is_whole}
 use Rattle.nim_plan.specs.Legal.{IsLegalKind}
@@ -32,8 +32,8 @@ version_named before (EntryKind.Receive slot offset) = if offset == 0 then befor
 version_named before _ = []
 
 -- the commands of a worker's half
-abbrev pub commands_at : (Object → ℕ) → ℕ → List ℤ → Worker → List Entry → List (Worker × Command)
-commands_at before base args worker half =
+abbrev pub commands_of_half : (Object → ℕ) → ℕ → List ℤ → Worker → List Entry → List (Worker × Command)
+commands_of_half before base args worker half =
     let versions : List ℕ = flat_map (λ (e : Entry). version_named before e.kind) half in
     map (λ (c : Command). (worker, c)) (expanded base args versions 0 half)
 
@@ -41,7 +41,7 @@ commands_at before base args worker half =
 abbrev pub commands_from : (Object → ℕ) → ℕ → List ℤ → ℕ → List (List Entry) → List (Worker × Command)
 commands_from before base args number [] = []
 commands_from before base args number (half ∷ halves) =
-    commands_at before base args (record { 0 = number }) half ++ commands_from before base args (number + 1) halves
+    commands_of_half before base args (record { 0 = number }) half ++ commands_from before base args (number + 1) halves
 
 -- one command among others, before those of higher rank
 abbrev pub put_by_rank : ℕ → Worker × Command → List (Worker × Command) → List (Worker × Command)
@@ -91,8 +91,8 @@ step_of worker number (Receive slot version) plane =
 step_of worker number kind plane = with_slots worker (left_by kind (plane.slots worker)) plane
 
 -- what commands leave, one after another
-abbrev pub walked : Plane → List (Worker × Command) → Plane
-walked plane commands = fold (λ (now : Plane) (c : Worker × Command). step_of c.0 c.1.id c.1.kind now) plane commands
+abbrev pub plane_left : Plane → List (Worker × Command) → Plane
+plane_left plane commands = fold (λ (now : Plane) (c : Worker × Command). step_of c.0 c.1.id c.1.kind now) plane commands
 
 -- What a command finds: what is sent or copied is there, a Run is the task at its position and finds the versions that
 -- this task reads, and what is received is a version of the slot's object, and was sent.
@@ -157,7 +157,7 @@ is_affected effect worker slot =
 pub record MayBegin (template : WorkerTemplate) (job : Job) (base : ℕ) (args : List ℤ)
     (slots : Worker → Slot → Content) : Type 0 where
   pub whole : is_whole job ≡ true
-  pub tasks : take (length template.forms) (drop base (tasks_of job)) ≡ map (task_of args) template.forms
+  pub tasks : take (length template.forms) (drop base (tasks_of job)) ≡ map (task_with_args args) template.forms
   pub held :
       All (λ (one : Worker × Object). slots one.0 (main_slot one.1) ≡ Some (one.1, read_version job base one.1))
       template.preconditions
@@ -171,10 +171,10 @@ pub record DoesTasks (template : WorkerTemplate) (job : Job) (base : ℕ) (slots
   pub owners : length template.owners ≡ length template.forms
   pub runs : flat_map (λ (c : Worker × Command). run_by c.0 c.1.kind) commands ≡ owned_from base template.owners
   pub effect :
-      All (λ (item : Worker × Slot × ℕ). (walked (first_plane slots) commands).slots item.0 item.1
+      All (λ (item : Worker × Slot × ℕ). (plane_left (first_plane slots) commands).slots item.0 item.1
       ≡ content_at item.1 (version_at base (read_version job base (object_of item.1)) item.2)) template.effect
   pub rest : (worker : Worker) (slot : Slot) → slot.0 < 512 → is_affected template.effect worker slot ≡ false
-      → (walked (first_plane slots) commands).slots worker slot ≡ slots worker slot
+      → (plane_left (first_plane slots) commands).slots worker slot ≡ slots worker slot
 
 -- A template is sound where each instance that may begin does its block's tasks, whatever the job, the base, the
 -- arguments and what else the slots hold, when its commands run by rank.

@@ -29,7 +29,7 @@ greatest_put slot given = fold (greater_put slot) 0 given
 
 -- Each main slot holds what its worker's commands leave there when they run in order, and the latest version of each
 -- object is the greatest that one of them puts into a main slot of it.
-pub record Stands (given : List (Worker × Command)) (versions : Versions) : Type 0 where
+pub record MapStands (given : List (Worker × Command)) (versions : Versions) : Type 0 where
   pub slots : length versions.held ≡ versions.objects * versions.workers
   pub all : length versions.latest ≡ versions.objects
   pub held : (worker : Worker) (slot : Slot) → is_kept versions worker slot ≡ true
@@ -45,7 +45,7 @@ is_aside versions _ = true
 
 -- what stood for some commands stands for these too then
 abbrev pub StandsOn : Versions → Versions → List (Worker × Command) → Type 0
-StandsOn before after more = (given : List (Worker × Command)) → Stands given before → Stands (given ++ more) after
+StandsOn before after more = (given : List (Worker × Command)) → MapStands given before → MapStands (given ++ more) after
 
 -- each worker's commands have the before sets of the rule
 abbrev pub AreByRule : List (Worker × Command) → Type 0

@@ -15,7 +15,7 @@ use Rattle.nim_job.specs.Whole.{is_whole}
 use Rattle.nim_plan.specs.Paired.{Key}
 use Rattle.nim_place.specs.Extends.{AskFor, LongerIsCovered, LongerIsLegal, LongerIsPaired, longer, singles_of}
 use Rattle.nim_place.specs.Schedule.{is_one_of}
-use Rattle.nim_place.specs.Stands.{Stands}
+use Rattle.nim_place.specs.Stands.{MapStands}
 use Rattle.nim_place.specs.Versions.{Versions, holder, is_current, latest_of}
 
 -- A map of versions is at a position of a job: it has the job's objects, some worker holds the latest version of each,
@@ -34,7 +34,7 @@ pub record IsTaskAt (job : Job) (position : ℕ) (task : Task) : Type 0 where
 -- Orders so far ask for commands that a map stands for.
 pub record AreSoFar (live : List Bool) (epoch : ℕ) (lists : ℕ → List ToWorker)
     (given : List (Worker × Command)) (versions : Versions) : Type 0 where
-  pub stands : Stands given versions
+  pub stands : MapStands given versions
   pub ask : AskFor live epoch lists given
 
 -- With Singles of a task's commands the orders ask for these too.
@@ -86,11 +86,11 @@ pub record IsRunAt (before after : Versions) (owner : Worker) (task : Task) (pos
 -- So it is where the map stands for the commands so far.
 abbrev pub RunsAt : Versions → Versions → Worker → Task → ℕ → Type 0
 RunsAt before after owner task position =
-    (given : List (Worker × Command)) → Stands given before → position + 1 < 2 ^ 64
+    (given : List (Worker × Command)) → MapStands given before → position + 1 < 2 ^ 64
     → IsRunAt before after owner task position
 
 -- Behind a task's commands the map is at the next position of each job whose task it is.
-abbrev pub GoesOn : Versions → Versions → Task → ℕ → Type 0
-GoesOn before after task position =
-    (job : Job) (given : List (Worker × Command)) → Stands given before → IsAt job position before
+abbrev pub ComesToNext : Versions → Versions → Task → ℕ → Type 0
+ComesToNext before after task position =
+    (job : Job) (given : List (Worker × Command)) → MapStands given before → IsAt job position before
     → IsTaskAt job position task → IsAt job (position + 1) after

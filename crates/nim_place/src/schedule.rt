@@ -7,7 +7,7 @@ ghost use Rattle.nim_place.specs.Finds.{FindsLatest};
 ghost use Rattle.nim_place.specs.Extends.{is_live};
 ghost use Rattle.nim_place.specs.Schedule as spec;
 ghost use Rattle.nim_place.specs.Stands.{AreByRule, StandsOn};
-ghost use Rattle.nim_place.specs.TaskOrders.{AsksForMore, GoesOn, RunsAt, StaysCovered, StaysLegal, StaysPaired};
+ghost use Rattle.nim_place.specs.TaskOrders.{AsksForMore, ComesToNext, RunsAt, StaysCovered, StaysLegal, StaysPaired};
 ghost use Rattle.nim_place.specs.Versions.{after_commands};
 
 use crate::{Placement, VersionMap, home};
@@ -53,7 +53,7 @@ pub fn schedule_task(
     ensures legal { IfOk result (λ commands. StaysLegal map.old live.now task.now position commands.items) }
     ensures versions { OnOk result (
         RunsAt map.old map.new (spec.owner_of place.now task.now map.old.objects live.now) task.now position) }
-    ensures next { OnOk result (GoesOn map.old map.new task.now position) }
+    ensures next { OnOk result (ComesToNext map.old map.new task.now position) }
     ensures covered { IfOk result (λ commands. StaysCovered commands.items) }
     ensures paired { IfOk result (λ commands. StaysPaired map.old live.now task.now number commands.items) }
 {

@@ -1,7 +1,7 @@
 ghost use Rattle.std.specs.Prelude.{◌≡◌, ◌+◌, ◌*◌, ◌<◌, ◌≤◌, true, [], ◌∷◌, IfOk};
 ghost use Rattle.std.specs.List.{fold};
 ghost use Rattle.nim_command.specs.Holds as holds;
-ghost use Rattle.nim_place.specs.Stands.{Stands, StandsOn, is_aside};
+ghost use Rattle.nim_place.specs.Stands.{MapStands, StandsOn, is_aside};
 ghost use Rattle.nim_place.specs.Versions as spec;
 
 use nim_base::{NoMemory, Object, Position, Slot, Version, Worker};
@@ -35,7 +35,7 @@ impl VersionMap {
     pub fn new(alloc: Global, workers: u16, objects: u16) -> Result<VersionMap, NoMemory>
         requires { objects ≤ 512 }
         ensures value { IfOk result (λ map. map ≡ spec.no_versions workers objects) }
-        ensures stands { IfOk result (Stands []) }
+        ensures stands { IfOk result (MapStands []) }
     {
         let slots = usize::from(objects) * usize::from(workers);
         Ok(VersionMap {

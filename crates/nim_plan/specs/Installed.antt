@@ -20,5 +20,5 @@ pub record Has (installed : Installed) (by_block : ℕ → List Entry) (by_patch
   pub patches : patches_of installed ≡ by_patch
 
 -- there is a place for the half of a block
-abbrev pub HasPlace : Installed → ℕ → Type 0
-HasPlace installed block = IsSome (get nat_cmp installed.halves block)
+abbrev pub HasHalfPlace : Installed → ℕ → Type 0
+HasHalfPlace installed block = IsSome (get nat_cmp installed.halves block)

@@ -21,12 +21,12 @@ use Rattle.nim_job.specs.declared.job.Job.{Job}
 use Rattle.nim_job.specs.Objects.{initial_values, objects_of, shapes_of}
 use Rattle.nim_job.specs.Serial.{tasks_of}
 use Rattle.nim_job.specs.Versions.{is_written, read_version, version_value}
-use Rattle.nim_job.specs.Whole.{is_object}
+use Rattle.nim_job.specs.Whole.{is_object_within}
 
 -- whether an object of the job has a version: the first one, or what the task before it wrote
 abbrev pub is_version : Job → Object → ℕ → Bool
 is_version job object version =
-    is_object (objects_of job.vars) object
+    is_object_within (objects_of job.vars) object
     && ((version == 0) || option_map_or (is_written object) (slice_get (tasks_of job) (version - 1)) false)
 
 -- what a task reads: its objects in order, each with its version

@@ -33,20 +33,20 @@ is_key first second =
     && (first.object.0 == second.object.0) && (first.version == second.version)
 
 -- the key of an entry's frame, in its group
-abbrev pub key_of : Group → ℕ → Object → ℕ → Key
-key_of group entry object version =
+abbrev pub entry_key : Group → ℕ → Object → ℕ → Key
+entry_key group entry object version =
     record { epoch = group.epoch; instance = group.instance; entry = entry; object = object; version = version }
 
 -- the key of what a Send to a worker sends, by what its slot holds; an empty one holds version 0
 abbrev pub sent : Worker → Group → (Slot → Content) → Kind → List Key
 sent worker group before (Send slot peer entry) =
-    filter (λ (key : Key). peer.0 == worker.0) (key_of group entry (object_of slot)
+    filter (λ (key : Key). peer.0 == worker.0) (entry_key group entry (object_of slot)
     (option_map_or (λ (c : Object × ℕ). c.1) (before slot) 0) ∷ [])
 sent worker group before _ = []
 
 -- the key of what a Receive takes
 abbrev pub received : Group → ℕ → Kind → List Key
-received group number (Receive slot version) = key_of group number (object_of slot) version ∷ []
+received group number (Receive slot version) = entry_key group number (object_of slot) version ∷ []
 received group number _ = []
 
 -- what a function gives for each command of groups, by its group, its place among all and itself

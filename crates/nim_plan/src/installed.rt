@@ -2,7 +2,7 @@ ghost use Rattle.std.specs.Prelude.{◌≡◌, ℕ, IfOk, OnOk, OnErr};
 ghost use Rattle.nim_command.specs.Edits.{edited_by};
 ghost use Rattle.nim_command.specs.Expansion as expansion;
 ghost use Rattle.nim_message.specs.Orders.{none_yet, with_list};
-ghost use Rattle.nim_plan.specs.Installed.{Has, HasPlace, halves_of, patches_of};
+ghost use Rattle.nim_plan.specs.Installed.{Has, HasHalfPlace, halves_of, patches_of};
 
 use nim_base::{Copied, NoMemory, Position, Seq, Version};
 use nim_command::{Command, Edit, Entry, Half, PatchPart, patch_commands};
@@ -89,7 +89,7 @@ impl Installed {
     /// Makes a place for the half of a block, so that `replace` needs no memory.
     pub fn make_place(&mut self, block: u8) -> Result<(), NoMemory>
         ensures has { Has self.new (halves_of self.old) (patches_of self.old) }
-        ensures place { OnOk result (HasPlace self.new block) }
+        ensures place { OnOk result (HasHalfPlace self.new block) }
     {
         if !self.halves.contains_key(&block) {
             self.halves.insert(block, Half::empty(self.alloc))?;
@@ -99,7 +99,7 @@ impl Installed {
 
     /// The half of a block, in the place that there is; takes no memory.
     pub fn replace(&mut self, block: u8, half: Half)
-        requires { HasPlace self.old block }
+        requires { HasHalfPlace self.old block }
         ensures { Has self.new (with_list block half (halves_of self.old)) (patches_of self.old) }
     {
         let _ = self.halves.insert(block, half);

@@ -1,5 +1,5 @@
 ghost use Rattle.std.specs.Prelude.{◌≡◌};
-ghost use Rattle.nim_command.specs.Ranks.{rank_of, stage_of};
+ghost use Rattle.nim_command.specs.Ranks.{rank_of, rank_stage};
 
 use nim_base::Position;
 use nim_command::{Command, Kind, Rank};
@@ -22,7 +22,7 @@ pub fn rank(position: Position, command: &Command) -> Rank
 }
 
 fn stage(command: &Command) -> u8
-    ensures { result ≡ stage_of command.now.id command.now.kind }
+    ensures { result ≡ rank_stage command.now.id command.now.kind }
 {
     match command.kind {
         Kind::Create { .. } | Kind::Load { .. } => 0,

@@ -56,7 +56,7 @@ pub atom_known : (k : ℕ) (a : job_atom) → whole.is_atom k a ≡ true → is_
 atom_known k (atom.Const number) is = refl
 atom_known k (atom.Scalar s) is = name_in scalar_name k s (ltb-true s k is)
 
-pub atom_printed : (k : ℕ) → k ≤ 64 → (a : job_atom) → whole.is_atom k a ≡ true → spelled.is_atom a ≡ true → trees.is_atom (atom_for a) ≡ true
+pub atom_printed : (k : ℕ) → k ≤ 64 → (a : job_atom) → whole.is_atom k a ≡ true → spelled.is_spelled_atom a ≡ true → trees.is_printable_atom (atom_for a) ≡ true
 atom_printed k few (atom.Const number) is spells = spells
 atom_printed k few (atom.Scalar s) is spells =
     let there : s < k = ltb-true s k is in
@@ -90,11 +90,11 @@ value_known k first (Some rest) is rest_is =
     (and_from (is_known (scalars k) (atom_for rest.1)) true (atom_known k rest.1 rest_is) refl)
 
 pub value_printed : (k : ℕ) → k ≤ 64 → (first : job_atom) (rest : Option (Arith × job_atom)) → whole.is_atom k first ≡ true → whole.is_rest k rest ≡ true
-    → spelled.is_atom first ≡ true
-    → spelled.is_rest rest ≡ true → trees.is_value (value_for first rest) ≡ true
+    → spelled.is_spelled_atom first ≡ true
+    → spelled.is_spelled_rest rest ≡ true → trees.is_printable_value (value_for first rest) ≡ true
 value_printed k few first None is rest_is spells rest_spells = atom_printed k few first is spells
 value_printed k few first (Some rest) is rest_is spells rest_spells =
-    and_from (trees.is_atom (atom_for first)) (trees.is_atom (atom_for rest.1)) (atom_printed k few first is spells)
+    and_from (trees.is_printable_atom (atom_for first)) (trees.is_printable_atom (atom_for rest.1)) (atom_printed k few first is spells)
     (atom_printed k few rest.1 rest_is rest_spells)
 
 -- ---- conditions
@@ -120,11 +120,11 @@ cond_known k c is =
     and_from (is_known (scalars k) (atom_for c.left)) (is_known (scalars k) (atom_for c.right) && true) (atom_known k c.left parts.0)
     (and_from (is_known (scalars k) (atom_for c.right)) true (atom_known k c.right parts.1) refl)
 
-pub cond_printed : (k : ℕ) → k ≤ 64 → (c : Cond) → whole.is_cond k c ≡ true → spelled.is_cond c ≡ true → trees.is_condition (condition_for c) ≡ true
+pub cond_printed : (k : ℕ) → k ≤ 64 → (c : Cond) → whole.is_cond k c ≡ true → spelled.is_spelled_cond c ≡ true → trees.is_condition (condition_for c) ≡ true
 cond_printed k few c is spells =
     let parts = and_parts (whole.is_atom k c.left) (whole.is_atom k c.right) is in
-    let spelled_parts = and_parts (spelled.is_atom c.left) (spelled.is_atom c.right) spells in
-    and_from (trees.is_atom (atom_for c.left)) (trees.is_atom (atom_for c.right)) (atom_printed k few c.left parts.0 spelled_parts.0)
+    let spelled_parts = and_parts (spelled.is_spelled_atom c.left) (spelled.is_spelled_atom c.right) spells in
+    and_from (trees.is_printable_atom (atom_for c.left)) (trees.is_printable_atom (atom_for c.right)) (atom_printed k few c.left parts.0 spelled_parts.0)
     (atom_printed k few c.right parts.1 spelled_parts.1)
 
 -- ---- scalars that are set

@@ -9,7 +9,7 @@ use Rattle.nim_job.specs.declared.block.Block.{Block as job_block}
 use Rattle.nim_job.specs.declared.block.Stage.{Stage as job_stage}
 use Rattle.nim_job.specs.declared.job.Var.{Var as job_var}
 use Rattle.nim_job.specs.Tasks.{task_count}
-use Rattle.nim_job.specs.Whole.{is_block, is_stage}
+use Rattle.nim_job.specs.Whole.{is_whole_block, is_stage}
 use Rattle.nim_parse.specs.declared.sections.Block.{Block}
 use Rattle.nim_parse.specs.declared.sections.Stage.{Stage}
 use Rattle.nim_parse.specs.declared.sections.Var.{Var}
@@ -21,7 +21,7 @@ use Rattle.nim_check.specs.Sites.{at_block, block_site, block_sites, stage_sites
 use Rattle.nim_printed.specs.Lines.{block_words, blocks_numbered, listed_words, stage_words}
 use Rattle.nim_printed.specs.Printer.{argument_name, block_lines, blocks_for, blocks_lines, stages_for}
 use Rattle.nim_printed.specs.Spelled as spelled
-use Rattle.nim_printed.specs.Spelled.{is_free}
+use Rattle.nim_printed.specs.Spelled.{is_unreserved}
 use Rattle.nim_printed.specs.Trees as trees
 use Rattle.nim_printed.proofs.JobLists.{all_taken, from3, no_rule, parts3, passes_both, passes_on}
 use Rattle.nim_printed.proofs.JobNames.{apart, arguments_free, first_names, in_neither, not_reserved, text_same}
@@ -46,15 +46,15 @@ record IsWhole (vars : List job_var) (block : job_block) : Type 0 where
   pub tasks : sum_by (task_count vars) block.stages ≤ 1024
   pub stages : list_all (is_stage vars block.args) block.stages ≡ true
 
-whole_block : (vars : List job_var) (block : job_block) → is_block vars block ≡ true → IsWhole vars block
+whole_block : (vars : List job_var) (block : job_block) → is_whole_block vars block ≡ true → IsWhole vars block
 whole_block vars block is =
     let parts = parts3 (nat_le block.args 8) (nat_le (sum_by (task_count vars) block.stages) 1024) (list_all (is_stage vars block.args) block.stages) is in
     record { few = leb-true block.args 8 parts.0; tasks = leb-true (sum_by (task_count vars) block.stages) 1024 parts.1; stages = parts.2 }
 
 -- ---- read back
 
-block_back : (vars : List job_var) (line : ℕ) (block : job_block) → has_twice (names_of_vars vars) ≡ false → is_free block.name ≡ true
-    → is_block vars block ≡ true
+block_back : (vars : List job_var) (line : ℕ) (block : job_block) → has_twice (names_of_vars vars) ≡ false → is_unreserved block.name ≡ true
+    → is_whole_block vars block ≡ true
     → block_of (names_of_vars vars) (block_for vars line block) ≡ block
 block_back vars line block once free is =
     let whole = whole_block vars block is in
@@ -64,12 +64,12 @@ block_back vars line block once free is =
     ∙ ap (λ (xs : List job_stage). record block { stages = xs }) (stages_back vars block.args (line + 1) block.stages once whole.few whole.stages)
 
 pub blocks_back : (vars : List job_var) (line : ℕ) (blocks : List job_block) → has_twice (names_of_vars vars) ≡ false
-    → list_all is_free (names_of_blocks blocks) ≡ true
-    → list_all (is_block vars) blocks ≡ true → map (block_of (names_of_vars vars)) (blocks_for vars line blocks) ≡ blocks
+    → list_all is_unreserved (names_of_blocks blocks) ≡ true
+    → list_all (is_whole_block vars) blocks ≡ true → map (block_of (names_of_vars vars)) (blocks_for vars line blocks) ≡ blocks
 blocks_back vars line [] once free all = refl
 blocks_back vars line (block ∷ blocks) once free all =
-    let frees = and_parts (is_free block.name) (list_all is_free (names_of_blocks blocks)) free in
-    let parts = and_parts (is_block vars block) (list_all (is_block vars) blocks) all in
+    let frees = and_parts (is_unreserved block.name) (list_all is_unreserved (names_of_blocks blocks)) free in
+    let parts = and_parts (is_whole_block vars block) (list_all (is_whole_block vars) blocks) all in
     ap₂ (λ (x : job_block) (xs : List job_block). x ∷ xs) (block_back vars line block once frees.0 parts.0)
     (blocks_back vars (line + block_lines block) blocks once frees.1 parts.1)
 
@@ -79,15 +79,15 @@ blocks_named vars line (block ∷ blocks) = ap (λ (names : List Word). block.na
 
 -- ---- no rule refuses them
 
-none_reserved : (words : List Word) → list_all is_free words ≡ true → list_any (is_in reserved) words ≡ false
+none_reserved : (words : List Word) → list_all is_unreserved words ≡ true → list_any (is_in reserved) words ≡ false
 none_reserved [] free = refl
 none_reserved (word ∷ words) free =
-    let parts = and_parts (is_free word) (list_all is_free words) free in
+    let parts = and_parts (is_unreserved word) (list_all is_unreserved words) free in
     or_from (is_in reserved word) (list_any (is_in reserved) words) (not_reserved word parts.0) (none_reserved words parts.1)
 
-all_free : (args : ℕ) → args ≤ 8 → list_all is_free (arguments args) ≡ true
+all_free : (args : ℕ) → args ≤ 8 → list_all is_unreserved (arguments args) ≡ true
 all_free args few =
-    ap (list_all is_free) (sym (take-map-range_with_len argument_name 0 8 args few)) ∙ all_taken is_free args (first_names argument_name 8) arguments_free
+    ap (list_all is_unreserved) (sym (take-map-range_with_len argument_name 0 8 args few)) ∙ all_taken is_unreserved args (first_names argument_name 8) arguments_free
 
 block_passes : (vars : List Var) (before : List Block) (block : Block) → list_any (is_in reserved) (block.name ∷ block.arguments) ≡ false
     → (is_in (var_names vars) block.name ≡ false) × (is_in (block_names before) block.name ≡ false) × (has_twice block.arguments ≡ false)
@@ -105,13 +105,13 @@ block_passes vars before block free new number few =
 
 pub blocks_pass : (tree_vars : List Var) (vars : List job_var) (before : List Block) (done blocks : List job_block) (line : ℕ) → AreThere tree_vars vars
     → block_names before ≡ names_of_blocks done
-    → has_twice ((names_of_vars vars ++ names_of_blocks done) ++ names_of_blocks blocks) ≡ false → list_all is_free (names_of_blocks blocks) ≡ true
-    → list_all (is_block vars) blocks ≡ true → length (done ++ blocks) ≤ 32 → first_refusal (block_sites tree_vars before (blocks_for vars line blocks)) ≡ None
+    → has_twice ((names_of_vars vars ++ names_of_blocks done) ++ names_of_blocks blocks) ≡ false → list_all is_unreserved (names_of_blocks blocks) ≡ true
+    → list_all (is_whole_block vars) blocks ≡ true → length (done ++ blocks) ≤ 32 → first_refusal (block_sites tree_vars before (blocks_for vars line blocks)) ≡ None
 blocks_pass tree_vars vars before done [] line there named once free all few = refl
 blocks_pass tree_vars vars before done (block ∷ blocks) line there named once free all few =
     let b = block_for vars line block in
-    let frees = and_parts (is_free block.name) (list_all is_free (names_of_blocks blocks)) free in
-    let parts = and_parts (is_block vars block) (list_all (is_block vars) blocks) all in
+    let frees = and_parts (is_unreserved block.name) (list_all is_unreserved (names_of_blocks blocks)) free in
+    let parts = and_parts (is_whole_block vars block) (list_all (is_whole_block vars) blocks) all in
     let whole = whole_block vars block parts.0 in
     let new = in_neither (names_of_vars vars) (names_of_blocks done) block.name
     (apart (names_of_vars vars ++ names_of_blocks done) block.name (names_of_blocks blocks) once) in
@@ -150,19 +150,19 @@ blocks_pass tree_vars vars before done (block ∷ blocks) line there named once 
 
 -- ---- they can be printed, and have their numbers
 
-pub blocks_printed : (vars : List job_var) (line : ℕ) (blocks : List job_block) → list_all is_free (names_of_vars vars) ≡ true
-    → list_all is_free (names_of_blocks blocks) ≡ true
-    → list_all (is_block vars) blocks ≡ true → list_all (λ (b : job_block). list_all spelled.is_stage b.stages) blocks ≡ true
-    → list_all trees.is_block (blocks_for vars line blocks) ≡ true
+pub blocks_printed : (vars : List job_var) (line : ℕ) (blocks : List job_block) → list_all is_unreserved (names_of_vars vars) ≡ true
+    → list_all is_unreserved (names_of_blocks blocks) ≡ true
+    → list_all (is_whole_block vars) blocks ≡ true → list_all (λ (b : job_block). list_all spelled.is_spelled_stage b.stages) blocks ≡ true
+    → list_all trees.is_printable_block (blocks_for vars line blocks) ≡ true
 blocks_printed vars line [] named free all spells = refl
 blocks_printed vars line (block ∷ blocks) named free all spells =
     let b = block_for vars line block in
-    let frees = and_parts (is_free block.name) (list_all is_free (names_of_blocks blocks)) free in
-    let parts = and_parts (is_block vars block) (list_all (is_block vars) blocks) all in
-    let spelled_parts = and_parts (list_all spelled.is_stage block.stages) (list_all (λ (x : job_block). list_all spelled.is_stage x.stages) blocks) spells in
+    let frees = and_parts (is_unreserved block.name) (list_all is_unreserved (names_of_blocks blocks)) free in
+    let parts = and_parts (is_whole_block vars block) (list_all (is_whole_block vars) blocks) all in
+    let spelled_parts = and_parts (list_all spelled.is_spelled_stage block.stages) (list_all (λ (x : job_block). list_all spelled.is_spelled_stage x.stages) blocks) spells in
     let whole = whole_block vars block parts.0 in
-    and_from (trees.is_block b) (list_all trees.is_block (blocks_for vars (line + block_lines block) blocks))
-    (from3 (is_free block.name) (list_all is_free b.arguments) (list_all trees.is_stage b.stages) frees.0 (all_free block.args whole.few)
+    and_from (trees.is_printable_block b) (list_all trees.is_printable_block (blocks_for vars (line + block_lines block) blocks))
+    (from3 (is_unreserved block.name) (list_all is_unreserved b.arguments) (list_all trees.is_printable_stage b.stages) frees.0 (all_free block.args whole.few)
     (stages_printed vars block.args (line + 1) block.stages named whole.few whole.stages spelled_parts.0))
     (blocks_printed vars (line + block_lines block) blocks named frees.1 parts.1 spelled_parts.1)
 

@@ -29,7 +29,7 @@ use Rattle.nim_check.specs.Names.{Word, has_twice, place_in}
 use Rattle.nim_check.specs.Rules.{is_known}
 use Rattle.nim_printed.specs.Printer.{atom_for, block_name, condition_for, else_for, joined, scalar_name, statements_of, value_for, var_name}
 use Rattle.nim_printed.specs.Spelled as spelled
-use Rattle.nim_printed.specs.Spelled.{all_true, is_free, is_small, is_stmt}
+use Rattle.nim_printed.specs.Spelled.{all_true, is_unreserved, is_small, is_stmt}
 use Rattle.nim_printed.specs.Trees as trees
 use Rattle.nim_printed.proofs.JobAtoms.{atom_back, atom_known, atom_printed, cond_back, cond_known, cond_printed, first_back, names_at, past_at, rest_back, scalars, scalars_length, set_free, sets, value_known, value_printed}
 use Rattle.nim_printed.proofs.JobBlocks.{names_of_blocks}
@@ -44,8 +44,8 @@ use Rattle.nim_printed.proofs.JobVars.{names_of_vars}
 pub record Named (job : Job) (blocks : List Block) : Type 0 where
   pub vars_once : has_twice (names_of_vars job.vars) ≡ false
   pub blocks_once : has_twice (names_of_blocks job.blocks) ≡ false
-  pub vars_free : list_all is_free (names_of_vars job.vars) ≡ true
-  pub blocks_free : list_all is_free (names_of_blocks job.blocks) ≡ true
+  pub vars_free : list_all is_unreserved (names_of_vars job.vars) ≡ true
+  pub blocks_free : list_all is_unreserved (names_of_blocks job.blocks) ≡ true
   pub named : block_names blocks ≡ names_of_blocks job.blocks
   pub takes : (block n : ℕ) → is_call job block n ≡ true → option_map_or (λ (b : Block). n == length b.arguments) (slice_get blocks block) false ≡ true
 
@@ -92,7 +92,7 @@ block_there job block n is = omega (arith, call_there job.blocks block n is, len
 -- ---- statements of one line
 
 pub do_says : (job : Job) (blocks : List Block) (depth k block : ℕ) (args : List job_atom) → Named job blocks → k ≤ 64 → is_call job block (length args) ≡ true
-    → list_all (whole.is_atom k) args ≡ true → list_all spelled.is_atom args ≡ true
+    → list_all (whole.is_atom k) args ≡ true → list_all spelled.is_spelled_atom args ≡ true
     → Says job blocks depth k k (Do (block_name job.blocks block) (map atom_for args)) (roll-Stmt (Stmt-F.Do block args))
 do_says job blocks depth k block args named within call known spells =
     let name = block_name job.blocks block in
@@ -117,17 +117,17 @@ do_says job blocks depth k block args named within call known spells =
           ∙ ap₂ (λ (at : ℕ) (xs : List job_atom). onto (roll-Stmt (Stmt-F.Do at xs)) bodies)
           (place_at (names_of_blocks job.blocks) block named.blocks_once there)
           (map_back atom_for (atom_of (names_at job n)) (whole.is_atom k) (atom_back job k n more most) args known);
-      printed = and_from (is_free name) (list_all trees.is_atom (map atom_for args)) (free_at (names_of_blocks job.blocks) block there named.blocks_free)
-          (all_mapped trees.is_atom atom_for (λ a. whole.is_atom k a && spelled.is_atom a)
-          (λ a both. let parts = and_parts (whole.is_atom k a) (spelled.is_atom a) both in atom_printed k within a parts.0 parts.1) args
-          (all_of_both (whole.is_atom k) spelled.is_atom (λ a. whole.is_atom k a && spelled.is_atom a)
-          (λ a x y. and_from (whole.is_atom k a) (spelled.is_atom a) x y) args known spells));
+      printed = and_from (is_unreserved name) (list_all trees.is_printable_atom (map atom_for args)) (free_at (names_of_blocks job.blocks) block there named.blocks_free)
+          (all_mapped trees.is_printable_atom atom_for (λ a. whole.is_atom k a && spelled.is_spelled_atom a)
+          (λ a both. let parts = and_parts (whole.is_atom k a) (spelled.is_spelled_atom a) both in atom_printed k within a parts.0 parts.1) args
+          (all_of_both (whole.is_atom k) spelled.is_spelled_atom (λ a. whole.is_atom k a && spelled.is_spelled_atom a)
+          (λ a x y. and_from (whole.is_atom k a) (spelled.is_spelled_atom a) x y) args known spells));
       nests = λ open_now rest. open_cases (λ op. opened_after op (Do name (map atom_for args) ∷ rest) ≡ opened_after op rest) refl (λ kind more. refl) open_now;
     }
 
 pub let_says : (job : Job) (blocks : List Block) (depth k behind s : ℕ) (first : job_atom) (rest : Option (Arith × job_atom)) → k ≤ 64
     → whole.is_atom k first ≡ true → whole.is_rest k rest ≡ true
-    → whole.set_at k s ≡ Some behind → spelled.is_atom first ≡ true → spelled.is_rest rest ≡ true
+    → whole.set_at k s ≡ Some behind → spelled.is_spelled_atom first ≡ true → spelled.is_spelled_rest rest ≡ true
     → Says job blocks depth k behind (Let (scalar_name s) (value_for first rest)) (roll-Stmt (Stmt-F.Let s first rest))
 let_says job blocks depth k behind s first rest within is rest_is set spells rest_spells =
     let new = sets k s behind within set in
@@ -152,7 +152,7 @@ let_says job blocks depth k behind s first rest within is rest_is set spells res
           (rest_of (names_at job n) (value_for first rest)))) bodies) place
           ∙ ap₂ (λ (a : job_atom) (r : Option (Arith × job_atom)). onto (roll-Stmt (Stmt-F.Let s a r)) bodies) (first_back job k n within_n most first rest is)
           (rest_back job k n within_n most first rest rest_is);
-      printed = and_from (is_free (scalar_name s)) (trees.is_value (value_for first rest)) (scalar_free s (omega (arith, new.there, new.few)))
+      printed = and_from (is_unreserved (scalar_name s)) (trees.is_printable_value (value_for first rest)) (scalar_free s (omega (arith, new.there, new.few)))
           (value_printed k within first rest is rest_is spells rest_spells);
       nests = λ open_now more. open_cases (λ op. opened_after op (Let (scalar_name s) (value_for first rest) ∷ more) ≡ opened_after op more) refl
           (λ kind others. refl) open_now;
@@ -184,7 +184,7 @@ get_says job blocks depth k behind s var part row cell named within there set sm
           ∙ ap₂ (λ (scalar v : ℕ). onto (roll-Stmt (Stmt-F.Get scalar v part row cell)) bodies) place
           (place_at (names_of_vars job.vars) var named.vars_once at);
       printed =
-          from5 (is_free (scalar_name s)) (is_free name) (is_small part) (is_small row) (is_small cell) (scalar_free s (omega (arith, new.there, new.few)))
+          from5 (is_unreserved (scalar_name s)) (is_unreserved name) (is_small part) (is_small row) (is_small cell) (scalar_free s (omega (arith, new.there, new.few)))
           (free_at (names_of_vars job.vars) var at named.vars_free) small.0 small.1 small.2;
       nests = λ open_now more. open_cases (λ op. opened_after op (Get (scalar_name s) name part row cell ∷ more) ≡ opened_after op more) refl
           (λ kind others. refl) open_now;
@@ -228,7 +228,7 @@ output_says job blocks depth k var named within there =
 -- ---- lines that open a body
 
 pub loop_opens : (job : Job) (blocks : List Block) (depth k : ℕ) (turns : job_atom) → k ≤ 64 → depth < 16 → whole.is_atom k turns ≡ true
-    → spelled.is_atom turns ≡ true
+    → spelled.is_spelled_atom turns ≡ true
     → Opens job blocks opening.Turns depth k (Loop (atom_for turns)) (λ body. roll-Stmt (Stmt-F.Loop turns body.first))
 loop_opens job blocks depth k turns within shallow is spells = record {
   past = refl;
@@ -247,7 +247,7 @@ loop_opens job blocks depth k turns within shallow is spells = record {
       open_now;
 }
 
-pub while_opens : (job : Job) (blocks : List Block) (depth k : ℕ) (c : Cond) → k ≤ 64 → depth < 16 → whole.is_cond k c ≡ true → spelled.is_cond c ≡ true
+pub while_opens : (job : Job) (blocks : List Block) (depth k : ℕ) (c : Cond) → k ≤ 64 → depth < 16 → whole.is_cond k c ≡ true → spelled.is_spelled_cond c ≡ true
     → Opens job blocks opening.Turns depth k (While (condition_for c)) (λ body. roll-Stmt (Stmt-F.While c body.first))
 while_opens job blocks depth k c within shallow is spells = record {
   past = refl;
@@ -266,7 +266,7 @@ while_opens job blocks depth k c within shallow is spells = record {
       (λ kind others. refl) open_now;
 }
 
-pub if_opens : (job : Job) (blocks : List Block) (depth k : ℕ) (c : Cond) → k ≤ 64 → depth < 16 → whole.is_cond k c ≡ true → spelled.is_cond c ≡ true
+pub if_opens : (job : Job) (blocks : List Block) (depth k : ℕ) (c : Cond) → k ≤ 64 → depth < 16 → whole.is_cond k c ≡ true → spelled.is_spelled_cond c ≡ true
     → Opens job blocks opening.If depth k (If (condition_for c)) (λ body. roll-Stmt (Stmt-F.If c body.first body.second))
 if_opens job blocks depth k c within shallow is spells = record {
   past = refl;

@@ -10,7 +10,7 @@ use Rattle.std.proofs.lemmas.List.Sums.{sum_by-cons}
 use Rattle.nim_lex.specs.declared.fault.Refusal.{Refusal}
 use Rattle.nim_check.specs.Refusals.{first_refusal}
 use Rattle.nim_check.specs.Rules.{rule_of}
-use Rattle.nim_check.specs.Sites.{Site, line_of}
+use Rattle.nim_check.specs.Sites.{Site, site_line}
 use Rattle.nim_check.proofs.Refused as refusals
 
 pub parts3 : (a b c : Bool) → (a && b && c) ≡ true → (a ≡ true) × (b ≡ true) × (c ≡ true)
@@ -100,7 +100,7 @@ pub no_rule : (refuses : Bool) (number : ℕ) (rest : Option ℕ) → refuses �
 no_rule refuses number rest passes none = cond-false refuses (Some number) rest passes ∙ none
 
 abbrev refused_by : Site → Option ℕ → Option Refusal
-refused_by site rule = option_map (λ (number : ℕ). let refusal : Refusal = record { line = line_of site; rule = number } in refusal) rule
+refused_by site rule = option_map (λ (number : ℕ). let refusal : Refusal = record { line = site_line site; rule = number } in refusal) rule
 
 -- a line that no rule refuses, before others that none refuses
 pub passes_on : (site : Site) (sites : List Site) → rule_of site ≡ None → first_refusal sites ≡ None → first_refusal (site ∷ sites) ≡ None

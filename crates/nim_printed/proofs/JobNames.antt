@@ -14,10 +14,10 @@ use Rattle.nim_base.specs.declared.task.Func.TheVariants as func
 use Rattle.nim_job.proofs.Lists.{list_all_item}
 use Rattle.nim_lex.specs.Bytes.{is_name_byte}
 use Rattle.nim_lex.specs.Texts.{is_name}
-use Rattle.nim_check.specs.Made.{text_of}
+use Rattle.nim_check.specs.Made.{ascii_text}
 use Rattle.nim_check.specs.Names.{func_of, functions, has_twice, is_in, place_in, reserved}
 use Rattle.nim_printed.specs.Printer.{argument_name, func_name, scalar_name}
-use Rattle.nim_printed.specs.Spelled.{is_free}
+use Rattle.nim_printed.specs.Spelled.{is_unreserved}
 use Rattle.nim_printed.specs.Words.{Word, is_short_name}
 use Rattle.nim_check.proofs.Places.{lt_suc}
 use Rattle.nim_printed.proofs.TreeWordKinds.{bytes_same}
@@ -104,16 +104,16 @@ pub name_in : (f : ℕ → Word) (n k : ℕ) → k < n → is_in (first_names f 
 name_in f n k there =
     ap (is_in (first_names f n)) (sym (name_at f n k there)) ∙ in_at (first_names f n) k (omega (arith, length-map-range_with_len f 0 n))
 
-pub name_free : (f : ℕ → Word) (n k : ℕ) → k < n → list_all is_free (first_names f n) ≡ true → is_free (f k) ≡ true
+pub name_free : (f : ℕ → Word) (n k : ℕ) → k < n → list_all is_unreserved (first_names f n) ≡ true → is_unreserved (f k) ≡ true
 name_free f n k there all =
-    list_all_item is_free (first_names f n) k (f k) all (omega (arith, length-map-range_with_len f 0 n))
+    list_all_item is_unreserved (first_names f n) k (f k) all (omega (arith, length-map-range_with_len f 0 n))
     (sym (get_or-map-range_with_len f 0 n k k (f k) there (omega arith)))
 
 pub scalars_once : has_twice (first_names scalar_name 64) ≡ false
 unfolding digits
 scalars_once = refl
 
-pub scalars_free : list_all is_free (first_names scalar_name 64) ≡ true
+pub scalars_free : list_all is_unreserved (first_names scalar_name 64) ≡ true
 unfolding reserved digits
 scalars_free = refl
 
@@ -121,7 +121,7 @@ pub arguments_once : has_twice (first_names argument_name 8) ≡ false
 unfolding digits
 arguments_once = refl
 
-pub arguments_free : list_all is_free (first_names argument_name 8) ≡ true
+pub arguments_free : list_all is_unreserved (first_names argument_name 8) ≡ true
 unfolding reserved digits
 arguments_free = refl
 
@@ -145,7 +145,7 @@ func_back func.Group = refl
 func_back func.Merge = refl
 func_back func.Split = refl
 
-pub func_free : (f : Func) → is_free (func_name f) ≡ true
+pub func_free : (f : Func) → is_unreserved (func_name f) ≡ true
 unfolding reserved
 func_free func.Set = refl
 func_free func.Copy = refl
@@ -181,22 +181,22 @@ bytes_shown (b ∷ bytes) are =
     let parts = and_parts (is_name_byte b) (list_all is_name_byte bytes) are in
     ap₂ (λ (x : ℕ) (xs : List ℕ). x ∷ xs) (cond-true (nat_lt b 128) b 63 (byte_small b parts.0)) (bytes_shown bytes parts.1)
 
-name_shown : (word : Word) → is_name word ≡ true → text_of word ≡ word
+name_shown : (word : Word) → is_name word ≡ true → ascii_text word ≡ word
 name_shown [] is = refl
 name_shown (b ∷ bytes) is =
     let parts = and_parts (is_ascii_alphabetic b) (list_all is_name_byte bytes) is in
     ap₂ (λ (x : ℕ) (xs : List ℕ). x ∷ xs) (cond-true (nat_lt b 128) b 63 (letter_small b parts.0)) (bytes_shown bytes parts.1)
 
-free_parts : (word : Word) → is_free word ≡ true → (is_name word ≡ true) × (is_in reserved word ≡ false)
+free_parts : (word : Word) → is_unreserved word ≡ true → (is_name word ≡ true) × (is_in reserved word ≡ false)
 free_parts word free =
     let parts = and_parts (is_short_name word) (not (is_in reserved word)) free in
     ((and_parts (is_name word) (nat_le (length word) 16) parts.0).0, not-true (is_in reserved word) parts.1)
 
 -- a free name has only bytes of a text
-pub text_same : (word : Word) → is_free word ≡ true → text_of word ≡ word
+pub text_same : (word : Word) → is_unreserved word ≡ true → ascii_text word ≡ word
 text_same word free = name_shown word (free_parts word free).0
 
-pub not_reserved : (word : Word) → is_free word ≡ true → is_in reserved word ≡ false
+pub not_reserved : (word : Word) → is_unreserved word ≡ true → is_in reserved word ≡ false
 not_reserved word free = (free_parts word free).1
 
 -- ---- scalars and arguments that are few enough
@@ -204,5 +204,5 @@ not_reserved word free = (free_parts word free).1
 pub scalars_apart : (n : ℕ) → n ≤ 64 → has_twice (first_names scalar_name n) ≡ false
 scalars_apart n few = once_fewer scalar_name 64 n few scalars_once
 
-pub scalar_free : (s : ℕ) → s < 64 → is_free (scalar_name s) ≡ true
+pub scalar_free : (s : ℕ) → s < 64 → is_unreserved (scalar_name s) ≡ true
 scalar_free s few = name_free scalar_name 64 s few scalars_free

@@ -10,7 +10,7 @@ use Rattle.nim_base.specs.declared.task.Func.{Func}
 use Rattle.nim_base.specs.declared.task.Func.TheVariants as func
 use Rattle.nim_base.specs.declared.task.Param.{Param}
 use Rattle.nim_base.specs.declared.task.Param.TheVariants as param
-use Rattle.nim_base.specs.Apply.{fewest_reads, has_counts, most_reads, params_of, writes_of}
+use Rattle.nim_base.specs.Apply.{fewest_reads, has_counts, most_reads, params_of, result_count}
 use Rattle.nim_job.specs.declared.block.Place.{Place}
 use Rattle.nim_job.specs.declared.block.Place.TheVariants.{Fixed, Plus, Minus}
 use Rattle.nim_job.specs.declared.block.Ref.{Ref as job_ref}
@@ -30,7 +30,7 @@ use Rattle.nim_check.specs.Sites.{at_stage, stage_sites}
 use Rattle.nim_printed.specs.Lines.{stages_numbered}
 use Rattle.nim_printed.specs.Printer.{argument_name, func_name, index_for, param_for, ref_for, stages_for, var_name}
 use Rattle.nim_printed.specs.Spelled as spelled
-use Rattle.nim_printed.specs.Spelled.{is_free}
+use Rattle.nim_printed.specs.Spelled.{is_unreserved}
 use Rattle.nim_printed.specs.Trees as trees
 use Rattle.nim_job.proofs.Lists.{list_all_item}
 use Rattle.nim_printed.proofs.JobLists.{all_both, all_mapped, all_of_both, all_parts, from4, map_back, no_rule, none_mapped, parts4, parts5, passes_on, sum_same}
@@ -228,72 +228,72 @@ stages_pass tree_vars vars block args before done (stage ∷ stages) line there 
 
 -- ---- they can be printed, and have their numbers
 
-pub free_at : (names : List Word) (k : ℕ) → k < length names → list_all is_free names ≡ true → is_free (slice_index_or names k []) ≡ true
-free_at names k there free = list_all_item is_free names k (slice_index_or names k []) free there (get_or_default names k [] (slice_index_or names k []) there)
+pub free_at : (names : List Word) (k : ℕ) → k < length names → list_all is_unreserved names ≡ true → is_unreserved (slice_index_or names k []) ≡ true
+free_at names k there free = list_all_item is_unreserved names k (slice_index_or names k []) free there (get_or_default names k [] (slice_index_or names k []) there)
 
-index_printed : (place : Place) → spelled.is_place place ≡ true → trees.is_index (index_for place) ≡ true
+index_printed : (place : Place) → spelled.is_spelled_place place ≡ true → trees.is_index (index_for place) ≡ true
 index_printed (Fixed n) is = is
 index_printed (Plus n) is = is
 index_printed (Minus n) is = is
 
-ref_printed : (vars : List job_var) (each : Bool) → list_all is_free (names_of_vars vars) ≡ true → (ref : job_ref) → is_ref vars each ref ≡ true
-    → spelled.is_place ref.place ≡ true
-    → trees.is_ref (ref_for vars ref) ≡ true
+ref_printed : (vars : List job_var) (each : Bool) → list_all is_unreserved (names_of_vars vars) ≡ true → (ref : job_ref) → is_ref vars each ref ≡ true
+    → spelled.is_spelled_place ref.place ≡ true
+    → trees.is_printable_ref (ref_for vars ref) ≡ true
 ref_printed vars each free ref is place =
     let there : ref.var < length vars = ltb-true ref.var (length vars) (and_parts (nat_lt ref.var (length vars)) (is_place each ref.place) is).0 in
-    and_from (is_free (var_name vars ref.var)) (trees.is_index (index_for ref.place))
+    and_from (is_unreserved (var_name vars ref.var)) (trees.is_index (index_for ref.place))
     (free_at (names_of_vars vars) ref.var (omega (arith, length-map vars (λ (v : job_var). v.name))) free) (index_printed ref.place place)
 
-param_printed : (args : ℕ) → args ≤ 8 → (p : Param) → is_param args p ≡ true → spelled.is_param p ≡ true → trees.is_atom (param_for p) ≡ true
+param_printed : (args : ℕ) → args ≤ 8 → (p : Param) → is_param args p ≡ true → spelled.is_spelled_param p ≡ true → trees.is_printable_atom (param_for p) ≡ true
 param_printed args few (param.Const number) is int = int
 param_printed args few (param.Arg a) is int =
     let there : a < args = ltb-true a args is in
     name_free argument_name 8 a (omega arith) arguments_free
 
-writes_some : (f : Func) → 1 ≤ writes_of f
+writes_some : (f : Func) → 1 ≤ result_count f
 writes_some func.Split = omega arith
 writes_some f = omega arith
 
-some_refs : (f : Func) (refs : List Ref) → (length refs == writes_of f) ≡ true → list_all trees.is_ref refs ≡ true → trees.is_some_refs refs ≡ true
-some_refs f [] counts all = absurd (omega (arith, eqb-true 0 (writes_of f) counts, writes_some f))
+some_refs : (f : Func) (refs : List Ref) → (length refs == result_count f) ≡ true → list_all trees.is_printable_ref refs ≡ true → trees.is_some_refs refs ≡ true
+some_refs f [] counts all = absurd (omega (arith, eqb-true 0 (result_count f) counts, writes_some f))
 some_refs f (ref ∷ refs) counts all = all
 
-all_refs : (vars : List job_var) (each : Bool) → list_all is_free (names_of_vars vars) ≡ true → (refs : List job_ref) → list_all (is_ref vars each) refs ≡ true
-    → list_all (λ (ref : job_ref). spelled.is_place ref.place) refs ≡ true → list_all trees.is_ref (map (ref_for vars) refs) ≡ true
+all_refs : (vars : List job_var) (each : Bool) → list_all is_unreserved (names_of_vars vars) ≡ true → (refs : List job_ref) → list_all (is_ref vars each) refs ≡ true
+    → list_all (λ (ref : job_ref). spelled.is_spelled_place ref.place) refs ≡ true → list_all trees.is_printable_ref (map (ref_for vars) refs) ≡ true
 all_refs vars each free refs are places =
-    list_all-map trees.is_ref (ref_for vars) refs
-    ∙ all_of_both (is_ref vars each) (λ (ref : job_ref). spelled.is_place ref.place) (λ ref. trees.is_ref (ref_for vars ref)) (ref_printed vars each free) refs
+    list_all-map trees.is_printable_ref (ref_for vars) refs
+    ∙ all_of_both (is_ref vars each) (λ (ref : job_ref). spelled.is_spelled_place ref.place) (λ ref. trees.is_printable_ref (ref_for vars ref)) (ref_printed vars each free) refs
     are places
 
-stage_printed : (vars : List job_var) (args line : ℕ) (stage : job_stage) → list_all is_free (names_of_vars vars) ≡ true → args ≤ 8
-    → is_stage vars args stage ≡ true → spelled.is_stage stage ≡ true
-    → trees.is_stage (stage_for vars line stage) ≡ true
+stage_printed : (vars : List job_var) (args line : ℕ) (stage : job_stage) → list_all is_unreserved (names_of_vars vars) ≡ true → args ≤ 8
+    → is_stage vars args stage ≡ true → spelled.is_spelled_stage stage ≡ true
+    → trees.is_printable_stage (stage_for vars line stage) ≡ true
 stage_printed vars args line stage free few is spells =
     let whole = whole_stage vars args stage is in
     let s = stage_for vars line stage in
     let spelled_parts =
-    and_parts (list_all (λ (ref : job_ref). spelled.is_place ref.place) (stage.reads ++ stage.writes)) (list_all spelled.is_param stage.params) spells in
-    let places = all_parts (λ (ref : job_ref). spelled.is_place ref.place) stage.reads stage.writes spelled_parts.0 in
+    and_parts (list_all (λ (ref : job_ref). spelled.is_spelled_place ref.place) (stage.reads ++ stage.writes)) (list_all spelled.is_spelled_param stage.params) spells in
+    let places = all_parts (λ (ref : job_ref). spelled.is_spelled_place ref.place) stage.reads stage.writes spelled_parts.0 in
     let counts = parts4 (length stage.params == params_of stage.func) (nat_le (fewest_reads stage.func) (length stage.reads))
     (nat_le (length stage.reads) (most_reads stage.func))
-    (length stage.writes == writes_of stage.func) whole.counts in
-    let written : (length s.writes == writes_of stage.func) ≡ true =
-    ap (λ (n : ℕ). n == writes_of stage.func) (length-map stage.writes (ref_for vars)) ∙ counts.3 in
-    from4 (is_free (func_name stage.func)) (list_all trees.is_ref s.reads) (trees.is_some_refs s.writes) (list_all trees.is_atom s.parameters)
+    (length stage.writes == result_count stage.func) whole.counts in
+    let written : (length s.writes == result_count stage.func) ≡ true =
+    ap (λ (n : ℕ). n == result_count stage.func) (length-map stage.writes (ref_for vars)) ∙ counts.3 in
+    from4 (is_unreserved (func_name stage.func)) (list_all trees.is_printable_ref s.reads) (trees.is_some_refs s.writes) (list_all trees.is_printable_atom s.parameters)
     (func_free stage.func)
     (all_refs vars stage.each free stage.reads whole.reads places.0)
     (some_refs stage.func s.writes written (all_refs vars stage.each free stage.writes whole.writes places.1))
-    (list_all-map trees.is_atom param_for stage.params
-    ∙ all_of_both (is_param args) spelled.is_param (λ p. trees.is_atom (param_for p)) (param_printed args few) stage.params whole.params spelled_parts.1)
+    (list_all-map trees.is_printable_atom param_for stage.params
+    ∙ all_of_both (is_param args) spelled.is_spelled_param (λ p. trees.is_printable_atom (param_for p)) (param_printed args few) stage.params whole.params spelled_parts.1)
 
-pub stages_printed : (vars : List job_var) (args line : ℕ) (stages : List job_stage) → list_all is_free (names_of_vars vars) ≡ true → args ≤ 8
+pub stages_printed : (vars : List job_var) (args line : ℕ) (stages : List job_stage) → list_all is_unreserved (names_of_vars vars) ≡ true → args ≤ 8
     → list_all (is_stage vars args) stages ≡ true
-    → list_all spelled.is_stage stages ≡ true → list_all trees.is_stage (stages_for vars line stages) ≡ true
+    → list_all spelled.is_spelled_stage stages ≡ true → list_all trees.is_printable_stage (stages_for vars line stages) ≡ true
 stages_printed vars args line [] free few all spells = refl
 stages_printed vars args line (stage ∷ stages) free few all spells =
     let parts = and_parts (is_stage vars args stage) (list_all (is_stage vars args) stages) all in
-    let spelled_parts = and_parts (spelled.is_stage stage) (list_all spelled.is_stage stages) spells in
-    and_from (trees.is_stage (stage_for vars line stage)) (list_all trees.is_stage (stages_for vars (line + 1) stages))
+    let spelled_parts = and_parts (spelled.is_spelled_stage stage) (list_all spelled.is_spelled_stage stages) spells in
+    and_from (trees.is_printable_stage (stage_for vars line stage)) (list_all trees.is_printable_stage (stages_for vars (line + 1) stages))
     (stage_printed vars args line stage free few parts.0 spelled_parts.0) (stages_printed vars args (line + 1) stages free few parts.1 spelled_parts.1)
 
 pub stages_at_lines : (vars : List job_var) (line : ℕ) (stages : List job_stage)

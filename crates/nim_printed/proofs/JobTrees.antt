@@ -11,7 +11,7 @@ use Rattle.nim_job.specs.declared.job.Job.{Job}
 use Rattle.nim_job.specs.declared.stmt.Stmt.{Stmt, fold-Stmt, fold-roll-Stmt, ind-Stmt, map-Stmt, roll-Stmt}
 use Rattle.nim_job.specs.declared.stmt.Stmt.TheOpen.{Stmt-F}
 use Rattle.nim_job.specs.Whole as whole
-use Rattle.nim_job.specs.Whole.{Scan, is_call, scalars_of, scan_all, scan_body, scan_of, scan_stmt}
+use Rattle.nim_job.specs.Whole.{Scan, is_call, scalars_set, scan_all, scan_body, scan_of, scan_stmt}
 use Rattle.nim_parse.specs.declared.nest.Open.TheVariants as opening
 use Rattle.nim_parse.specs.declared.sections.Block.{Block}
 use Rattle.nim_parse.specs.declared.sections.Statement.{Statement}
@@ -73,7 +73,7 @@ step job blocks named (Stmt-F.Let s first rest) =
     rolled job blocks (Stmt-F.Let s first rest) (λ depth k behind within set spells.
     let found = taken (whole.is_atom k first && whole.is_rest k rest) (whole.set_at k s) behind set in
     let parts = and_parts (whole.is_atom k first) (whole.is_rest k rest) found.0 in
-    let spelled_parts = and_parts (spelled.is_atom first) (spelled.is_rest rest) spells in
+    let spelled_parts = and_parts (spelled.is_spelled_atom first) (spelled.is_spelled_rest rest) spells in
     shows_said job blocks depth k behind (Let (scalar_name s) (value_for first rest)) (roll-Stmt (Stmt-F.Let s first rest))
     (let_says job blocks depth k behind s first rest within parts.0 parts.1 found.1 spelled_parts.0 spelled_parts.1))
 step job blocks named (Stmt-F.Get s var part row cell) =
@@ -86,7 +86,7 @@ step job blocks named (Stmt-F.Loop turns es) =
     rolled job blocks (Stmt-F.Loop turns stmts) (λ depth k behind within set spells.
     let found = taken (whole.is_atom k turns) (scan_body (map (scan_of job) stmts) depth k) behind set in
     let deep = taken (nat_lt depth 16) (scan_all (map (scan_of job) stmts) (depth + 1) k) behind found.1 in
-    let spelled_parts = and_parts (spelled.is_atom turns) (all_true (map (fold-Stmt Bool is_stmt) stmts)) spells in
+    let spelled_parts = and_parts (spelled.is_spelled_atom turns) (all_true (map (fold-Stmt Bool is_stmt) stmts)) spells in
     let lines = joined (map (statements_of job) stmts) in
     shows_opened job blocks opening.Turns depth k behind (Loop (atom_for turns)) (λ body. roll-Stmt (Stmt-F.Loop turns body.first)) lines (body_with stmts [])
     (loop_opens job blocks depth k turns within (ltb-true depth 16 deep.0) found.0 spelled_parts.0)
@@ -97,7 +97,7 @@ step job blocks named (Stmt-F.While c es) =
     rolled job blocks (Stmt-F.While c stmts) (λ depth k behind within set spells.
     let found = taken (whole.is_cond k c) (scan_body (map (scan_of job) stmts) depth k) behind set in
     let deep = taken (nat_lt depth 16) (scan_all (map (scan_of job) stmts) (depth + 1) k) behind found.1 in
-    let spelled_parts = and_parts (spelled.is_cond c) (all_true (map (fold-Stmt Bool is_stmt) stmts)) spells in
+    let spelled_parts = and_parts (spelled.is_spelled_cond c) (all_true (map (fold-Stmt Bool is_stmt) stmts)) spells in
     let lines = joined (map (statements_of job) stmts) in
     shows_opened job blocks opening.Turns depth k behind (While (condition_for c)) (λ body. roll-Stmt (Stmt-F.While c body.first)) lines (body_with stmts [])
     (while_opens job blocks depth k c within (ltb-true depth 16 deep.0) found.0 spelled_parts.0)
@@ -112,7 +112,7 @@ step job blocks named (Stmt-F.If c es fs) =
     let between = then_parts (λ (n : ℕ). scan_body (map (scan_of job) seconds) depth n) (scan_body (map (scan_of job) firsts) depth k) behind found.1 in
     let deep = taken (nat_lt depth 16) (scan_all (map (scan_of job) firsts) (depth + 1) k) between.0 between.1 in
     let deep_again = taken (nat_lt depth 16) (scan_all (map (scan_of job) seconds) (depth + 1) between.0) behind between.2 in
-    let spelled_parts = parts3 (spelled.is_cond c) (all_true (map (fold-Stmt Bool is_stmt) firsts)) (all_true (map (fold-Stmt Bool is_stmt) seconds)) spells in
+    let spelled_parts = parts3 (spelled.is_spelled_cond c) (all_true (map (fold-Stmt Bool is_stmt) firsts)) (all_true (map (fold-Stmt Bool is_stmt) seconds)) spells in
     let lines = joined (map (statements_of job) firsts) in
     let first = all_shown job blocks (λ (e : Part job blocks). e.0) (λ e. e.1) es (depth + 1) k between.0 within deep.1 spelled_parts.1 in
     let second = all_shown job blocks (λ (e : Part job blocks). e.0) (λ e. e.1) fs (depth + 1) between.0 behind first.few deep_again.1 spelled_parts.2 in
@@ -136,7 +136,7 @@ every_shown : (job : Job) (blocks : List Block) → Named job blocks → (stmt :
 every_shown job blocks named = ind-Stmt (Shown job blocks) (λ x y is. subst (λ (z : Stmt-F Stmt). Shown job blocks (roll-Stmt z)) is (step job blocks named y))
 
 -- the whole body of a job
-pub body_shown : (job : Job) (blocks : List Block) (behind : ℕ) → Named job blocks → scalars_of job ≡ Some behind
+pub body_shown : (job : Job) (blocks : List Block) (behind : ℕ) → Named job blocks → scalars_set job ≡ Some behind
     → list_all (λ (stmt : Stmt). fold-Stmt Bool is_stmt stmt) job.body ≡ true → Shows job blocks 0 0 behind (flat_map (statements_of job) job.body) job.body
 body_shown job blocks behind named set spells =
     let same = map-id job.body in

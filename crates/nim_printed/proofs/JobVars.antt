@@ -19,7 +19,7 @@ use Rattle.nim_check.specs.Rules.{are_few, rule_41, rule_42, rule_43, rule_44, r
 use Rattle.nim_check.specs.Sites.{at_var, var_sites}
 use Rattle.nim_printed.specs.Lines.{vars_numbered}
 use Rattle.nim_printed.specs.Printer.{init_for, vars_for}
-use Rattle.nim_printed.specs.Spelled.{is_free, is_init, is_small, without_data}
+use Rattle.nim_printed.specs.Spelled.{is_unreserved, is_spelled_init, is_small, without_data}
 use Rattle.nim_printed.specs.Trees as trees
 use Rattle.nim_printed.proofs.JobLists.{from5, no_rule, passes_on}
 use Rattle.nim_printed.proofs.JobNames.{apart, not_reserved, text_same}
@@ -44,13 +44,13 @@ init_back (init.Fill number) = refl
 init_back init.Iota = refl
 init_back (init.Loaded values) = refl
 
-var_back : (line : ℕ) (v : job_var) → is_free v.name ≡ true → var_of (var_for line v) ≡ without v
+var_back : (line : ℕ) (v : job_var) → is_unreserved v.name ≡ true → var_of (var_for line v) ≡ without v
 var_back line v free = ap₂ (λ (name : Word) (i : job_init). record v { name = name; init = i }) (text_same v.name free) (init_back v.init)
 
-pub vars_back : (line : ℕ) (vars : List job_var) → list_all is_free (names_of_vars vars) ≡ true → map var_of (vars_for line vars) ≡ unloaded_vars vars
+pub vars_back : (line : ℕ) (vars : List job_var) → list_all is_unreserved (names_of_vars vars) ≡ true → map var_of (vars_for line vars) ≡ unloaded_vars vars
 vars_back line [] free = refl
 vars_back line (v ∷ vars) free =
-    let parts = and_parts (is_free v.name) (list_all is_free (names_of_vars vars)) free in
+    let parts = and_parts (is_unreserved v.name) (list_all is_unreserved (names_of_vars vars)) free in
     ap₂ (λ (x : job_var) (xs : List job_var). x ∷ xs) (var_back line v parts.0) (vars_back (line + 1) vars parts.1)
 
 pub vars_named : (line : ℕ) (vars : List job_var) → var_names (vars_for line vars) ≡ names_of_vars vars
@@ -92,13 +92,13 @@ var_passes before v free new sized few =
     (no_rule (rule_44 (at_var before v)) 44 _ (not_from_true (are_few (map var_of (before ++ v ∷ []))) few) refl)))
 
 pub vars_pass : (before : List Var) (done vars : List job_var) (line : ℕ) → var_names before ≡ names_of_vars done → map var_of before ≡ unloaded_vars done
-    → list_all is_free (names_of_vars vars) ≡ true → has_twice (names_of_vars done ++ names_of_vars vars) ≡ false → list_all is_var vars ≡ true
+    → list_all is_unreserved (names_of_vars vars) ≡ true → has_twice (names_of_vars done ++ names_of_vars vars) ≡ false → list_all is_var vars ≡ true
     → are_few (done ++ vars) ≡ true
     → first_refusal (var_sites before (vars_for line vars)) ≡ None
 vars_pass before done [] line named back free once sized few = refl
 vars_pass before done (v ∷ vars) line named back free once sized few =
     let w = var_for line v in
-    let frees = and_parts (is_free v.name) (list_all is_free (names_of_vars vars)) free in
+    let frees = and_parts (is_unreserved v.name) (list_all is_unreserved (names_of_vars vars)) free in
     let sizes = and_parts (is_var v) (list_all is_var vars) sized in
     let pushed : names_of_vars (done ++ v ∷ []) ≡ names_of_vars done ++ v.name ∷ [] = map_push (λ (x : job_var). x.name) done v in
     let named_next : var_names (before ++ w ∷ []) ≡ names_of_vars (done ++ v ∷ []) =
@@ -117,7 +117,7 @@ vars_pass before done (v ∷ vars) line named back free once sized few =
 
 -- ---- they can be printed, and have their numbers
 
-init_printed : (i : job_init) → is_init i ≡ true → trees.is_init (init_for i) ≡ true
+init_printed : (i : job_init) → is_spelled_init i ≡ true → trees.is_printable_init (init_for i) ≡ true
 init_printed (init.Fill number) is = is
 init_printed init.Iota is = refl
 init_printed (init.Loaded values) is = refl
@@ -128,17 +128,17 @@ sizes_small v is = grind (arith, nat_tests)
 pub small : (n : ℕ) → n ≤ 1000000 → is_small n ≡ true
 small n few = le-leb n 9223372036854775808 (omega arith)
 
-pub vars_printed : (line : ℕ) (vars : List job_var) → list_all is_free (names_of_vars vars) ≡ true → list_all is_var vars ≡ true
-    → list_all (λ (v : job_var). is_init v.init) vars ≡ true
-    → list_all trees.is_var (vars_for line vars) ≡ true
+pub vars_printed : (line : ℕ) (vars : List job_var) → list_all is_unreserved (names_of_vars vars) ≡ true → list_all is_var vars ≡ true
+    → list_all (λ (v : job_var). is_spelled_init v.init) vars ≡ true
+    → list_all trees.is_printable_var (vars_for line vars) ≡ true
 vars_printed line [] free sized inits = refl
 vars_printed line (v ∷ vars) free sized inits =
-    let frees = and_parts (is_free v.name) (list_all is_free (names_of_vars vars)) free in
+    let frees = and_parts (is_unreserved v.name) (list_all is_unreserved (names_of_vars vars)) free in
     let sizes = and_parts (is_var v) (list_all is_var vars) sized in
-    let spelled = and_parts (is_init v.init) (list_all (λ (w : job_var). is_init w.init) vars) inits in
+    let spelled = and_parts (is_spelled_init v.init) (list_all (λ (w : job_var). is_spelled_init w.init) vars) inits in
     let few = sizes_small v sizes.0 in
-    and_from (trees.is_var (var_for line v)) (list_all trees.is_var (vars_for (line + 1) vars))
-    (from5 (is_free v.name) (is_small v.parts) (is_small v.shape.width) (is_small v.shape.rows) (trees.is_init (init_for v.init)) frees.0
+    and_from (trees.is_printable_var (var_for line v)) (list_all trees.is_printable_var (vars_for (line + 1) vars))
+    (from5 (is_unreserved v.name) (is_small v.parts) (is_small v.shape.width) (is_small v.shape.rows) (trees.is_printable_init (init_for v.init)) frees.0
     (small v.parts (omega (arith, few.0))) (small v.shape.width (omega (arith, few.1))) (small v.shape.rows (omega (arith, few.2)))
     (init_printed v.init spelled.0))
     (vars_printed (line + 1) vars frees.1 sizes.1 spelled.1)

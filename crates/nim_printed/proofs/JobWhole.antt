@@ -10,7 +10,7 @@ use Rattle.nim_job.specs.declared.block.Block.{Block as job_block}
 use Rattle.nim_job.specs.declared.job.Job.{Job}
 use Rattle.nim_job.specs.declared.job.Var.{Var as job_var}
 use Rattle.nim_job.specs.declared.stmt.Stmt.{Stmt, fold-Stmt}
-use Rattle.nim_job.specs.Whole.{are_vars, is_between, is_block, is_checked, is_var, scalars_of}
+use Rattle.nim_job.specs.Whole.{are_vars, is_between, is_whole_block, is_checked, is_var, scalars_set}
 use Rattle.nim_parse.specs.declared.sections.Block.{Block}
 use Rattle.nim_parse.specs.declared.sections.Line.{Line}
 use Rattle.nim_parse.specs.declared.sections.Statement.{Statement}
@@ -21,7 +21,7 @@ use Rattle.nim_check.specs.declared.body.Names.{Names}
 use Rattle.nim_check.specs.Body.{body_of, first_body, no_body}
 use Rattle.nim_check.specs.Made.{block_of, job_of, names_of}
 use Rattle.nim_check.specs.Names.{Word, has_twice}
-use Rattle.nim_check.specs.Refusals.{refusal_of}
+use Rattle.nim_check.specs.Refusals.{tree_refusal}
 use Rattle.nim_check.specs.Rules.{are_few, rule_40, rule_of}
 use Rattle.nim_check.specs.declared.past.Past.{Past}
 use Rattle.nim_check.specs.Sites.{at_steps, block_sites, no_past, statement_sites, steps_sites, var_sites}
@@ -30,7 +30,7 @@ use Rattle.nim_printed.specs.Laws.{JobStands}
 use Rattle.nim_printed.specs.Lines.{block_words, blocks_numbered, lines_numbered, numbered, vars_numbered}
 use Rattle.nim_printed.specs.Printer.{blocks_for, blocks_lines, lines_for, statements_of, tree_for, vars_for}
 use Rattle.nim_printed.specs.Spelled as spelled
-use Rattle.nim_printed.specs.Spelled.{is_free, is_init, is_small, is_spelled, is_stmt, names_in, unloaded}
+use Rattle.nim_printed.specs.Spelled.{is_unreserved, is_spelled_init, is_small, is_spelled, is_stmt, names_in, unloaded}
 use Rattle.nim_printed.specs.Trees as trees
 use Rattle.nim_printed.specs.Trees.{is_closed, is_printable}
 use Rattle.nim_printed.specs.Printer.{argument_name}
@@ -51,30 +51,30 @@ record IsChecked (job : Job) : Type 0 where
   pub few : are_few job.vars ≡ true
   pub vars : list_all is_var job.vars ≡ true
   pub few_blocks : length job.blocks ≤ 32
-  pub blocks : list_all (is_block job.vars) job.blocks ≡ true
-  pub body : is_some (scalars_of job) ≡ true
+  pub blocks : list_all (is_whole_block job.vars) job.blocks ≡ true
+  pub body : is_some (scalars_set job) ≡ true
 
 checked_job : (job : Job) → is_checked job ≡ true → IsChecked job
 checked_job job checked =
-    let parts = parts5 (is_between 1 1000000 job.steps) (are_vars job.vars) (nat_le (length job.blocks) 32) (list_all (is_block job.vars) job.blocks)
-    (is_some (scalars_of job)) checked in
+    let parts = parts5 (is_between 1 1000000 job.steps) (are_vars job.vars) (nat_le (length job.blocks) 32) (list_all (is_whole_block job.vars) job.blocks)
+    (is_some (scalars_set job)) checked in
     let vars = and_parts (are_few job.vars) (list_all is_var job.vars) parts.1 in
     record { steps = parts.0; few = vars.0; vars = vars.1; few_blocks = leb-true (length job.blocks) 32 parts.2; blocks = parts.3; body = parts.4 }
 
 -- what a spelled job gives
 record IsSpelled (job : Job) : Type 0 where
-  pub vars_free : list_all is_free (names_of_vars job.vars) ≡ true
-  pub blocks_free : list_all is_free (names_of_blocks job.blocks) ≡ true
+  pub vars_free : list_all is_unreserved (names_of_vars job.vars) ≡ true
+  pub blocks_free : list_all is_unreserved (names_of_blocks job.blocks) ≡ true
   pub once : has_twice (names_of_vars job.vars ++ names_of_blocks job.blocks) ≡ false
-  pub inits : list_all (λ (v : job_var). is_init v.init) job.vars ≡ true
-  pub stages : list_all (λ (b : job_block). list_all spelled.is_stage b.stages) job.blocks ≡ true
+  pub inits : list_all (λ (v : job_var). is_spelled_init v.init) job.vars ≡ true
+  pub stages : list_all (λ (b : job_block). list_all spelled.is_spelled_stage b.stages) job.blocks ≡ true
   pub stmts : list_all (λ (stmt : Stmt). fold-Stmt Bool is_stmt stmt) job.body ≡ true
 
 spelled_job : (job : Job) → is_spelled job ≡ true → IsSpelled job
 spelled_job job is =
-    let parts = parts5 (list_all is_free (names_in job)) (not (has_twice (names_in job))) (list_all (λ (v : job_var). is_init v.init) job.vars)
-    (list_all (λ (b : job_block). list_all spelled.is_stage b.stages) job.blocks) (list_all (λ (stmt : Stmt). fold-Stmt Bool is_stmt stmt) job.body) is in
-    let free = all_parts is_free (names_of_vars job.vars) (names_of_blocks job.blocks) parts.0 in
+    let parts = parts5 (list_all is_unreserved (names_in job)) (not (has_twice (names_in job))) (list_all (λ (v : job_var). is_spelled_init v.init) job.vars)
+    (list_all (λ (b : job_block). list_all spelled.is_spelled_stage b.stages) job.blocks) (list_all (λ (stmt : Stmt). fold-Stmt Bool is_stmt stmt) job.body) is in
+    let free = all_parts is_unreserved (names_of_vars job.vars) (names_of_blocks job.blocks) parts.0 in
     record { vars_free = free.0; blocks_free = free.1; once = not-true (has_twice (names_in job)) parts.1; inits = parts.2; stages = parts.3; stmts = parts.4 }
 
 some_is : (o : Option ℕ) → is_some o ≡ true → (n : ℕ) × (o ≡ Some n)
@@ -126,8 +126,8 @@ module _ (job : Job) (checked : IsChecked job) (spells : IsSpelled job) where
   lines = flat_map (statements_of job) job.body
 
   -- how many scalars are set
-  many : (n : ℕ) × (scalars_of job ≡ Some n)
-  many = some_is (scalars_of job) checked.body
+  many : (n : ℕ) × (scalars_set job ≡ Some n)
+  many = some_is (scalars_set job) checked.body
 
   shows : Shows job tree_blocks 0 0 many.0 lines job.body
   shows = body_shown job tree_blocks many.0 named many.1 spells.stmts
@@ -135,7 +135,7 @@ module _ (job : Job) (checked : IsChecked job) (spells : IsSpelled job) where
   printable : is_printable (tree_for job) ≡ true
   printable =
       let tree = tree_for job in
-      from5 (trees.is_steps tree.steps) (list_all trees.is_var tree.vars) (list_all trees.is_block tree.blocks)
+      from5 (trees.is_steps tree.steps) (list_all trees.is_printable_var tree.vars) (list_all trees.is_printable_block tree.blocks)
       (list_all (λ (l : Line). trees.is_statement l.statement) tree.statements) (is_closed (open_after [] tree.statements))
       (steps_small job.steps checked.steps) (vars_printed 3 job.vars spells.vars_free checked.vars spells.inits)
       (blocks_printed job.vars (3 + length job.vars) job.blocks spells.vars_free spells.blocks_free checked.blocks spells.stages)
@@ -158,7 +158,7 @@ module _ (job : Job) (checked : IsChecked job) (spells : IsSpelled job) where
       ∙ ap₂ (λ (blocks : List Block) (statements : List Line). with_parts tree.vars blocks statements)
       (blocks_at_lines job.vars (3 + length job.vars) job.blocks) (lines_at_lines first_line lines)
 
-  sound : refusal_of (tree_for job) ≡ None
+  sound : tree_refusal (tree_for job) ≡ None
   sound =
       let tree = tree_for job in
       let steps : Steps = record { line = 2; most = job.steps } in

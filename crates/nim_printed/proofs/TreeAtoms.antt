@@ -20,8 +20,8 @@ use Rattle.nim_parse.specs.declared.sections.Relation.TheVariants.{Less, AtMost,
 use Rattle.nim_parse.specs.Grammar.{atom, condition, expression, index, init, one_of, operator, operators, own_index, reference, relation, relations}
 use Rattle.nim_parse.specs.Input.{Input, ◌<$>◌, int, name, sees_name}
 use Rattle.nim_printed.specs.Lines.{atom_words, condition_words, index_words, init_words, int_words, operator_word, ref_words, relation_word, value_words}
-use Rattle.nim_printed.specs.Spelled.{is_free, is_int}
-use Rattle.nim_printed.specs.Trees.{is_atom, is_condition, is_index, is_init, is_ref, is_value}
+use Rattle.nim_printed.specs.Spelled.{is_unreserved, is_int}
+use Rattle.nim_printed.specs.Trees.{is_printable_atom, is_condition, is_index, is_printable_init, is_printable_ref, is_printable_value}
 use Rattle.nim_printed.specs.Words.{Word}
 use Rattle.nim_printed.proofs.TreeReads.{Reads, Spells, expects, int_alone, int_reads, name_reads, number_reads, ends_then, passes_then, pure_reads, respells, sees_minus, sees_named, sees_number, taken_false, taken_true, takes_then, then_reads}
 use Rattle.nim_printed.proofs.TreeWordKinds.{decimal_differs, free_name, small_enough}
@@ -32,7 +32,7 @@ no_name_first : (number : ℤ) (rest : List Word) (i : Input) → is_int number 
 no_name_first (pos n) rest i small spelled = sees_number n rest i (small_enough n small) spelled
 no_name_first (negsuc n) rest i small spelled = sees_minus (decimal (suc n) ∷ rest) i spelled
 
-pub atom_reads : (a : Atom) (rest : List Word) → is_atom a ≡ true → Reads atom (atom_words a ++ rest) a rest
+pub atom_reads : (a : Atom) (rest : List Word) → is_printable_atom a ≡ true → Reads atom (atom_words a ++ rest) a rest
 unfolding atom
 atom_reads (Number number) rest small =
     taken_false sees_name (Name <$> name) (Number <$> int) (λ i spelled. no_name_first number rest i small spelled)
@@ -41,7 +41,7 @@ atom_reads (Name word) rest free =
     taken_true sees_name (Name <$> name) (Number <$> int) (λ i spelled. sees_named word rest i (free_name word free) spelled)
     (then_reads _ (name_reads word rest (free_name word free)) (pure_reads (Name word) rest))
 
-pub atom_alone : (a : Atom) → is_atom a ≡ true → Reads atom (atom_words a) a []
+pub atom_alone : (a : Atom) → is_printable_atom a ≡ true → Reads atom (atom_words a) a []
 atom_alone (Number (pos n)) small = atom_reads (Number (pos n)) [] small
 atom_alone (Number (negsuc n)) small = atom_reads (Number (negsuc n)) [] small
 atom_alone (Name word) free = atom_reads (Name word) [] free
@@ -67,10 +67,10 @@ index_reads (Before n) rest small =
     (takes_then (codes "-") _ _
     (then_reads _ (number_reads n _ small) (pure_reads (Before n) _))))
 
-pub reference_reads : (ref : Ref) (rest : List Word) → is_ref ref ≡ true → Reads reference (ref_words ref ++ rest) ref rest
+pub reference_reads : (ref : Ref) (rest : List Word) → is_printable_ref ref ≡ true → Reads reference (ref_words ref ++ rest) ref rest
 unfolding reference
 reference_reads ref rest are =
-    let both = and_parts (is_free ref.name) (is_index ref.index) are in
+    let both = and_parts (is_unreserved ref.name) (is_index ref.index) are in
     respells (ap (λ (ws : List Word). ref.name ∷ codes "[" ∷ ws) (sym (append_assoc (index_words ref.index) (codes "]" ∷ []) rest)))
     (then_reads _ (name_reads ref.name _ (free_name ref.name both.0))
     (then_reads _ (expects (codes "[") _)
@@ -79,7 +79,7 @@ reference_reads ref rest are =
 
 -- ---- what stands in a variable at first
 
-pub init_reads : (x : Init) → is_init x ≡ true → Reads init (init_words x) x []
+pub init_reads : (x : Init) → is_printable_init x ≡ true → Reads init (init_words x) x []
 unfolding init
 init_reads (Fill number) small =
     takes_then (codes "fill") _ _ (then_reads _ (int_alone number small) (pure_reads (Fill number) []))
@@ -113,12 +113,12 @@ operator_reads Remainder rest =
     (passes_then (codes "*") _ _ (codes "%") refl
     (passes_then (codes "/") _ _ (codes "%") refl (takes_then (codes "%") _ _ (pure_reads (Some Remainder) rest)))))
 
-pub expression_reads : (value : Expression) → is_value value ≡ true → Reads expression (value_words value) value []
+pub expression_reads : (value : Expression) → is_printable_value value ≡ true → Reads expression (value_words value) value []
 unfolding expression operator
 expression_reads (Alone a) are =
     then_reads _ (atom_alone a are) (then_reads _ (none_at_end operators) (pure_reads (Alone a) []))
 expression_reads (Two first sign second) are =
-    let both = and_parts (is_atom first) (is_atom second) are in
+    let both = and_parts (is_printable_atom first) (is_printable_atom second) are in
     then_reads _ (atom_reads first (operator_word sign ∷ atom_words second) both.0)
     (then_reads _ (operator_reads sign (atom_words second))
     (then_reads _ (atom_alone second both.1) (pure_reads (Two first sign second) [])))
@@ -152,7 +152,7 @@ unfolding condition relation
 condition_reads (NotZero a) are =
     then_reads _ (atom_alone a are) (then_reads _ (none_at_end relations) (pure_reads (NotZero a) []))
 condition_reads (Holds first sign second) are =
-    let both = and_parts (is_atom first) (is_atom second) are in
+    let both = and_parts (is_printable_atom first) (is_printable_atom second) are in
     then_reads _ (atom_reads first (relation_word sign ∷ atom_words second) both.0)
     (then_reads _ (relation_reads sign (atom_words second))
     (then_reads _ (atom_alone second both.1) (pure_reads (Holds first sign second) [])))

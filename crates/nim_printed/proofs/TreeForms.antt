@@ -16,8 +16,8 @@ use Rattle.nim_parse.specs.declared.sections.Var.{Var}
 use Rattle.nim_parse.specs.Grammar.{alone, block, block_end, do_line, end_or_stage, get_line, header, if_line, let_line, line_form, loop_line, on_line, output_line, stage, steps, var, while_line}
 use Rattle.nim_parse.specs.Input.{Input, Parser, ◌>>◌, ◌<$>◌, done, left, pure}
 use Rattle.nim_printed.specs.Lines.{each_words, listed_words, ref_words, stage_words, statement_words, var_words, with_words}
-use Rattle.nim_printed.specs.Spelled.{is_free, is_small}
-use Rattle.nim_printed.specs.Trees.{is_stage, is_statement, is_var}
+use Rattle.nim_printed.specs.Spelled.{is_unreserved, is_small}
+use Rattle.nim_printed.specs.Trees.{is_printable_stage, is_statement, is_printable_var}
 use Rattle.nim_printed.specs.Words.{Word}
 use Rattle.nim_printed.proofs.TreeAtoms.{atom_alone, condition_reads, expression_reads, init_reads}
 use Rattle.nim_printed.proofs.TreeLists.{atoms_reads, each_reads, names_reads, parameters_reads, reads_reads, with_ends, writes_reads}
@@ -40,13 +40,13 @@ unfolding steps
 steps_reads line most small =
     then_reads _ (expects (codes "steps") _) (then_reads _ (number_reads most [] small) (ended (form.Steps (record { line = line; most = most }))))
 
-var_reads : (line : ℕ) (v : Var) → is_var v ≡ true → Reads (var line) (var_words v) (form.Var (record v { line = line })) []
+var_reads : (line : ℕ) (v : Var) → is_printable_var v ≡ true → Reads (var line) (var_words v) (form.Var (record v { line = line })) []
 unfolding var
 var_reads line v are =
     let a = and_parts _ _ are in
     let b = and_parts _ _ a.0 in
     let d = and_parts _ _ b.0 in
-    let e = and_parts (is_free v.name) (is_small v.parts) d.0 in
+    let e = and_parts (is_unreserved v.name) (is_small v.parts) d.0 in
     then_reads _ (expects (codes "var") _)
     (then_reads _ (name_reads v.name _ (free_name v.name e.0))
     (then_reads _ (expects (codes "parts") _)
@@ -57,7 +57,7 @@ var_reads line v are =
     (then_reads _ (number_reads v.rows _ b.1)
     (then_reads _ (init_reads v.init a.1) (ended (form.Var (record v { line = line })))))))))))
 
-block_reads : (line : ℕ) (called : Word) (arguments : List Word) → is_free called ≡ true → list_all is_free arguments ≡ true
+block_reads : (line : ℕ) (called : Word) (arguments : List Word) → is_unreserved called ≡ true → list_all is_unreserved arguments ≡ true
     → Reads (block line) (codes "block" ∷ called ∷ listed_words (map (λ argument. argument ∷ []) arguments))
     (form.Block (record { line = line; name = called; arguments = arguments; stages = [] })) []
 unfolding block
@@ -66,12 +66,12 @@ block_reads line called arguments free are =
     (then_reads _ (name_reads called _ (free_name called free))
     (then_reads _ (names_reads arguments are) (ended (form.Block (record { line = line; name = called; arguments = arguments; stages = [] })))))
 
-stage_reads : (line : ℕ) (s : Stage) → is_stage s ≡ true → Reads (stage line) (stage_words s) (form.Stage (record s { line = line })) []
+stage_reads : (line : ℕ) (s : Stage) → is_printable_stage s ≡ true → Reads (stage line) (stage_words s) (form.Stage (record s { line = line })) []
 unfolding stage
 stage_reads line s are =
     let a = and_parts _ _ are in
     let b = and_parts _ _ a.0 in
-    let d = and_parts (is_free s.function) _ b.0 in
+    let d = and_parts (is_unreserved s.function) _ b.0 in
     let read : List Word = flat_map ref_words s.reads in
     let written : List Word = flat_map ref_words s.writes in
     let given : List Word = with_words s.parameters in
@@ -100,7 +100,7 @@ do_reads : (called : Word) (arguments : List Atom) → is_statement (Do called a
     → Reads do_line (statement_words (Do called arguments)) (Do called arguments) []
 unfolding do_line
 do_reads called arguments are =
-    let both = and_parts (is_free called) _ are in
+    let both = and_parts (is_unreserved called) _ are in
     then_reads _ (expects (codes "do") _)
     (then_reads _ (name_reads called _ (free_name called both.0))
     (then_reads _ (atoms_reads arguments both.1) (ended (Do called arguments))))
@@ -109,7 +109,7 @@ let_reads : (scalar : Word) (value : Expression) → is_statement (Let scalar va
     → Reads let_line (statement_words (Let scalar value)) (Let scalar value) []
 unfolding let_line
 let_reads scalar value are =
-    let both = and_parts (is_free scalar) _ are in
+    let both = and_parts (is_unreserved scalar) _ are in
     then_reads _ (expects (codes "let") _)
     (then_reads _ (name_reads scalar _ (free_name scalar both.0))
     (then_reads _ (expects (codes "=") _)
@@ -122,7 +122,7 @@ get_reads scalar variable part row column are =
     let a = and_parts _ _ are in
     let b = and_parts _ _ a.0 in
     let d = and_parts _ _ b.0 in
-    let e = and_parts (is_free scalar) (is_free variable) d.0 in
+    let e = and_parts (is_unreserved scalar) (is_unreserved variable) d.0 in
     then_reads _ (expects (codes "get") _)
     (then_reads _ (name_reads scalar _ (free_name scalar e.0))
     (then_reads _ (expects (codes "=") _)
@@ -189,17 +189,17 @@ pub steps_line : (line : ℕ) (most : ℕ) → is_small most ≡ true
 unfolding line_form
 steps_line line most small = steps_reads line most small
 
-pub var_line : (line : ℕ) (v : Var) → is_var v ≡ true → Reads (line_form false line head.Var) (var_words v) (form.Var (record v { line = line })) []
+pub var_line : (line : ℕ) (v : Var) → is_printable_var v ≡ true → Reads (line_form false line head.Var) (var_words v) (form.Var (record v { line = line })) []
 unfolding line_form
 var_line line v are = var_reads line v are
 
-pub block_line : (line : ℕ) (called : Word) (arguments : List Word) → is_free called ≡ true → list_all is_free arguments ≡ true
+pub block_line : (line : ℕ) (called : Word) (arguments : List Word) → is_unreserved called ≡ true → list_all is_unreserved arguments ≡ true
     → Reads (line_form false line head.Block) (codes "block" ∷ called ∷ listed_words (map (λ argument. argument ∷ []) arguments))
     (form.Block (record { line = line; name = called; arguments = arguments; stages = [] })) []
 unfolding line_form
 block_line line called arguments free are = block_reads line called arguments free are
 
-pub stage_line : (line : ℕ) (s : Stage) → is_stage s ≡ true → Reads (line_form true line head.Other) (stage_words s) (form.Stage (record s { line = line })) []
+pub stage_line : (line : ℕ) (s : Stage) → is_printable_stage s ≡ true → Reads (line_form true line head.Other) (stage_words s) (form.Stage (record s { line = line })) []
 unfolding line_form
 stage_line line s are = stage_reads line s are
 

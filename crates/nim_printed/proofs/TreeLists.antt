@@ -10,8 +10,8 @@ use Rattle.nim_parse.specs.Grammar.{atom, atoms, each, ends, listed, more, more_
 use Rattle.nim_parse.specs.Input.{Input, Parser, has_text, left, name, pure, refuse, sees}
 use Rattle.nim_check.specs.Names.{reserved}
 use Rattle.nim_printed.specs.Lines.{atom_words, each_words, listed_words, more_words, ref_words, with_words}
-use Rattle.nim_printed.specs.Spelled.{is_free, is_small}
-use Rattle.nim_printed.specs.Trees.{is_atom, is_index, is_ref, is_some_refs}
+use Rattle.nim_printed.specs.Spelled.{is_unreserved, is_small}
+use Rattle.nim_printed.specs.Trees.{is_printable_atom, is_index, is_printable_ref, is_some_refs}
 use Rattle.nim_printed.specs.Words.{Word}
 use Rattle.nim_printed.proofs.TreeAtoms.{atom_reads, reference_reads}
 use Rattle.nim_printed.proofs.TreeReads.{Reads, Spells, counted_reads, ends_then, expects, first_text, name_reads, passes_then, pure_reads, regives, respells, some_left, spelled_length, taken_false, taken_true, takes_then, then_reads}
@@ -67,18 +67,18 @@ listed_reads item words_of passes how (x ∷ xs) are =
     then_reads _ (expects (codes "(") _)
     (respells (sym same) (passes_then (codes ")") _ _ (how.first x) (how.opens x both.0) (respells same items)))
 
-name_item : Item name (λ (word : Word). word ∷ []) is_free
+name_item : Item name (λ (word : Word). word ∷ []) is_unreserved
 name_item = record {
   reads_one = λ word rest free. name_reads word rest (free_name word free);
   first = λ word. word;
   others = λ word. [];
   begins = λ word. refl;
-  opens = λ word free. differ is_free word (codes ")") free refl;
+  opens = λ word free. differ is_unreserved word (codes ")") free refl;
 }
 
-pub names_reads : (words : List Word) → list_all is_free words ≡ true → Reads names (listed_words (map (λ word. word ∷ []) words)) words []
+pub names_reads : (words : List Word) → list_all is_unreserved words ≡ true → Reads names (listed_words (map (λ word. word ∷ []) words)) words []
 unfolding names
-names_reads words are = listed_reads name (λ word. word ∷ []) is_free name_item words are
+names_reads words are = listed_reads name (λ word. word ∷ []) is_unreserved name_item words are
 
 pub atom_first : Atom → Word
 atom_first (Number (pos n)) = decimal n
@@ -97,14 +97,14 @@ atom_begins (Number (negsuc n)) = refl
 atom_begins (Name word) = refl
 
 -- an atom begins with no word that is neither
-pub atom_differs : (a : Atom) (text : Word) → is_atom a ≡ true → is_free text ≡ false → ((n : ℕ) → is_small n ≡ true → bytes_eq (decimal n) text ≡ false)
+pub atom_differs : (a : Atom) (text : Word) → is_printable_atom a ≡ true → is_unreserved text ≡ false → ((n : ℕ) → is_small n ≡ true → bytes_eq (decimal n) text ≡ false)
     → bytes_eq (codes "-") text ≡ false → bytes_eq (atom_first a) text ≡ false
 unfolding atom_first
 atom_differs (Number (pos n)) text are taken numbers minus = numbers n (small_enough n are)
 atom_differs (Number (negsuc n)) text are taken numbers minus = minus
-atom_differs (Name word) text are taken numbers minus = differ is_free word text are taken
+atom_differs (Name word) text are taken numbers minus = differ is_unreserved word text are taken
 
-atom_item : Item atom atom_words is_atom
+atom_item : Item atom atom_words is_printable_atom
 atom_item = record {
   reads_one = atom_reads;
   first = atom_first;
@@ -113,9 +113,9 @@ atom_item = record {
   opens = λ a are. atom_differs a (codes ")") are refl (λ n small. decimal_differs n (codes ")") small refl) refl;
 }
 
-pub atoms_reads : (xs : List Atom) → list_all is_atom xs ≡ true → Reads atoms (listed_words (map atom_words xs)) xs []
+pub atoms_reads : (xs : List Atom) → list_all is_printable_atom xs ≡ true → Reads atoms (listed_words (map atom_words xs)) xs []
 unfolding atoms
-atoms_reads xs are = listed_reads atom atom_words is_atom atom_item xs are
+atoms_reads xs are = listed_reads atom atom_words is_printable_atom atom_item xs are
 
 -- ---- refs up to an arrow
 
@@ -124,23 +124,23 @@ refs_length : (refs : List Ref) → length refs ≤ length (flat_map ref_words r
 refs_length [] = omega arith
 refs_length (ref ∷ refs) = omega (arith, refs_length refs, length-append (ref_words ref) (flat_map ref_words refs))
 
-ref_differs : (ref : Ref) (text : Word) → is_ref ref ≡ true → is_free text ≡ false → bytes_eq ref.name text ≡ false
-ref_differs ref text are taken = differ is_free ref.name text (and_parts (is_free ref.name) (is_index ref.index) are).0 taken
+ref_differs : (ref : Ref) (text : Word) → is_printable_ref ref ≡ true → is_unreserved text ≡ false → bytes_eq ref.name text ≡ false
+ref_differs ref text are taken = differ is_unreserved ref.name text (and_parts (is_unreserved ref.name) (is_index ref.index) are).0 taken
 
-read_up : (n : ℕ) (refs found : List Ref) (rest : List Word) → length refs < n → list_all is_ref refs ≡ true
+read_up : (n : ℕ) (refs found : List Ref) (rest : List Word) → length refs < n → list_all is_printable_ref refs ≡ true
     → Reads (reads_from n found) (flat_map ref_words refs ++ codes "->" ∷ rest) (found ++ refs) rest
 unfolding reads_from
 read_up zero refs found rest turns are = absurd (omega arith)
 read_up (suc n) [] found rest turns are = takes_then (codes "->") _ _ (regives (sym (append-nil found)) (pure_reads found rest))
 read_up (suc n) (ref ∷ refs) found rest turns are =
-    let both = and_parts (is_ref ref) (list_all is_ref refs) are in
+    let both = and_parts (is_printable_ref ref) (list_all is_printable_ref refs) are in
     let after : List Word = flat_map ref_words refs ++ codes "->" ∷ rest in
     let later = read_up n refs (found ++ ref ∷ []) rest (omega arith) both.1 in
     respells (sym (append_assoc (ref_words ref) (flat_map ref_words refs) (codes "->" ∷ rest)))
     (regives (append_assoc found (ref ∷ []) refs)
     (passes_then (codes "->") _ _ ref.name (ref_differs ref (codes "->") both.0 refl) (then_reads _ (reference_reads ref after both.0) later)))
 
-pub reads_reads : (refs : List Ref) (rest : List Word) → list_all is_ref refs ≡ true → Reads reads (flat_map ref_words refs ++ codes "->" ∷ rest) refs rest
+pub reads_reads : (refs : List Ref) (rest : List Word) → list_all is_printable_ref refs ≡ true → Reads reads (flat_map ref_words refs ++ codes "->" ∷ rest) refs rest
 unfolding reads
 reads_reads refs rest are =
     let words : List Word = flat_map ref_words refs in
@@ -191,11 +191,11 @@ goes_on word rest no_with no_each i spelled =
     let d : has_text (codes "each") i.source i.tokens ≡ false = first_text (codes "each") word rest i.source i.tokens spelled ∙ no_each in
     rw (a, b, d) refl
 
-with_is_taken : is_free (codes "with") ≡ false
+with_is_taken : is_unreserved (codes "with") ≡ false
 unfolding reserved
 with_is_taken = refl
 
-each_is_taken : is_free (codes "each") ≡ false
+each_is_taken : is_unreserved (codes "each") ≡ false
 unfolding reserved
 each_is_taken = refl
 
@@ -230,7 +230,7 @@ some_at item words_of passes how x xs rest end are =
     counted_reads (λ n. some_from item n (x ∷ []))
     (some_given item words_of passes how (length (words ++ rest)) xs (x ∷ []) rest end (omega (arith, how.longer xs, length-append words rest)) are)
 
-ref_plain : Plain reference ref_words is_ref
+ref_plain : Plain reference ref_words is_printable_ref
 ref_plain = record {
   reads_one = reference_reads;
   goes = λ ref rest are.
@@ -242,9 +242,9 @@ pub writes_reads : (refs : List Ref) (rest : List Word) → Ends rest → is_som
 unfolding writes
 writes_reads [] rest end are = absurd (false≢true are)
 writes_reads (ref ∷ refs) rest end are =
-    let both = and_parts (is_ref ref) (list_all is_ref refs) are in
+    let both = and_parts (is_printable_ref ref) (list_all is_printable_ref refs) are in
     let words : List Word = flat_map ref_words refs in
-    let later = some_at reference ref_words is_ref ref_plain ref refs rest end both.1 in
+    let later = some_at reference ref_words is_printable_ref ref_plain ref refs rest end both.1 in
     respells (sym (append_assoc (ref_words ref) words rest)) (then_reads (some_after reference) (reference_reads ref (words ++ rest) both.0) later)
 
 atoms_length : (xs : List Atom) → length xs ≤ length (flat_map atom_words xs)
@@ -252,23 +252,23 @@ atoms_length [] = omega arith
 atoms_length (x ∷ xs) =
     omega (arith, atoms_length xs, length-append (atom_words x) (flat_map atom_words xs), ap length (atom_begins x))
 
-atom_goes_on : (x : Atom) (rest : List Word) → is_atom x ≡ true → (i : Input) → Spells i.source i.tokens (atom_words x ++ rest) → ends i ≡ false
+atom_goes_on : (x : Atom) (rest : List Word) → is_printable_atom x ≡ true → (i : Input) → Spells i.source i.tokens (atom_words x ++ rest) → ends i ≡ false
 atom_goes_on x rest are i spelled =
     goes_on (atom_first x) (atom_others x ++ rest)
     (atom_differs x (codes "with") are with_is_taken (λ n small. decimal_differs n (codes "with") small refl) refl)
     (atom_differs x (codes "each") are each_is_taken (λ n small. decimal_differs n (codes "each") small refl) refl)
     i (subst (λ (ws : List Word). Spells i.source i.tokens (ws ++ rest)) (atom_begins x) spelled)
 
-atom_plain : Plain atom atom_words is_atom
+atom_plain : Plain atom atom_words is_printable_atom
 atom_plain = record { reads_one = atom_reads; goes = atom_goes_on; longer = atoms_length }
 
-values_reads : (x : Atom) (xs : List Atom) (rest : List Word) → Ends rest → list_all is_atom (x ∷ xs) ≡ true
+values_reads : (x : Atom) (xs : List Atom) (rest : List Word) → Ends rest → list_all is_printable_atom (x ∷ xs) ≡ true
     → Reads values (flat_map atom_words (x ∷ xs) ++ rest) (x ∷ xs) rest
 unfolding values
 values_reads x xs rest end are =
-    let both = and_parts (is_atom x) (list_all is_atom xs) are in
+    let both = and_parts (is_printable_atom x) (list_all is_printable_atom xs) are in
     let words : List Word = flat_map atom_words xs in
-    let later = some_at atom atom_words is_atom atom_plain x xs rest end both.1 in
+    let later = some_at atom atom_words is_printable_atom atom_plain x xs rest end both.1 in
     respells (sym (append_assoc (atom_words x) words rest))
     (taken_false ends refuse _ (atom_goes_on x (words ++ rest) both.0) (then_reads (some_after atom) (atom_reads x (words ++ rest) both.0) later))
 
@@ -287,7 +287,7 @@ unfolding parameters
 no_parameters true = passes_then (codes "with") _ _ (codes "each") refl (pure_reads [] _)
 no_parameters false = ends_then (codes "with") _ _ (pure_reads [] [])
 
-pub parameters_reads : (xs : List Atom) (given : Bool) → list_all is_atom xs ≡ true → Reads parameters (with_words xs ++ each_words given) xs (each_words given)
+pub parameters_reads : (xs : List Atom) (given : Bool) → list_all is_printable_atom xs ≡ true → Reads parameters (with_words xs ++ each_words given) xs (each_words given)
 unfolding parameters
 parameters_reads [] given are = no_parameters given
 parameters_reads (x ∷ xs) given are = takes_then (codes "with") _ _ (values_reads x xs (each_words given) (each_ends given) are)

@@ -19,7 +19,7 @@ use Rattle.nim_parse.specs.Rules.{rule_at_end}
 use Rattle.nim_parse.specs.States.{first}
 use Rattle.nim_printed.specs.Laws.{IsLexed, IsParsed, TreeIsRead, WordsAreRead}
 use Rattle.nim_printed.specs.Lines.{block_words, blocks_numbered, numbered, statement_words, steps_lines, steps_numbered, tree_words, var_words, vars_numbered}
-use Rattle.nim_printed.specs.Trees.{is_block, is_closed, is_printable, is_statement, is_steps, is_var}
+use Rattle.nim_printed.specs.Trees.{is_printable_block, is_closed, is_printable, is_statement, is_steps, is_printable_var}
 use Rattle.nim_printed.specs.Words.{Word, lines_text, lines_tokens_of}
 use Rattle.nim_printed.proofs.TreeSpelled.{tree_words_are}
 use Rattle.nim_printed.proofs.TreeStates.{begun_no_start, blocks_go, early_middle, empty, header_passes, is_begun, is_early, is_middle, middle_begun, moved, moved_passes, outside, statements_go, steps_passes, vars_go}
@@ -55,8 +55,8 @@ at_end tree = outside (last_phase tree) [] (numbered tree)
 -- which lines a tree can be printed in
 record Parts (tree : Sections) : Type 0 where
   steps : is_steps tree.steps ≡ true
-  vars : list_all is_var tree.vars ≡ true
-  blocks : list_all is_block tree.blocks ≡ true
+  vars : list_all is_printable_var tree.vars ≡ true
+  blocks : list_all is_printable_block tree.blocks ≡ true
   statements : list_all (λ (line : Line). is_statement line.statement) tree.statements ≡ true
   nest : open_after [] tree.statements ≡ Some []
 
@@ -65,7 +65,7 @@ parts_of tree printable =
     let a = and_parts _ _ printable in
     let b = and_parts _ _ a.0 in
     let d = and_parts _ _ b.0 in
-    let e = and_parts (is_steps tree.steps) (list_all is_var tree.vars) d.0 in
+    let e = and_parts (is_steps tree.steps) (list_all is_printable_var tree.vars) d.0 in
     record { steps = e.0; vars = e.1; blocks = d.1; statements = b.1; nest = closed_all (open_after [] tree.statements) a.1 }
 
 middle_vars : (tree : Sections) → is_middle (moved (begun_in tree.steps) phase.Vars tree.vars) ≡ true

@@ -4,9 +4,9 @@ use Rattle.std.specs.Prelude.{ℤ, bytes_eq, codes, decimal, is_some}
 use Rattle.std.proofs.lemmas.Int.{ints}
 use Rattle.std.proofs.lemmas.Bool.{ne_eqb}
 use Rattle.nim_lex.specs.declared.token.Token.{Token}
-use Rattle.nim_lex.specs.Texts.{is_name, text_of}
+use Rattle.nim_lex.specs.Texts.{is_name, token_text}
 use Rattle.nim_lex.specs.Numbers.{in_range, signed}
-use Rattle.nim_parse.specs.Input.{Input, Parser, and_then, ◌>>=◌, pure, after, done, eat, expect, first_name, first_number, has_text, int, left, name, next, number, sees, sees_name, with_sign}
+use Rattle.nim_parse.specs.Input.{Input, Parser, and_then, ◌>>=◌, pure, past_if_seen, done, eat, expect, first_name, first_number, has_text, int, left, name, past_token, number, sees, sees_name, with_sign}
 use Rattle.nim_printed.specs.Lines.{int_words}
 use Rattle.nim_printed.specs.Spelled.{is_int, is_small}
 use Rattle.nim_printed.specs.Words.{Word, kind_of}
@@ -14,7 +14,7 @@ use Rattle.nim_printed.proofs.TreeWordKinds.{bytes_same, decimal_differs, kind_d
 
 -- a token that is this word
 pub record SpellsOne (source : List ℕ) (t : Token) (word : Word) : Type 0 where
-  pub text : text_of source t ≡ word
+  pub text : token_text source t ≡ word
   pub kind : t.kind ≡ kind_of word
 
 -- tokens that are these words
@@ -111,7 +111,7 @@ some_left word rest source [] spelled = absurd spelled
 some_left word rest source (t ∷ ts) spelled = ne_eqb (length (t ∷ ts)) 0 (λ e. omega arith)
 
 pub takes_word : (text : Word) (rest : List Word) → Reads (eat text) (text ∷ rest) true rest
-unfolding sees next after
+unfolding sees past_token past_if_seen
 takes_word text rest = record {
   reads = λ i spelled.
       let seen : has_text text i.source i.tokens ≡ true = first_text text text rest i.source i.tokens spelled ∙ bytes_same text in
@@ -119,7 +119,7 @@ takes_word text rest = record {
 }
 
 pub passes_word : (text word : Word) (rest : List Word) → bytes_eq word text ≡ false → Reads (eat text) (word ∷ rest) false (word ∷ rest)
-unfolding sees after
+unfolding sees past_if_seen
 passes_word text word rest other = record {
   reads = λ i spelled.
       let unseen : has_text text i.source i.tokens ≡ false = first_text text word rest i.source i.tokens spelled ∙ other in
@@ -127,7 +127,7 @@ passes_word text word rest other = record {
 }
 
 pub passes_end : (text : Word) → Reads (eat text) [] false []
-unfolding sees after
+unfolding sees past_if_seen
 passes_end text = record {
   reads = λ i spelled.
       let unseen : has_text text i.source i.tokens ≡ false = no_text text i.source i.tokens spelled in
@@ -148,7 +148,7 @@ pub ends_then : {A : Type 0} (text : Word) (p q : Parser A) {more : List Word} {
 ends_then text p q before = then_reads (λ found. if found then p else q) (passes_end text) before
 
 pub expects : (text : Word) (rest : List Word) → Reads (expect text) (text ∷ rest) tt rest
-unfolding expect sees next
+unfolding expect sees past_token
 expects text rest = record {
   reads = λ i spelled.
       let seen : has_text text i.source i.tokens ≡ true = first_text text text rest i.source i.tokens spelled ∙ bytes_same text in
@@ -169,7 +169,7 @@ first_name_is word rest source [] is spelled = absurd spelled
 first_name_is word rest source (t ∷ ts) is spelled = rw (spelled.0.kind, kind_name word is, spelled.0.text) refl
 
 pub name_reads : (word : Word) (rest : List Word) → is_name word ≡ true → Reads name (word ∷ rest) word rest
-unfolding name next
+unfolding name past_token
 name_reads word rest is = record {
   reads = λ i spelled.
       let found : first_name i.source i.tokens ≡ Some word = first_name_is word rest i.source i.tokens is spelled in
@@ -182,7 +182,7 @@ first_number_is n rest source [] small spelled = absurd spelled
 first_number_is n rest source (t ∷ ts) small spelled = rw (spelled.0.kind, kind_decimal n small) refl
 
 pub number_reads : (n : ℕ) (rest : List Word) → is_small n ≡ true → Reads number (decimal n ∷ rest) n rest
-unfolding number next
+unfolding number past_token
 number_reads n rest small = record {
   reads = λ i spelled.
       let found : first_number i.tokens ≡ Some n = first_number_is n rest i.source i.tokens small spelled in

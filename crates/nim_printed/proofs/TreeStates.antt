@@ -22,8 +22,8 @@ use Rattle.nim_parse.specs.Nesting.{may_stand, nested, open_after}
 use Rattle.nim_parse.specs.Rules.{begins_block, begins_steps, begins_var, is_start, rule_of}
 use Rattle.nim_parse.specs.States.{first}
 use Rattle.nim_printed.specs.Lines.{block_words, blocks_numbered, lines_numbered, listed_words, stage_words, stages_numbered, statement_words, var_words, vars_numbered}
-use Rattle.nim_printed.specs.Spelled.{is_free, is_small}
-use Rattle.nim_printed.specs.Trees.{is_block, is_stage, is_statement, is_var}
+use Rattle.nim_printed.specs.Spelled.{is_unreserved, is_small}
+use Rattle.nim_printed.specs.Trees.{is_printable_block, is_printable_stage, is_statement, is_printable_var}
 use Rattle.nim_printed.proofs.TreeForms.{block_end_line, block_line, head_for, header_line, stage_line, statement_line, steps_line, var_line}
 use Rattle.nim_printed.proofs.TreeWalk.{Goes, Passes, as_found, begins_with, free_headed, goes_on, goes_same, line_passes, statement_headed}
 
@@ -120,11 +120,11 @@ var_sound phase.Vars t v early = refl
 var_sound phase.Blocks t v early = absurd (false≢true early)
 var_sound phase.Statements t v early = absurd (false≢true early)
 
-pub vars_go : (p : Phase) (t : Sections) (line : ℕ) (vars : List Var) → is_early p ≡ true → list_all is_var vars ≡ true
+pub vars_go : (p : Phase) (t : Sections) (line : ℕ) (vars : List Var) → is_early p ≡ true → list_all is_printable_var vars ≡ true
     → Goes (outside p [] t) line (map var_words vars) (outside (moved p phase.Vars vars) [] (record t { vars = t.vars ++ vars_numbered line vars }))
 vars_go p t line [] early are = ap (λ (vs : List Var). outside p [] (record t { vars = vs })) (sym (append-nil t.vars))
 vars_go p t line (v ∷ vars) early are =
-    let both = and_parts (is_var v) (list_all is_var vars) are in
+    let both = and_parts (is_printable_var v) (list_all is_printable_var vars) are in
     let here : Var = record v { line = line } in
     let more : List Var = vars_numbered (line + 1) vars in
     let now : Sections = record t { vars = t.vars ++ here ∷ [] } in
@@ -143,14 +143,14 @@ stage_sound : (b : Block) (t : Sections) (s : Stage) → rule_of (within b t) (a
 unfolding rule_of
 stage_sound b t s = refl
 
-stages_go : (b : Block) (t : Sections) (line : ℕ) (stages : List Stage) → list_all is_stage stages ≡ true
+stages_go : (b : Block) (t : Sections) (line : ℕ) (stages : List Stage) → list_all is_printable_stage stages ≡ true
     → Goes (within b t) line (map stage_words stages) (within (record b { stages = b.stages ++ stages_numbered line stages }) t)
 stages_go b t line [] are = ap (λ (ss : List Stage). within (record b { stages = ss }) t) (sym (append-nil b.stages))
 stages_go b t line (s ∷ stages) are =
-    let both = and_parts (is_stage s) (list_all is_stage stages) are in
+    let both = and_parts (is_printable_stage s) (list_all is_printable_stage stages) are in
     let a = and_parts _ _ both.0 in
     let d = and_parts _ _ a.0 in
-    let e = and_parts (is_free s.function) _ d.0 in
+    let e = and_parts (is_unreserved s.function) _ d.0 in
     let here : Stage = record s { line = line } in
     let more : List Stage = stages_numbered (line + 1) stages in
     let now : Block = record b { stages = b.stages ++ here ∷ [] } in
@@ -176,11 +176,11 @@ end_sound b t = refl
 abbrev block_numbered : ℕ → Block → Block
 block_numbered line b = record b { line = line; stages = stages_numbered (line + 1) b.stages }
 
-block_goes : (p : Phase) (t : Sections) (line : ℕ) (b : Block) → is_middle p ≡ true → is_block b ≡ true
+block_goes : (p : Phase) (t : Sections) (line : ℕ) (b : Block) → is_middle p ≡ true → is_printable_block b ≡ true
     → Goes (outside p [] t) line (block_words b) (outside phase.Blocks [] (record t { blocks = t.blocks ++ block_numbered line b ∷ [] }))
 block_goes p t line b middle are =
-    let both = and_parts _ (list_all is_stage b.stages) are in
-    let front = and_parts (is_free b.name) (list_all is_free b.arguments) both.0 in
+    let both = and_parts _ (list_all is_printable_stage b.stages) are in
+    let front = and_parts (is_unreserved b.name) (list_all is_unreserved b.arguments) both.0 in
     let bare : Block = record b { line = line; stages = [] } in
     let whole : Block = block_numbered line b in
     let opens =
@@ -195,12 +195,12 @@ block_goes p t line b middle are =
           (stages_go bare t (line + 1) b.stages both.1) (outside phase.Blocks [] (record t { blocks = t.blocks ++ whole ∷ [] }), closes, refl),
     )
 
-pub blocks_go : (p : Phase) (t : Sections) (line : ℕ) (blocks : List Block) → is_middle p ≡ true → list_all is_block blocks ≡ true
+pub blocks_go : (p : Phase) (t : Sections) (line : ℕ) (blocks : List Block) → is_middle p ≡ true → list_all is_printable_block blocks ≡ true
     → Goes (outside p [] t) line (flat_map block_words blocks) (outside (moved p phase.Blocks blocks) []
     (record t { blocks = t.blocks ++ blocks_numbered line blocks }))
 blocks_go p t line [] middle are = ap (λ (bs : List Block). outside p [] (record t { blocks = bs })) (sym (append-nil t.blocks))
 blocks_go p t line (b ∷ blocks) middle are =
-    let both = and_parts (is_block b) (list_all is_block blocks) are in
+    let both = and_parts (is_printable_block b) (list_all is_printable_block blocks) are in
     let here : Block = block_numbered line b in
     let next : ℕ = line + length (block_words b) in
     let more : List Block = blocks_numbered next blocks in

@@ -4,7 +4,7 @@ use Rattle.std.specs.Prelude.{◌==◌}
 use Rattle.std.specs.List.{flat_map}
 use Rattle.std.proofs.lemmas.Bool.{eq-eqb, ne_eqb, false≢true}
 use Rattle.nim_lex.specs.declared.token.Token.{Token}
-use Rattle.nim_lex.specs.Texts.{text_of}
+use Rattle.nim_lex.specs.Texts.{token_text}
 use Rattle.nim_parse.specs.Driver.{before, lines, number_of}
 use Rattle.nim_printed.specs.Words.{Word, kind_of, line_text, line_tokens_of, lines_tokens_of}
 use Rattle.nim_printed.proofs.TreeReads.{Spells, SpellsOne}
@@ -87,20 +87,20 @@ same_rest : {A : Type 0} (x y : A) (xs ys : List A) → x ∷ xs ≡ y ∷ ys �
 same_rest x y xs ys same = cc
 
 line_spells : (source : List ℕ) (line at : ℕ) (words : List Word) (tail : List Token) (rest : List Word)
-    → map (text_of source) (line_tokens_of line at words ++ tail) ≡ words ++ rest
-    → Spells source (line_tokens_of line at words) words × (map (text_of source) tail ≡ rest)
+    → map (token_text source) (line_tokens_of line at words ++ tail) ≡ words ++ rest
+    → Spells source (line_tokens_of line at words) words × (map (token_text source) tail ≡ rest)
 line_spells source line at [] tail rest texts = (tt, texts)
 line_spells source line at (word ∷ words) tail rest texts =
     let t : Token = record { line = line; at = at; len = length word; kind = kind_of word } in
     let ts : List Token = line_tokens_of line (at + length word + 1) words in
     let later = line_spells source line (at + length word + 1) words tail rest
-    (same_rest (text_of source t) word (map (text_of source) (ts ++ tail)) (words ++ rest) texts) in
+    (same_rest (token_text source t) word (map (token_text source) (ts ++ tail)) (words ++ rest) texts) in
     let here : SpellsOne source t word =
-    record { text = same_first (text_of source t) word (map (text_of source) (ts ++ tail)) (words ++ rest) texts; kind = refl } in
+    record { text = same_first (token_text source t) word (map (token_text source) (ts ++ tail)) (words ++ rest) texts; kind = refl } in
     ((here, later.0), later.1)
 
 pub lines_spell : (source : List ℕ) (line at : ℕ) (all : List (List Word)) → AreLines all
-    → map (text_of source) (lines_tokens_of line at all) ≡ flat_map (λ words. words) all → LinesSpell source line (grouped line at all) all
+    → map (token_text source) (lines_tokens_of line at all) ≡ flat_map (λ words. words) all → LinesSpell source line (grouped line at all) all
 lines_spell source line at [] are texts = tt
 lines_spell source line at ([] ∷ more) are texts = absurd (false≢true are.0)
 lines_spell source line at ((word ∷ words) ∷ more) are texts =

@@ -11,15 +11,15 @@ use Rattle.nim_parse.specs.declared.form.Head.TheVariants as head
 use Rattle.nim_parse.specs.declared.state.State.{State}
 use Rattle.nim_parse.specs.declared.sections.Statement.{Statement}
 use Rattle.nim_parse.specs.declared.sections.Statement.TheVariants.{Do, Let, Get, Loop, While, If, Else, End, Checkpoint, Output}
-use Rattle.nim_parse.specs.Driver.{after_form, after_lines, begun, first_refusal, found, next, number_of, with_head}
+use Rattle.nim_parse.specs.Driver.{after_form, after_lines, found_in_input, first_refusal, found_line, next_state, number_of, with_head}
 use Rattle.nim_parse.specs.Grammar.{head_in, head_of, heads, line_form}
-use Rattle.nim_parse.specs.Input.{Input, sees, start}
+use Rattle.nim_parse.specs.Input.{Input, sees, unread_line}
 use Rattle.nim_parse.specs.Rules.{rule_at_end, rule_of}
-use Rattle.nim_parse.specs.States.{after}
+use Rattle.nim_parse.specs.States.{with_form}
 use Rattle.nim_parse.proofs.LineSteps.{refusal_later}
 use Rattle.nim_check.specs.Names.{reserved}
 use Rattle.nim_printed.specs.Lines.{statement_words}
-use Rattle.nim_printed.specs.Spelled.{is_free}
+use Rattle.nim_printed.specs.Spelled.{is_unreserved}
 use Rattle.nim_printed.specs.Words.{Word}
 use Rattle.nim_printed.proofs.TreeForms.{head_for}
 use Rattle.nim_printed.proofs.TreeReads.{Reads, Spells, first_text}
@@ -48,17 +48,17 @@ begins_with first word rest is = record { some = refl; headed = λ i spelled. he
 
 abbrev are_taken : List (Word × Head) → Type 0
 are_taken [] = Unit {0}
-are_taken (h ∷ hs) = (is_free h.0 ≡ false) × are_taken hs
+are_taken (h ∷ hs) = (is_unreserved h.0 ≡ false) × are_taken hs
 
-no_head : (hs : List (Word × Head)) (word : Word) → are_taken hs → is_free word ≡ true → head_among hs word ≡ head.Other
+no_head : (hs : List (Word × Head)) (word : Word) → are_taken hs → is_unreserved word ≡ true → head_among hs word ≡ head.Other
 no_head [] word taken free = refl
-no_head (h ∷ hs) word taken free = rw (differ is_free word h.0 free taken.0) (no_head hs word taken.1 free)
+no_head (h ∷ hs) word taken free = rw (differ is_unreserved word h.0 free taken.0) (no_head hs word taken.1 free)
 
 heads_taken : are_taken heads
 unfolding reserved
 heads_taken = (refl, (refl, (refl, (refl, (refl, (refl, (refl, (refl, (refl, (refl, (refl, (refl, (refl, (refl, tt))))))))))))))
 
-pub free_headed : (word : Word) (rest : List Word) → is_free word ≡ true → Headed head.Other (word ∷ rest)
+pub free_headed : (word : Word) (rest : List Word) → is_unreserved word ≡ true → Headed head.Other (word ∷ rest)
 free_headed word rest free = begins_with head.Other word rest (no_head heads word heads_taken free)
 
 pub statement_headed : (s : Statement) → Headed (head_for s) (statement_words s)
@@ -78,26 +78,26 @@ statement_headed (Output variable) = begins_with head.Output (codes "output") _ 
 -- no rule refuses a line of this number and these words, and this is the state behind it
 pub record Passes (st : State) (line : ℕ) (words : List Word) (now : State) : Type 0 where
   pub some : is_line words ≡ true
-  pub sound : (source : List ℕ) (ts : List Token) → number_of ts ≡ line → Spells source ts words → rule_of st (found source st ts) ≡ None
-  pub now_is : (source : List ℕ) (ts : List Token) → number_of ts ≡ line → Spells source ts words → next source st ts ≡ now
+  pub sound : (source : List ℕ) (ts : List Token) → number_of ts ≡ line → Spells source ts words → rule_of st (found_line source st ts) ≡ None
+  pub now_is : (source : List ℕ) (ts : List Token) → number_of ts ≡ line → Spells source ts words → next_state source st ts ≡ now
 
 abbrev pub as_found : Head → Form → Found
 as_found first f = record { head = first; form = Some f; fits = true }
 
 found_is : (st : State) (line : ℕ) (words : List Word) (first : Head) (f : Form) → Headed first words
     → Reads (line_form (is_some st.block) line first) words f []
-    → (source : List ℕ) (ts : List Token) → number_of ts ≡ line → Spells source ts words → found source st ts ≡ as_found first f
-unfolding found
+    → (source : List ℕ) (ts : List Token) → number_of ts ≡ line → Spells source ts words → found_line source st ts ≡ as_found first f
+unfolding found_line
 found_is st line words first f headed reading source ts numbered spelled =
-    let i : Input = start source ts in
+    let i : Input = unread_line source ts in
     let one = reading.reads i spelled in
-    ap (λ n. begun st n i) numbered
+    ap (λ n. found_in_input st n i) numbered
     ∙ ap (λ h. with_head h (line_form (is_some st.block) line h i)) (headed.headed i spelled)
     ∙ ap (with_head first) one.gives
 
 pub line_passes : (st : State) (line : ℕ) (words : List Word) (first : Head) (f : Form) → Headed first words
     → Reads (line_form (is_some st.block) line first) words f []
-    → rule_of st (as_found first f) ≡ None → Passes st line words (after st f)
+    → rule_of st (as_found first f) ≡ None → Passes st line words (with_form st f)
 line_passes st line words first f headed reading sound = record {
   some = headed.some;
   sound = λ source ts numbered spelled. ap (rule_of st) (found_is st line words first f headed reading source ts numbered spelled) ∙ sound;
@@ -135,7 +135,7 @@ walked source st line [] end (ts ∷ tss) goes spelled = absurd spelled
 walked source st line (words ∷ more) end [] goes spelled = absurd spelled
 walked source st line (words ∷ more) end (ts ∷ tss) goes spelled =
     let now : State = goes.0 in
-    let step : next source st ts ≡ now = goes.1.now_is source ts spelled.0 spelled.1 in
+    let step : next_state source st ts ≡ now = goes.1.now_is source ts spelled.0 spelled.1 in
     let later = walked source now (line + 1) more end tss goes.2 spelled.2 in (
       ap (λ (s : State). after_lines source s tss) step ∙ later.0,
       refusal_later source st ts tss (goes.1.sound source ts spelled.0 spelled.1) ∙ ap (λ (s : State). first_refusal source s tss) step ∙ later.1,

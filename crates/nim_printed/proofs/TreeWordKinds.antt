@@ -9,9 +9,9 @@ use Rattle.std.proofs.lemmas.List.Folds.{list_all-append}
 use Rattle.std.proofs.lemmas.Slice.Eq.{bytes_eq-Decides}
 use Rattle.std.proofs.lemmas.Bool.Decides.{nat_tests}
 use Rattle.nim_lex.specs.declared.token.TokenKind.TheVariants.{Name, Number}
-use Rattle.nim_lex.specs.Numbers.{number_of}
+use Rattle.nim_lex.specs.Numbers.{decimal_value}
 use Rattle.nim_lex.specs.Texts.{is_name, is_numeral}
-use Rattle.nim_printed.specs.Spelled.{is_free, is_small}
+use Rattle.nim_printed.specs.Spelled.{is_unreserved, is_small}
 use Rattle.nim_printed.specs.Words.{Word, is_short_name, is_small_numeral, kind_of}
 
 pub bytes_same : (word : Word) → bytes_eq word word ≡ true
@@ -25,10 +25,10 @@ differ test word text passes fails =
 
 -- ---- free names
 
-pub free_short : (word : Word) → is_free word ≡ true → is_short_name word ≡ true
+pub free_short : (word : Word) → is_unreserved word ≡ true → is_short_name word ≡ true
 free_short word free = (and_parts (is_short_name word) _ free).0
 
-pub free_name : (word : Word) → is_free word ≡ true → is_name word ≡ true
+pub free_name : (word : Word) → is_unreserved word ≡ true → is_name word ≡ true
 free_name word free = (and_parts (is_name word) _ (free_short word free)).0
 
 pub kind_name : (word : Word) → is_name word ≡ true → kind_of word ≡ Name
@@ -37,7 +37,7 @@ kind_name word named = rw named refl
 -- ---- numerals
 
 abbrev IsNumeralOf : ℕ → List ℕ → Type 0
-IsNumeralOf n digits = (is_numeral digits ≡ true) × (number_of digits ≡ n)
+IsNumeralOf n digits = (is_numeral digits ≡ true) × (decimal_value digits ≡ n)
 
 one_digit : (n : ℕ) → n < 10 → is_ascii_digit (48 + n) ≡ true
 one_digit n small = grind (arith, nat_tests)
@@ -68,7 +68,7 @@ small_bound n small = leb-true n 9223372036854775808 small
 pub decimal_is_numeral : (n : ℕ) → is_small n ≡ true → is_numeral (decimal n) ≡ true
 decimal_is_numeral n small = let bound = small_bound n small in (decimal_numeral n (omega arith)).0
 
-pub decimal_number : (n : ℕ) → is_small n ≡ true → number_of (decimal n) ≡ n
+pub decimal_number : (n : ℕ) → is_small n ≡ true → decimal_value (decimal n) ≡ n
 decimal_number n small = let bound = small_bound n small in (decimal_numeral n (omega arith)).1
 
 pub decimal_is_small : (n : ℕ) → is_small n ≡ true → is_small_numeral (decimal n) ≡ true

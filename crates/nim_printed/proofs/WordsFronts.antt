@@ -9,7 +9,7 @@ use Rattle.std.proofs.lemmas.Slice.Eq.{bytes_eq-Decides}
 use Rattle.nim_lex.specs.declared.token.TokenKind.{TokenKind}
 use Rattle.nim_lex.specs.declared.token.TokenKind.TheVariants.{Name, Number, Sign}
 use Rattle.nim_lex.specs.Bytes.{is_blank, is_hash, is_name_byte}
-use Rattle.nim_lex.specs.Numbers.{number_of}
+use Rattle.nim_lex.specs.Numbers.{decimal_value}
 use Rattle.nim_lex.specs.Pieces.{Front, front_of, piece}
 use Rattle.nim_lex.specs.Rules.{broken_by}
 use Rattle.nim_lex.specs.Texts.{is_name, is_numeral}
@@ -80,7 +80,7 @@ name_front b rest after letter are ends =
     rw (prefix_all is_name_byte (b ∷ rest) after ends all, letter) refl
 
 numeral_front : (b : ℕ) (rest after : List ℕ) → is_ascii_digit b ≡ true → list_all is_ascii_digit rest ≡ true → Ends is_ascii_digit after
-    → front_of (b ∷ rest ++ after) ≡ front_at (b ∷ rest) (Number (number_of (b ∷ rest)))
+    → front_of (b ∷ rest ++ after) ≡ front_at (b ∷ rest) (Number (decimal_value (b ∷ rest)))
 numeral_front b rest after digit are ends =
     let all : list_all is_ascii_digit (b ∷ rest) ≡ true = rw (digit, are) refl in
     let long : prefix_len is_ascii_digit (b ∷ rest ++ after) ≡ length (b ∷ rest) = prefix_all is_ascii_digit (b ∷ rest) after ends all in
@@ -115,13 +115,13 @@ name_reads (b ∷ rest) named =
     } in
     subst (ReadsAs (b ∷ rest)) (sym (kind_name (b ∷ rest) parts.0)) read
 
-kind_numeral : (word : Word) → is_numeral word ≡ true → kind_of word ≡ Number (number_of word)
+kind_numeral : (word : Word) → is_numeral word ≡ true → kind_of word ≡ Number (decimal_value word)
 kind_numeral word numeral = rw (numeral_no_name word numeral, numeral) refl
 
 numeral_reads : (word : Word) → is_small_numeral word ≡ true → Reads word
 numeral_reads [] numeral = absurd (false≢true numeral)
 numeral_reads (b ∷ rest) numeral =
-    let value : ℕ = number_of (b ∷ rest) in
+    let value : ℕ = decimal_value (b ∷ rest) in
     let parts = and_parts (is_numeral (b ∷ rest)) (nat_le value 9223372036854775808) numeral in
     let bytes = and_parts (is_ascii_digit b) (list_all is_ascii_digit rest) parts.0 in
     let read : ReadsAs (b ∷ rest) (Number value) = record {

@@ -6,8 +6,8 @@ use Rattle.std.proofs.lemmas.Bool.{and_parts, le-ltb}
 use Rattle.std.proofs.lemmas.List.{append-nil, drop-drop, drop_at, map-append, take_at}
 use Rattle.nim_lex.specs.declared.token.Token.{Token}
 use Rattle.nim_lex.specs.Rules.{broken_by}
-use Rattle.nim_lex.specs.Source.{cut, first_refusal, line_at, line_tokens, numbered, token_of}
-use Rattle.nim_lex.specs.Texts.{text_of}
+use Rattle.nim_lex.specs.Source.{cut, first_refusal, line_at, line_tokens, numbered_lines, token_of}
+use Rattle.nim_lex.specs.Texts.{token_text}
 use Rattle.nim_lex.proofs.SourceSteps.{cut_line, refusal_later}
 use Rattle.nim_printed.specs.Laws.{WordsAreRead, most_bytes}
 use Rattle.nim_printed.specs.Words.{Word, is_word, line_text, line_tokens_of, lines_text, lines_tokens_of}
@@ -45,17 +45,17 @@ cut_lines (words ∷ lines) are =
 
 -- ---- no line is refused, and its tokens are its words
 
-lines_sound : (number at : ℕ) (lines : List (List Word)) → AreLines lines → first_refusal (numbered number at (map line_bytes lines)) ≡ None
+lines_sound : (number at : ℕ) (lines : List (List Word)) → AreLines lines → first_refusal (numbered_lines number at (map line_bytes lines)) ≡ None
 lines_sound number at [] are = refl
 lines_sound number at (words ∷ lines) are =
     let both = and_parts (list_all is_word words) (list_all (list_all is_word) lines) are in
     let next : ℕ = at + length (line_bytes words) + 1 in
-    refusal_later (line_at number at (line_bytes words)) (numbered (number + 1) next (map line_bytes lines))
+    refusal_later (line_at number at (line_bytes words)) (numbered_lines (number + 1) next (map line_bytes lines))
     (ap broken_by (line_pieces at words both.0) ∙ pieces_sound at words both.0)
     ∙ lines_sound (number + 1) next lines both.1
 
 lines_tokens : (number at : ℕ) (lines : List (List Word)) → AreLines lines
-    → flat_map line_tokens (numbered number at (map line_bytes lines)) ≡ lines_tokens_of number at lines
+    → flat_map line_tokens (numbered_lines number at (map line_bytes lines)) ≡ lines_tokens_of number at lines
 lines_tokens number at [] are = refl
 lines_tokens number at (words ∷ lines) are =
     let both = and_parts (list_all is_word words) (list_all (list_all is_word) lines) are in
@@ -75,7 +75,7 @@ text_after : (source : List ℕ) (at n : ℕ) (word after : List ℕ) → drop a
 text_after source at n word after here long = sym (drop-drop n at source) ∙ ap (drop n) here ∙ drop_at word after n long
 
 words_texts : (source : List ℕ) (number at : ℕ) (word : Word) (words : List Word) (after : List ℕ) → drop at source ≡ word ++ more_bytes words ++ 10 ∷ after
-    → map (text_of source) (line_tokens_of number at (word ∷ words)) ≡ word ∷ words
+    → map (token_text source) (line_tokens_of number at (word ∷ words)) ≡ word ∷ words
 words_texts source number at word [] after here =
     ap (λ (text : Word). text ∷ []) (text_here source at word (10 ∷ after) (here ∙ append_assoc word [] (10 ∷ after)))
 words_texts source number at word (next ∷ words) after here =
@@ -88,16 +88,16 @@ words_texts source number at word (next ∷ words) after here =
     (words_texts source number (at + length word + 1) next words after on)
 
 line_texts : (source : List ℕ) (number at : ℕ) (words : List Word) (after : List ℕ) → drop at source ≡ line_bytes words ++ 10 ∷ after
-    → map (text_of source) (line_tokens_of number at words) ≡ words
+    → map (token_text source) (line_tokens_of number at words) ≡ words
 line_texts source number at [] after here = refl
 line_texts source number at (word ∷ words) after here = words_texts source number at word words after here
 
 lines_texts : (source : List ℕ) (number at : ℕ) (lines : List (List Word)) → drop at source ≡ lines_text lines
-    → map (text_of source) (lines_tokens_of number at lines) ≡ flat_map (λ words. words) lines
+    → map (token_text source) (lines_tokens_of number at lines) ≡ flat_map (λ words. words) lines
 lines_texts source number at [] here = refl
 lines_texts source number at (words ∷ lines) here =
     let n : ℕ = length (line_text words) in
-    map-append (text_of source) (line_tokens_of number at words) (lines_tokens_of (number + 1) (at + n) lines)
+    map-append (token_text source) (line_tokens_of number at words) (lines_tokens_of (number + 1) (at + n) lines)
     ∙ ap₂ (λ (xs ys : List Word). xs ++ ys)
     (line_texts source number at words (lines_text lines) (here ∙ lines_text_is words lines))
     (lines_texts source (number + 1) (at + n) lines (text_after source at n (line_text words) (lines_text lines) here refl))
@@ -109,7 +109,7 @@ words_read lines are long =
     let source : List ℕ = lines_text lines in
     let fits : nat_lt most_bytes (length source) ≡ false = le-ltb most_bytes (length source) long in
     record {
-      sound = rw fits (ap (λ ls. first_refusal (numbered 1 0 ls)) (cut_lines lines are) ∙ lines_sound 1 0 lines are);
-      tokens = ap (λ ls. flat_map line_tokens (numbered 1 0 ls)) (cut_lines lines are) ∙ lines_tokens 1 0 lines are;
+      sound = rw fits (ap (λ ls. first_refusal (numbered_lines 1 0 ls)) (cut_lines lines are) ∙ lines_sound 1 0 lines are);
+      tokens = ap (λ ls. flat_map line_tokens (numbered_lines 1 0 ls)) (cut_lines lines are) ∙ lines_tokens 1 0 lines are;
       texts = lines_texts source 1 0 lines refl;
     }

@@ -22,8 +22,8 @@ use Rattle.nim_check.specs.Names.{has_twice, is_in, reserved}
 use Rattle.nim_printed.specs.Words.{Word, is_short_name}
 
 -- a name that isn't a reserved word
-abbrev pub is_free : Word → Bool
-is_free word = is_short_name word && not (is_in reserved word)
+abbrev pub is_unreserved : Word → Bool
+is_unreserved word = is_short_name word && not (is_in reserved word)
 
 -- a number that the language can write
 abbrev pub is_small : ℕ → Bool
@@ -37,39 +37,39 @@ is_int (negsuc n) = nat_le n 9223372036854775807
 -- ---- jobs
 
 -- a number that fills the variable is one of 64 bits
-abbrev pub is_init : job_init → Bool
-is_init (init.Fill number) = is_int number
-is_init _ = true
+abbrev pub is_spelled_init : job_init → Bool
+is_spelled_init (init.Fill number) = is_int number
+is_spelled_init _ = true
 
 -- the number of a part, or what is added to the task's own number or taken away, can be written
-abbrev pub is_place : Place → Bool
-is_place (Fixed n) = is_small n
-is_place (Plus n) = is_small n
-is_place (Minus n) = is_small n
+abbrev pub is_spelled_place : Place → Bool
+is_spelled_place (Fixed n) = is_small n
+is_spelled_place (Plus n) = is_small n
+is_spelled_place (Minus n) = is_small n
 
 -- a parameter that is a number is one of 64 bits
-abbrev pub is_param : Param → Bool
-is_param (param.Const number) = is_int number
-is_param (param.Arg arg) = true
+abbrev pub is_spelled_param : Param → Bool
+is_spelled_param (param.Const number) = is_int number
+is_spelled_param (param.Arg arg) = true
 
 -- all numbers in the references and parameters of a stage can be written
-abbrev pub is_stage : job_stage → Bool
-is_stage stage =
-    list_all (λ (ref : job_ref). is_place ref.place) (stage.reads ++ stage.writes) && list_all is_param stage.params
+abbrev pub is_spelled_stage : job_stage → Bool
+is_spelled_stage stage =
+    list_all (λ (ref : job_ref). is_spelled_place ref.place) (stage.reads ++ stage.writes) && list_all is_spelled_param stage.params
 
 -- an atom that is a number is one of 64 bits
-abbrev pub is_atom : job_atom → Bool
-is_atom (atom.Const number) = is_int number
-is_atom (atom.Scalar scalar) = true
+abbrev pub is_spelled_atom : job_atom → Bool
+is_spelled_atom (atom.Const number) = is_int number
+is_spelled_atom (atom.Scalar scalar) = true
 
 -- the second atom of a `let`, if it has one, can be written
-abbrev pub is_rest : Option (Arith × job_atom) → Bool
-is_rest None = true
-is_rest (Some rest) = is_atom rest.1
+abbrev pub is_spelled_rest : Option (Arith × job_atom) → Bool
+is_spelled_rest None = true
+is_spelled_rest (Some rest) = is_spelled_atom rest.1
 
 -- both atoms of a condition can be written
-abbrev pub is_cond : Cond → Bool
-is_cond cond = is_atom cond.left && is_atom cond.right
+abbrev pub is_spelled_cond : Cond → Bool
+is_spelled_cond cond = is_spelled_atom cond.left && is_spelled_atom cond.right
 
 -- all parts of a body can be written
 abbrev pub all_true : List Bool → Bool
@@ -77,12 +77,12 @@ all_true parts = list_all (λ part. part) parts
 
 -- the numbers of a statement can be written, and so can the statements that it holds
 abbrev pub is_stmt : Stmt-F Bool → Bool
-is_stmt (Stmt-F.Do block args) = list_all is_atom args
-is_stmt (Stmt-F.Let scalar first rest) = is_atom first && is_rest rest
+is_stmt (Stmt-F.Do block args) = list_all is_spelled_atom args
+is_stmt (Stmt-F.Let scalar first rest) = is_spelled_atom first && is_spelled_rest rest
 is_stmt (Stmt-F.Get scalar var part row cell) = is_small part && is_small row && is_small cell
-is_stmt (Stmt-F.Loop turns body) = is_atom turns && all_true body
-is_stmt (Stmt-F.While cond body) = is_cond cond && all_true body
-is_stmt (Stmt-F.If cond first second) = is_cond cond && all_true first && all_true second
+is_stmt (Stmt-F.Loop turns body) = is_spelled_atom turns && all_true body
+is_stmt (Stmt-F.While cond body) = is_spelled_cond cond && all_true body
+is_stmt (Stmt-F.If cond first second) = is_spelled_cond cond && all_true first && all_true second
 is_stmt Stmt-F.Checkpoint = true
 is_stmt (Stmt-F.Output var) = true
 
@@ -92,9 +92,9 @@ names_in job = map (λ v. v.name) job.vars ++ map (λ b. b.name) job.blocks
 
 -- Variables and blocks have names of their own that aren't reserved, and each number can be written.
 abbrev pub is_spelled : Job → Bool
-is_spelled job = list_all is_free (names_in job) && not (has_twice (names_in job))
-    && list_all (λ (v : job_var). is_init v.init) job.vars
-    && list_all (λ (b : job_block). list_all is_stage b.stages) job.blocks
+is_spelled job = list_all is_unreserved (names_in job) && not (has_twice (names_in job))
+    && list_all (λ (v : job_var). is_spelled_init v.init) job.vars
+    && list_all (λ (b : job_block). list_all is_spelled_stage b.stages) job.blocks
     && list_all (λ (stmt : Stmt). fold-Stmt Bool is_stmt stmt) job.body
 
 -- the same job, loaded data not yet there

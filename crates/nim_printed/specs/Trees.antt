@@ -24,12 +24,12 @@ use Rattle.nim_parse.specs.declared.sections.Steps.{Steps}
 use Rattle.nim_parse.specs.declared.sections.Sections.{Sections}
 use Rattle.nim_parse.specs.declared.sections.Var.{Var}
 use Rattle.nim_parse.specs.Nesting.{is_empty, open_after}
-use Rattle.nim_printed.specs.Spelled.{is_free, is_int, is_small}
+use Rattle.nim_printed.specs.Spelled.{is_unreserved, is_int, is_small}
 
 -- a number of 64 bits with its sign, or a name that isn't reserved
-abbrev pub is_atom : Atom → Bool
-is_atom (Number number) = is_int number
-is_atom (Name name) = is_free name
+abbrev pub is_printable_atom : Atom → Bool
+is_printable_atom (Number number) = is_int number
+is_printable_atom (Name name) = is_unreserved name
 
 -- the number of a part, or what is added to `i` or taken away, can be written
 abbrev pub is_index : Index → Bool
@@ -39,13 +39,13 @@ is_index (After number) = is_small number
 is_index (Before number) = is_small number
 
 -- a name that isn't reserved, and a part that can be written
-abbrev pub is_ref : Ref → Bool
-is_ref ref = is_free ref.name && is_index ref.index
+abbrev pub is_printable_ref : Ref → Bool
+is_printable_ref ref = is_unreserved ref.name && is_index ref.index
 
 -- a number that fills the variable is one of 64 bits
-abbrev pub is_init : Init → Bool
-is_init (Fill number) = is_int number
-is_init _ = true
+abbrev pub is_printable_init : Init → Bool
+is_printable_init (Fill number) = is_int number
+is_printable_init _ = true
 
 -- the most statements that are counted, if that is said, can be written
 abbrev pub is_steps : Option Steps → Bool
@@ -53,46 +53,46 @@ is_steps None = true
 is_steps (Some steps) = is_small steps.most
 
 -- a name that isn't reserved, and numbers that can be written
-abbrev pub is_var : Var → Bool
-is_var v = is_free v.name && is_small v.parts && is_small v.width && is_small v.rows && is_init v.init
+abbrev pub is_printable_var : Var → Bool
+is_printable_var v = is_unreserved v.name && is_small v.parts && is_small v.width && is_small v.rows && is_printable_init v.init
 
 -- one reference or more, each of which can be written
 abbrev pub is_some_refs : List Ref → Bool
 is_some_refs [] = false
-is_some_refs (ref ∷ refs) = list_all is_ref (ref ∷ refs)
+is_some_refs (ref ∷ refs) = list_all is_printable_ref (ref ∷ refs)
 
 -- a name that isn't reserved, one write or more, and references and parameters that can be written
-abbrev pub is_stage : Stage → Bool
-is_stage stage = is_free stage.function && list_all is_ref stage.reads && is_some_refs stage.writes
-    && list_all is_atom stage.parameters
+abbrev pub is_printable_stage : Stage → Bool
+is_printable_stage stage = is_unreserved stage.function && list_all is_printable_ref stage.reads && is_some_refs stage.writes
+    && list_all is_printable_atom stage.parameters
 
 -- a block's name and its arguments aren't reserved, and each of its stages can be written
-abbrev pub is_block : Block → Bool
-is_block block = is_free block.name && list_all is_free block.arguments && list_all is_stage block.stages
+abbrev pub is_printable_block : Block → Bool
+is_printable_block block = is_unreserved block.name && list_all is_unreserved block.arguments && list_all is_printable_stage block.stages
 
 -- each atom of the value of a `let` can be written
-abbrev pub is_value : Expression → Bool
-is_value (Alone atom) = is_atom atom
-is_value (Two left operator right) = is_atom left && is_atom right
+abbrev pub is_printable_value : Expression → Bool
+is_printable_value (Alone atom) = is_printable_atom atom
+is_printable_value (Two left operator right) = is_printable_atom left && is_printable_atom right
 
 -- each atom of a condition can be written
 abbrev pub is_condition : Condition → Bool
-is_condition (NotZero atom) = is_atom atom
-is_condition (Holds left relation right) = is_atom left && is_atom right
+is_condition (NotZero atom) = is_printable_atom atom
+is_condition (Holds left relation right) = is_printable_atom left && is_printable_atom right
 
 -- the names of a statement aren't reserved, and its atoms and numbers can be written
 abbrev pub is_statement : Statement → Bool
-is_statement (Do block arguments) = is_free block && list_all is_atom arguments
-is_statement (Let name value) = is_free name && is_value value
+is_statement (Do block arguments) = is_unreserved block && list_all is_printable_atom arguments
+is_statement (Let name value) = is_unreserved name && is_printable_value value
 is_statement (Get name variable part row column) =
-    is_free name && is_free variable && is_small part && is_small row && is_small column
-is_statement (Loop turns) = is_atom turns
+    is_unreserved name && is_unreserved variable && is_small part && is_small row && is_small column
+is_statement (Loop turns) = is_printable_atom turns
 is_statement (While condition) = is_condition condition
 is_statement (If condition) = is_condition condition
 is_statement Else = true
 is_statement End = true
 is_statement Checkpoint = true
-is_statement (Output variable) = is_free variable
+is_statement (Output variable) = is_unreserved variable
 
 -- nothing is open behind the statements
 abbrev pub is_closed : Option (List Open) → Bool
@@ -101,6 +101,6 @@ is_closed (Some opened) = is_empty opened
 
 -- each line of a tree can be written, and its statements close all that they open
 abbrev pub is_printable : Sections → Bool
-is_printable tree = is_steps tree.steps && list_all is_var tree.vars && list_all is_block tree.blocks
+is_printable tree = is_steps tree.steps && list_all is_printable_var tree.vars && list_all is_printable_block tree.blocks
     && list_all (λ (line : Line). is_statement line.statement) tree.statements
     && is_closed (open_after [] tree.statements)

@@ -4,7 +4,7 @@ use Rattle.std.specs.List.{flat_map, list_any}
 use Rattle.nim_lex.specs.declared.token.Token.{Token}
 use Rattle.nim_lex.specs.declared.token.TokenKind.{TokenKind}
 use Rattle.nim_lex.specs.declared.token.TokenKind.TheVariants.{Name, Number, Sign}
-use Rattle.nim_lex.specs.Numbers.{number_of}
+use Rattle.nim_lex.specs.Numbers.{decimal_value}
 use Rattle.nim_lex.specs.Pieces.{signs}
 use Rattle.nim_lex.specs.Texts.{is_name, is_numeral}
 
@@ -18,7 +18,7 @@ is_short_name word = is_name word && nat_le (length word) 16
 
 -- a number that isn't too great
 abbrev pub is_small_numeral : Word → Bool
-is_small_numeral word = is_numeral word && nat_le (number_of word) 9223372036854775808
+is_small_numeral word = is_numeral word && nat_le (decimal_value word) 9223372036854775808
 
 -- one of the signs of the language
 abbrev pub is_sign : Word → Bool
@@ -44,7 +44,7 @@ lines_text lines = flat_map line_text lines
 
 -- a name, a number with its value, or else a sign
 abbrev pub kind_of : Word → TokenKind
-kind_of word = if is_name word then Name else if is_numeral word then Number (number_of word) else Sign
+kind_of word = if is_name word then Name else if is_numeral word then Number (decimal_value word) else Sign
 
 -- the tokens of the words of a line of this number, the first of them at a place
 abbrev pub line_tokens_of : ℕ → ℕ → List Word → List Token

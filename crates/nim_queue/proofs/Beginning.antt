@@ -12,12 +12,12 @@ use Rattle.nim_command.specs.Slots.{does_read, does_write}
 use Rattle.nim_command.specs.Waits.{Member, is_written_by, members_of}
 use Rattle.nim_queue.specs.Used.{used_in}
 use Rattle.nim_queue.specs.Counts.{is_free, is_in}
-use Rattle.nim_queue.specs.Stands.{Keeps, is_reader, is_writer, kept_at, nothing_done}
+use Rattle.nim_queue.specs.Stands.{KeepsGroups, is_reader, is_writer, kept_at, nothing_done}
 use Rattle.nim_queue.specs.declared.queue.BeforeQueue.{BeforeQueue}
 use Rattle.nim_queue.proofs.Looking.{none_pass, waits_none}
 
 pub begun : (queue : BeforeQueue) → ((t : ℕ) → get nat_eq queue.waiting t ≡ None) → ((s : ℕ) → used_in queue.slots.items s ≡ None)
-    → queue.released.items.items ≡ [] → queue.given ≡ 0 → queue.groups ≡ 0 → Keeps queue [] nothing_done
+    → queue.released.items.items ≡ [] → queue.given ≡ 0 → queue.groups ≡ 0 → KeepsGroups queue [] nothing_done
 begun queue gone unused released given groups =
     let absent : (t : ℕ) → slice_get (members_of []) t ≡ None = λ t. slice_get_past (members_of []) t (omega arith) in
     let last : (Kind → Slot → Bool) → ℕ → ℕ → Option Member → Bool =

@@ -9,7 +9,7 @@ use Rattle.std.proofs.Math.Path.{fun_ext}
 use Rattle.nim_command.specs.Waits.{Group, Member, members_of, waits_of}
 use Rattle.nim_queue.specs.Used.{used_in}
 use Rattle.nim_queue.specs.Counts.{AreBrief, AreReleased, fewer, is_in, times}
-use Rattle.nim_queue.specs.Stands.{Keeps, count_of, done_with, is_reader, is_writer, kept_at, open_waits}
+use Rattle.nim_queue.specs.Stands.{KeepsGroups, command_count, done_with, is_reader, is_writer, kept_at, open_waits}
 use Rattle.nim_queue.specs.declared.queue.BeforeQueue.{BeforeQueue}
 use Rattle.nim_queue.specs.declared.waiting.Waiting.{Waiting}
 use Rattle.nim_queue.proofs.Counting.{in_filter, length_without, times_other}
@@ -74,16 +74,16 @@ still_short k most (Some x) v false short is =
     let same : v ≡ fewer k x = ap (λ (p : Option Waiting). unwrap_or p x) (sym is) in
     subst (λ (ts : List ℕ). length ts ≤ most) (sym (ap (λ (y : Waiting). y.followers) same)) (short x refl)
 
-pub completed : (old new : BeforeQueue) (groups : List Group) (done : ℕ → Bool) (u : ℕ) (w : Waiting) → Keeps old groups done
+pub completed : (old new : BeforeQueue) (groups : List Group) (done : ℕ → Bool) (u : ℕ) (w : Waiting) → KeepsGroups old groups done
     → get nat_eq old.waiting u ≡ Some w
     → ((t : ℕ) → get nat_eq new.waiting t ≡ option_map (fewer (times t w.followers)) (if u == t then None else get nat_eq old.waiting t))
     → AreReleased (get nat_eq new.waiting) new.released old.given → ((s : ℕ) → used_in new.slots.items s ≡ used_in old.slots.items s)
-    → new.links ≡ old.links → new.given ≡ old.given → new.groups ≡ old.groups → Keeps new groups (done_with groups done u)
+    → new.links ≡ old.links → new.given ≡ old.given → new.groups ≡ old.groups → KeepsGroups new groups (done_with groups done u)
 completed old new groups done u w stands found waiting released slots links given numbered =
     let members : List Member = members_of groups in
     let facts = found_kept stands.waits stands.followers u w (done u) (slice_get members u) (sym (stands.kept u) ∙ found) in
     let was : (t : ℕ) → with_one done u t ≡ false → done t ≡ false = λ t now. (or_parts (done t) (u == t) now).0 in
-    let now : Keeps new groups (with_one done u) = record {
+    let now : KeepsGroups new groups (with_one done u) = record {
       waits = without u stands.waits;
       followers = stands.followers;
       kept = λ t.
@@ -103,11 +103,11 @@ completed old new groups done u w stands found waiting released slots links give
       numbered = numbered ∙ stands.numbered;
       later = λ place from. or_from (done place) (u == place) (stands.later place from) (ne_eqb u place (λ is. omega (arith, is, from, inside)));
     } in
-    subst (Keeps new groups) (sym (ap (λ (b : Bool). if b then with_one done u else done) (lt-ltb u (count_of groups) inside))) now
+    subst (KeepsGroups new groups) (sym (ap (λ (b : Bool). if b then with_one done u else done) (lt-ltb u (command_count groups) inside))) now
   where
-    inside : u < count_of groups
+    inside : u < command_count groups
     inside =
-        elim (cases_lt u (count_of groups)) [
+        elim (cases_lt u (command_count groups)) [
           | inl within ↦ within
           | inr from ↦ absurd (false≢true (ap is_some (sym (stands.released.past u (omega (arith, from, stands.given))) ∙ found)))
         ]
@@ -129,12 +129,12 @@ option_cases None = inl refl
 option_cases (Some x) = inr (x, refl)
 
 -- a queue that has the same commands, slots and counts
-pub stands_still : (old new : BeforeQueue) (groups : List Group) (done : ℕ → Bool) → Keeps old groups done
+pub stands_still : (old new : BeforeQueue) (groups : List Group) (done : ℕ → Bool) → KeepsGroups old groups done
     → ((t : ℕ) → get nat_eq new.waiting t ≡ get nat_eq old.waiting t)
     → ((t s : ℕ) → is_writer t (used_in new.slots.items s) ≡ is_writer t (used_in old.slots.items s))
     → ((t s : ℕ) → done t ≡ false → is_reader t (used_in new.slots.items s) ≡ is_reader t (used_in old.slots.items s))
     → AreReleased (get nat_eq new.waiting) new.released old.given → AreBrief (used_in new.slots.items) new.links → new.links ≡ old.links
-    → new.given ≡ old.given → new.groups ≡ old.groups → Keeps new groups done
+    → new.given ≡ old.given → new.groups ≡ old.groups → KeepsGroups new groups done
 stands_still old new groups done stands waiting written read released brief links given numbered = record {
   waits = stands.waits;
   followers = stands.followers;
@@ -151,17 +151,17 @@ stands_still old new groups done stands waiting written read released brief link
   later = stands.later;
 }
 
-pub nothing_kept : (queue : BeforeQueue) (groups : List Group) (done : ℕ → Bool) (u : ℕ) → Keeps queue groups done → get nat_eq queue.waiting u ≡ None
+pub nothing_kept : (queue : BeforeQueue) (groups : List Group) (done : ℕ → Bool) (u : ℕ) → KeepsGroups queue groups done → get nat_eq queue.waiting u ≡ None
     → done_with groups done u ≡ done
 nothing_kept queue groups done u stands none =
-    elim (cases_lt u (count_of groups)) [
+    elim (cases_lt u (command_count groups)) [
       | inl within ↦
           let some : is_some (slice_get (members_of groups) u) ≡ true = is_there (members_of groups) u within in
-          ap (λ (b : Bool). if b then with_one done u else done) (lt-ltb u (count_of groups) within)
+          ap (λ (b : Bool). if b then with_one done u else done) (lt-ltb u (command_count groups) within)
           ∙ fun_ext
           (λ t.
           same_done stands.waits stands.followers done u t (done u) (u == t) (slice_get (members_of groups) u) refl refl some (sym (stands.kept u) ∙ none))
-      | inr past ↦ ap (λ (b : Bool). if b then with_one done u else done) (le-ltb u (count_of groups) past)
+      | inr past ↦ ap (λ (b : Bool). if b then with_one done u else done) (le-ltb u (command_count groups) past)
     ]
   where
     is_there : {X : Type 0} (xs : List X) (i : ℕ) → i < length xs → is_some (slice_get xs i) ≡ true

@@ -11,7 +11,7 @@ use Rattle.std.proofs.lemmas.Option.{slice_get_cases}
 use Rattle.nim_command.specs.Waits.{Group, Member, members_of}
 use Rattle.nim_order.proofs.Items.{filter_range}
 use Rattle.nim_queue.specs.Counts.{fewer, is_free, is_in, times}
-use Rattle.nim_queue.specs.Stands.{Keeps, Stands, count_of, kept_at, waiting_count}
+use Rattle.nim_queue.specs.Stands.{KeepsGroups, StandsForGroups, command_count, kept_at, waiting_count}
 use Rattle.nim_queue.specs.declared.queue.BeforeQueue.{BeforeQueue}
 use Rattle.nim_queue.proofs.Opening.{opened}
 use Rattle.nim_queue.specs.declared.waiting.Waiting.{Waiting}
@@ -112,13 +112,13 @@ some_kept waits followers t m true o there = refl
 some_kept waits followers t m false o there = ap (λ (x : Option Member). is_some (option_map (kept_at waits followers t) x)) there
 
 -- as many as places aren't complete
-pub count_is : (queue : BeforeQueue) (groups : List Group) (done : ℕ → Bool) → Stands queue groups done
-    → waiting_count queue ≡ length (filter (λ place. not (done place)) (range_with_len 0 (count_of groups)))
+pub count_is : (queue : BeforeQueue) (groups : List Group) (done : ℕ → Bool) → StandsForGroups queue groups done
+    → waiting_count queue ≡ length (filter (λ place. not (done place)) (range_with_len 0 (command_count groups)))
 count_is queue groups done stands =
-    let keeps : Keeps queue groups done = opened stands in
+    let keeps : KeepsGroups queue groups done = opened stands in
     ap (λ (n : ℕ). length (filter (λ t. is_some (get nat_eq queue.waiting t)) (range_with_len 0 n))) keeps.given
     ∙ ap length
-    (filter_range (λ t. is_some (get nat_eq queue.waiting t)) (λ t. not (done t)) 0 (count_of groups)
+    (filter_range (λ t. is_some (get nat_eq queue.waiting t)) (λ t. not (done t)) 0 (command_count groups)
     (λ t from to.
     elim (slice_get_cases (members_of groups) t).1 [
       | inl found ↦

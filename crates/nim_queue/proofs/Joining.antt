@@ -19,7 +19,7 @@ use Rattle.nim_queue.specs.Used.{used_in}
 use Rattle.nim_queue.specs.Arrived.{link_to}
 use Rattle.nim_queue.specs.Counts.{AreBrief, AreReleased, AreShort, is_in, times}
 use Rattle.nim_queue.specs.Joined.{followed, gathered}
-use Rattle.nim_queue.specs.Stands.{Keeps, does_use_last, is_reader, is_writer, kept_at, open_waits}
+use Rattle.nim_queue.specs.Stands.{KeepsGroups, does_use_last, is_reader, is_writer, kept_at, open_waits}
 use Rattle.nim_queue.specs.declared.queue.BeforeQueue.{BeforeQueue}
 use Rattle.nim_queue.specs.declared.waiting.Waiting.{Waiting}
 use Rattle.nim_queue.proofs.Lists.{get_at}
@@ -210,7 +210,7 @@ abbrev pub as_kept : Member → ℕ → Waiting
 as_kept m pending = record { group = m.group; command = m.command; pending = pending; followers = [] }
 
 -- one more command
-pub joined : (old new : BeforeQueue) (groups more : List Group) (done : ℕ → Bool) (m : Member) (d : List ℕ) → Keeps old groups done
+pub joined : (old new : BeforeQueue) (groups more : List Group) (done : ℕ → Bool) (m : Member) (d : List ℕ) → KeepsGroups old groups done
     → members_of more ≡ members_of groups ++ m ∷ []
     → ((e : ℕ) → is_in e d ≡ is_in e (open_waits (members_of groups ++ m ∷ []) done old.given))
     → ((t : ℕ) → get nat_eq new.waiting t
@@ -221,7 +221,7 @@ pub joined : (old new : BeforeQueue) (groups more : List Group) (done : ℕ → 
     ≡ ((not (does_write m.command.kind (record { 0 = s })) && is_reader t (used_in old.slots.items s))
     || ((old.given == t) && does_read m.command.kind (record { 0 = s }))))
     → AreReleased (get nat_eq new.waiting) new.released (old.given + 1) → AreShort (get nat_eq new.waiting) new.links
-    → AreBrief (used_in new.slots.items) new.links → new.given ≡ old.given + 1 → new.groups ≡ length more → Keeps new more done
+    → AreBrief (used_in new.slots.items) new.links → new.given ≡ old.given + 1 → new.groups ≡ length more → KeepsGroups new more done
 joined old new groups more done m d stands members reached waiting written read released short brief given numbered =
     let all : List Member = members_of groups in
     let n : ℕ = old.given in

@@ -9,7 +9,7 @@ use Rattle.std.proofs.lemmas.Option.{slice_get_cases}
 use Rattle.nim_command.specs.Waits.{Group, Member, is_waited, members_of, waits_for, waits_of}
 use Rattle.nim_order.proofs.Items.{filter_range}
 use Rattle.nim_queue.specs.Counts.{IsRising, is_free, is_in}
-use Rattle.nim_queue.specs.Stands.{Keeps, count_of, first_that, is_after, is_released, kept_at, open_waits, ready_of}
+use Rattle.nim_queue.specs.Stands.{KeepsGroups, command_count, first_to_pass, is_after, is_released, kept_at, open_waits, ready_of}
 use Rattle.nim_queue.specs.declared.queue.BeforeQueue.{BeforeQueue}
 use Rattle.nim_queue.specs.declared.waiting.Waiting.{Waiting}
 use Rattle.nim_queue.proofs.Rising.{first_of_both, rising}
@@ -22,7 +22,7 @@ kept_own of own waits followers t true o same = refl
 kept_own of own waits followers t false None same = refl
 kept_own of own waits followers t false (Some m) same = ap (λ y. Some y) (same m)
 
-pub told_of : {Y : Type 0} (of : Waiting → Y) (own : Member → Y) (queue : BeforeQueue) (groups : List Group) (done : ℕ → Bool) (t : ℕ) → Keeps queue groups done
+pub told_of : {Y : Type 0} (of : Waiting → Y) (own : Member → Y) (queue : BeforeQueue) (groups : List Group) (done : ℕ → Bool) (t : ℕ) → KeepsGroups queue groups done
     → ((waits followers : ℕ → List ℕ) (m : Member) → of (kept_at waits followers t m) ≡ own m)
     → option_map of (get nat_eq queue.waiting t) ≡ (if done t then None else option_map own (slice_get (members_of groups) t))
 told_of of own queue groups done t stands same =
@@ -50,7 +50,7 @@ free_step waits followers t m true all o there free = refl
 free_step waits followers t m false all o there free = ap (λ (x : Option Member). is_free (option_map (kept_at waits followers t) x)) there ∙ free refl
 
 -- those that wait for nothing are the released ones
-free_released : (queue : BeforeQueue) (groups : List Group) (done : ℕ → Bool) (t : ℕ) → Keeps queue groups done → t < count_of groups
+free_released : (queue : BeforeQueue) (groups : List Group) (done : ℕ → Bool) (t : ℕ) → KeepsGroups queue groups done → t < command_count groups
     → is_free (get nat_eq queue.waiting t) ≡ is_released groups done t
 free_released queue groups done t stands within =
     elim (slice_get_cases (members_of groups) t).1 [
@@ -64,17 +64,17 @@ free_released queue groups done t stands within =
       | inr past ↦ absurd (omega (arith, past.0, within))
     ]
 
-pub ready_first : (queue : BeforeQueue) (groups : List Group) (done : ℕ → Bool) (after result : Option ℕ) → Keeps queue groups done
-    → (IsRising queue.released.items.items → result ≡ first_that (is_after after) queue.released.items.items) → result ≡ ready_of groups done after
+pub ready_first : (queue : BeforeQueue) (groups : List Group) (done : ℕ → Bool) (after result : Option ℕ) → KeepsGroups queue groups done
+    → (IsRising queue.released.items.items → result ≡ first_to_pass (is_after after) queue.released.items.items) → result ≡ ready_of groups done after
 ready_first queue groups done after result stands found =
     let test : ℕ → Bool = λ t. is_free (get nat_eq queue.waiting t) in
     let rises : IsRising queue.released.items.items = subst IsRising (sym stands.released.items) (rising test queue.given) in
-    found rises ∙ ap (first_that (is_after after)) stands.released.items
-    ∙ ap (λ (n : ℕ). first_that (is_after after) (filter test (range_with_len 0 n))) stands.given
-    ∙ ap (first_that (is_after after))
-    (filter_range test (is_released groups done) 0 (count_of groups)
+    found rises ∙ ap (first_to_pass (is_after after)) stands.released.items
+    ∙ ap (λ (n : ℕ). first_to_pass (is_after after) (filter test (range_with_len 0 n))) stands.given
+    ∙ ap (first_to_pass (is_after after))
+    (filter_range test (is_released groups done) 0 (command_count groups)
     (λ t from to. free_released queue groups done t stands (omega (arith, to))))
-    ∙ sym (first_of_both (is_after after) (is_released groups done) (range_with_len 0 (count_of groups)))
+    ∙ sym (first_of_both (is_after after) (is_released groups done) (range_with_len 0 (command_count groups)))
 
 -- a command that isn't there waits for nothing
 pub none_pass : {X : Type 0} (p : X → Bool) (xs : List X) → ((x : X) → p x ≡ false) → filter p xs ≡ []

@@ -17,10 +17,10 @@ use Rattle.nim_command.specs.Slots.{does_read, reads_of, writes_of}
 use Rattle.nim_command.specs.Waits.{Group, Member, is_written_by, members_of}
 use Rattle.nim_command.proofs.Lists.{any_same}
 use Rattle.nim_queue.specs.Used.{used_in}
-use Rattle.nim_queue.specs.Arrived.{HasArrived, HaveArrived, Sight, is_met, sight_of}
+use Rattle.nim_queue.specs.Arrived.{HasArrived, HaveArrived, Sight, is_user_met, sight_of}
 use Rattle.nim_queue.specs.Counts.{AreBrief, AreReleased, free_ones, is_in, kept_ones}
 use Rattle.nim_queue.specs.Joined.{HaveSameUses}
-use Rattle.nim_queue.specs.Stands.{Keeps, does_use_last, is_reader, is_writer, kept_at}
+use Rattle.nim_queue.specs.Stands.{KeepsGroups, does_use_last, is_reader, is_writer, kept_at}
 use Rattle.nim_queue.specs.declared.arrivals.Arrival.{Arrival}
 use Rattle.nim_queue.specs.declared.queue.BeforeQueue.{BeforeQueue}
 use Rattle.nim_queue.specs.declared.slot_use.SlotUse.{SlotUse}
@@ -34,8 +34,8 @@ use Rattle.nim_queue.proofs.Rising.{range_last}
 met_same : (kept : ℕ → Option Waiting) (old new : ℕ → Option SlotUse) (named : ℕ → List ℕ) (written : ℕ → Bool) (is_user : ℕ → Option SlotUse → Bool)
     (slots : List Slot) (e : ℕ)
     → ((t s : ℕ) → is_some (kept t) ≡ true → is_user t (new s) ≡ is_user t (old s))
-    → is_met (record { kept = kept; used = old; named = named; written = written }) is_user slots e
-    ≡ is_met (record { kept = kept; used = new; named = named; written = written }) is_user slots e
+    → is_user_met (record { kept = kept; used = old; named = named; written = written }) is_user slots e
+    ≡ is_user_met (record { kept = kept; used = new; named = named; written = written }) is_user slots e
 met_same kept old new named written is_user slots e same =
     any_same (λ (slot : Slot). not (written slot.0) && (is_user e (old slot.0) && is_some (kept e)))
     (λ (slot : Slot). not (written slot.0) && (is_user e (new slot.0) && is_some (kept e)))
@@ -62,13 +62,13 @@ arrival_same kept old new first past ticket a same has =
       links = has.links;
       reached = λ e.
           has.reached e
-          ∙ ap₂ (λ (x y : Bool). ((named e || x) || y) || is_met before is_reader (writes_of a.command.kind) e)
+          ∙ ap₂ (λ (x y : Bool). ((named e || x) || y) || is_user_met before is_reader (writes_of a.command.kind) e)
           (met_same kept old new before.named before.written is_writer (reads_of a.command.kind) e (λ t s some. same.written t s))
           (met_same kept old new before.named before.written is_writer (writes_of a.command.kind) e (λ t s some. same.written t s))
           ∙ ap
           (λ (z : Bool).
-          ((named e || is_met (sight_of kept new first past) is_writer (reads_of a.command.kind) e)
-          || is_met (sight_of kept new first past) is_writer (writes_of a.command.kind) e)
+          ((named e || is_user_met (sight_of kept new first past) is_writer (reads_of a.command.kind) e)
+          || is_user_met (sight_of kept new first past) is_writer (writes_of a.command.kind) e)
           || z)
           (met_same kept old new before.named before.written is_reader (writes_of a.command.kind) e same.read);
     }
@@ -92,7 +92,7 @@ released_roomier kept next old new n are same items capacity =
     }
 
 -- a command that isn't complete and isn't kept was never given
-never_kept : (queue : BeforeQueue) (groups : List Group) (done : ℕ → Bool) (t : ℕ) (slot : Slot) → Keeps queue groups done → done t ≡ false
+never_kept : (queue : BeforeQueue) (groups : List Group) (done : ℕ → Bool) (t : ℕ) (slot : Slot) → KeepsGroups queue groups done → done t ≡ false
     → is_some (get nat_eq queue.waiting t) ≡ false → does_use_last does_read (members_of groups) t slot ≡ false
 never_kept queue groups done t slot stands now none =
     by (slice_get (members_of groups) t)
@@ -107,11 +107,11 @@ never_kept queue groups done t slot stands now none =
     by (Some m) none = absurd (false≢true (sym none))
 
 -- what a queue stands for stays
-pub still_stands : (old new : BeforeQueue) (groups : List Group) (done : ℕ → Bool) → Keeps old groups done
+pub still_stands : (old new : BeforeQueue) (groups : List Group) (done : ℕ → Bool) → KeepsGroups old groups done
     → ((t : ℕ) → get nat_eq new.waiting t ≡ get nat_eq old.waiting t)
     → HaveSameUses (get nat_eq old.waiting) (used_in old.slots.items) (used_in new.slots.items)
     → new.released.items.items ≡ old.released.items.items → deque_capacity old.released.items ≤ deque_capacity new.released.items → new.links ≡ old.links
-    → new.given ≡ old.given → new.groups ≡ old.groups → Keeps new groups done
+    → new.given ≡ old.given → new.groups ≡ old.groups → KeepsGroups new groups done
 still_stands old new groups done stands waiting uses items capacity links given numbered =
     stands_still old new groups done stands waiting uses.written
     (λ t s now. either_read t s now (is_some (get nat_eq old.waiting t)) refl)

@@ -15,9 +15,9 @@ use Rattle.nim_command.specs.Waits.{Group, Member, is_border, is_waited, is_writ
 use Rattle.nim_command.proofs.Lists.{any_nothing, any_same}
 use Rattle.nim_order.proofs.Items.{get_front}
 use Rattle.nim_queue.specs.Used.{used_in}
-use Rattle.nim_queue.specs.Arrived.{Sight, as_members, is_met, is_reached, is_written_in, named_in, sight_of}
+use Rattle.nim_queue.specs.Arrived.{Sight, as_members, is_user_met, does_await, is_written_in, named_in, sight_of}
 use Rattle.nim_queue.specs.Counts.{is_in}
-use Rattle.nim_queue.specs.Stands.{Keeps, is_reader, is_writer, kept_at, open_waits}
+use Rattle.nim_queue.specs.Stands.{KeepsGroups, is_reader, is_writer, kept_at, open_waits}
 use Rattle.nim_queue.specs.declared.queue.BeforeQueue.{BeforeQueue}
 use Rattle.nim_queue.specs.declared.slot_use.SlotUse.{SlotUse}
 use Rattle.nim_queue.proofs.Counting.{in_filter, same_ways}
@@ -57,7 +57,7 @@ named_at first (x ∷ past) n (suc k) e c got is = by (x.id == n) ∙ named_at (
 
 -- nobody is met who isn't kept
 none_met : (sight : Sight) (is_user : ℕ → Option SlotUse → Bool) (slots : List Slot) (e : ℕ) → is_some (sight.kept e) ≡ false
-    → is_met sight is_user slots e ≡ false
+    → is_user_met sight is_user slots e ≡ false
 none_met sight is_user slots e gone =
     any_nothing (λ (s : Slot). not (sight.written s.0) && (is_user e (sight.used s.0) && is_some (sight.kept e)))
     (λ s. ap (λ (b : Bool). not (sight.written s.0) && (is_user e (sight.used s.0) && b)) gone ∙ both (not (sight.written s.0)) (is_user e (sight.used s.0)))
@@ -206,7 +206,7 @@ border_met : (x : Member) (rest : List Member) (g : ℕ) (past : List Command) (
     → sight.written ≡ is_written_in past
     → ((s : Slot) → is_writer e (sight.used s.0) ≡ (does_write x.command.kind s && not (is_written_by rest s)))
     → ((s : Slot) → is_reader e (sight.used s.0) ≡ (does_read x.command.kind s && not (is_written_by rest s)))
-    → ((is_met sight is_writer (reads_of c.kind) e || is_met sight is_writer (writes_of c.kind) e) || is_met sight is_reader (writes_of c.kind) e)
+    → ((is_user_met sight is_writer (reads_of c.kind) e || is_user_met sight is_writer (writes_of c.kind) e) || is_user_met sight is_reader (writes_of c.kind) e)
     ≡ is_border x (rest ++ as_members g past) (record { group = g; command = c })
 border_met x rest g past c sight e kept written writer reader =
     let q : Slot → Bool = λ s. not (is_written_by (rest ++ as_members g past) s) in
@@ -217,7 +217,7 @@ border_met x rest g past c sight e kept written writer reader =
     ∙ ap (λ (b : Bool). is_written_by rest s || b) (written_as g past s)) in
     let met : (is_user : ℕ → Option SlotUse → Bool) (uses : Slot → Bool) (slots : List Slot)
     → ((s : Slot) → is_user e (sight.used s.0) ≡ (uses s && not (is_written_by rest s)))
-    → is_met sight is_user slots e ≡ list_any (λ s. uses s && q s) slots =
+    → is_user_met sight is_user slots e ≡ list_any (λ s. uses s && q s) slots =
     λ is_user uses slots is.
     any_same (λ (s : Slot). not (sight.written s.0) && (is_user e (sight.used s.0) && is_some (sight.kept e))) (λ s. uses s && q s)
     (λ s.
@@ -257,8 +257,8 @@ and_false : (b : Bool) → (b && false) ≡ false
 and_false true = refl
 and_false false = refl
 
-pub reached_open : (queue : BeforeQueue) (groups : List Group) (done : ℕ → Bool) (past : List Command) (c : Command) (e : ℕ) → Keeps queue groups done
-    → is_reached (sight_of (get nat_eq queue.waiting) (used_in queue.slots.items) queue.given past) c e
+pub reached_open : (queue : BeforeQueue) (groups : List Group) (done : ℕ → Bool) (past : List Command) (c : Command) (e : ℕ) → KeepsGroups queue groups done
+    → does_await (sight_of (get nat_eq queue.waiting) (used_in queue.slots.items) queue.given past) c e
     ≡ is_in e (open_waits ((members_of groups ++ as_members (length groups) past) ++ record { group = length groups; command = c } ∷ []) done
     (queue.given + length past))
 reached_open queue groups done past c e stands =
@@ -304,7 +304,7 @@ reached_open queue groups done past c e stands =
     unkept : (t : ℕ) → queue.given ≤ t → is_some (get nat_eq queue.waiting t) ≡ false
     unkept t from = ap is_some (stands.released.past t from)
 
-    gone : (is_user : ℕ → Option SlotUse → Bool) (slots : List Slot) → is_some (get nat_eq queue.waiting e) ≡ false → is_met sight is_user slots e ≡ false
+    gone : (is_user : ℕ → Option SlotUse → Bool) (slots : List Slot) → is_some (get nat_eq queue.waiting e) ≡ false → is_user_met sight is_user slots e ≡ false
     gone is_user slots none = none_met sight is_user slots e none
 
     waits_at : (x : Member) → slice_get ms e ≡ Some x → waits_for ms last e ≡ is_waited x (slice_range ms (e + 1) last) m
@@ -316,7 +316,7 @@ reached_open queue groups done past c e stands =
     own : queue.given ≤ e → e < last
         → ((x : Command) × (e - queue.given < length past) × (slice_get past (e - queue.given) ≡ Some x) × (get_or past (e - queue.given) x ≡ x))
         ⊎ ((length past ≤ e - queue.given) × (slice_get past (e - queue.given) ≡ None))
-        → is_reached sight c e ≡ is_in e (open_waits ms done last)
+        → does_await sight c e ≡ is_in e (open_waits ms done last)
     own later within (inr none) = absurd (omega (arith, later, within, none.0))
     own later within (inl found) =
         let k : ℕ = e - queue.given in
@@ -342,7 +342,7 @@ reached_open queue groups done past c e stands =
     bordered : e < queue.given → e < last → done e ≡ false
         → ((x : Member) × (e < length (members_of groups)) × (slice_get (members_of groups) e ≡ Some x) × (get_or (members_of groups) e x ≡ x))
         ⊎ ((length (members_of groups) ≤ e) × (slice_get (members_of groups) e ≡ None))
-        → is_reached sight c e ≡ is_in e (open_waits ms done last)
+        → does_await sight c e ≡ is_in e (open_waits ms done last)
     bordered early within here (inr none) = absurd (omega (arith, early, none.0, stands.given))
     bordered early within here (inl found) =
         let x : Member = found.0 in
@@ -374,7 +374,7 @@ reached_open queue groups done past c e stands =
         here
         ∙ and_true (is_border x (rest ++ as_members g past) m))
 
-    before : e < queue.given → e < last → (d : Bool) → done e ≡ d → is_reached sight c e ≡ is_in e (open_waits ms done last)
+    before : e < queue.given → e < last → (d : Bool) → done e ≡ d → does_await sight c e ≡ is_in e (open_waits ms done last)
     before early within true complete =
         let none : is_some (get nat_eq queue.waiting e) ≡ false =
         ap is_some (stands.kept e)

@@ -10,7 +10,7 @@ use Rattle.nim_command.specs.Covered.{waits_at}
 use Rattle.nim_command.specs.Waits.{Group, Member, members_of, placed_commands, waits_of}
 use Rattle.nim_order.specs.Progress.{IsReleasedAt}
 use Rattle.nim_order.proofs.Listed.{get_listed, length_listed, listed}
-use Rattle.nim_queue.specs.Stands.{count_of, first_that, is_after, is_released, ready_of}
+use Rattle.nim_queue.specs.Stands.{command_count, first_to_pass, is_after, is_released, ready_of}
 
 kept_step : (p : ℕ → Bool) (n : ℕ) (rest : List ℕ) (b : Bool) → p n ≡ true → list_all p rest ≡ true → list_all p (if b then n ∷ rest else rest) ≡ true
 kept_step p n rest true here all = and_from (p n) (list_all p rest) here all
@@ -22,7 +22,7 @@ all_kept p test [] all = refl
 all_kept p test (n ∷ xs) all =
     let parts = and_parts (p n) (list_all p xs) all in kept_step p n (filter test xs) (test n) parts.0 (all_kept p test xs parts.1)
 
-pub released_at : (groups : List Group) (done : ℕ → Bool) (ticket : ℕ) → ticket < count_of groups → is_released groups done ticket ≡ true
+pub released_at : (groups : List Group) (done : ℕ → Bool) (ticket : ℕ) → ticket < command_count groups → is_released groups done ticket ≡ true
     → IsReleasedAt (placed_commands groups) done ticket
 unfolding listed
 released_at groups done ticket within released =
@@ -52,14 +52,14 @@ found_step test a n false rest passes later =
     weaker rest (λ k. (k < a + 1 + n) × (test k ≡ true)) (λ k. (k < a + suc n) × (test k ≡ true)) (λ k found. (omega (arith, found.0), found.1)) later
 
 -- the first that passes a test is in range and passes it
-found : (test : ℕ → Bool) (a n : ℕ) → IfSome (first_that test (range_with_len a n)) (λ k. (k < a + n) × (test k ≡ true))
+found : (test : ℕ → Bool) (a n : ℕ) → IfSome (first_to_pass test (range_with_len a n)) (λ k. (k < a + n) × (test k ≡ true))
 found test a zero = tt
-found test a (suc n) = found_step test a n (test a) (first_that test (range_with_len (a + 1) n)) refl (found test (a + 1) n)
+found test a (suc n) = found_step test a n (test a) (first_to_pass test (range_with_len (a + 1) n)) refl (found test (a + 1) n)
 
 pub ready_is_released : (groups : List Group) (done : ℕ → Bool) (after : Option ℕ)
     → IfSome (ready_of groups done after) (λ ticket. IsReleasedAt (placed_commands groups) done ticket)
 ready_is_released groups done after =
     let test : ℕ → Bool = λ ticket. is_after after ticket && is_released groups done ticket in
-    weaker (ready_of groups done after) (λ k. (k < 0 + count_of groups) × (test k ≡ true)) (λ ticket. IsReleasedAt (placed_commands groups) done ticket)
+    weaker (ready_of groups done after) (λ k. (k < 0 + command_count groups) × (test k ≡ true)) (λ ticket. IsReleasedAt (placed_commands groups) done ticket)
     (λ k found. released_at groups done k (omega (arith, found.0)) (and_parts (is_after after k) (is_released groups done k) found.1).1)
-    (found test 0 (count_of groups))
+    (found test 0 (command_count groups))

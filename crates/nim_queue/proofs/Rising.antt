@@ -13,7 +13,7 @@ use Rattle.std.proofs.lemmas.Option.{slice_get_past, slice_get_read}
 use Rattle.nim_command.proofs.Lists.{filter_twice}
 use Rattle.nim_order.proofs.Items.{filter_range}
 use Rattle.nim_queue.specs.Counts.{IsRising, below, not_below, put_in, taken_out}
-use Rattle.nim_queue.specs.Stands.{first_that}
+use Rattle.nim_queue.specs.Stands.{first_to_pass}
 
 -- where the first i pass a test and the others fail it
 pub cut : {X : Type 0} (p : X → Bool) (xs : List X) (i : ℕ) → IsPartitionPoint (λ x. p x ≡ true) (λ x. p x ≡ false) xs i
@@ -133,16 +133,16 @@ one_fewer p q k n within old now same =
     ∙ sym (filter_around q k n within)
 
 -- the first that passes a test
-pub first_passing : (p : ℕ → Bool) (xs : List ℕ) → first_that p xs ≡ slice_get (filter p xs) 0
+pub first_passing : (p : ℕ → Bool) (xs : List ℕ) → first_to_pass p xs ≡ slice_get (filter p xs) 0
 first_passing p [] = refl
 first_passing p (x ∷ xs) = first_step p x xs (p x) (first_passing p xs) where
-  first_step : (p : ℕ → Bool) (x : ℕ) (xs : List ℕ) (b : Bool) → first_that p xs ≡ slice_get (filter p xs) 0
-      → (if b then Some x else first_that p xs) ≡ slice_get (if b then x ∷ filter p xs else filter p xs) 0
+  first_step : (p : ℕ → Bool) (x : ℕ) (xs : List ℕ) (b : Bool) → first_to_pass p xs ≡ slice_get (filter p xs) 0
+      → (if b then Some x else first_to_pass p xs) ≡ slice_get (if b then x ∷ filter p xs else filter p xs) 0
   first_step p x xs true rest = refl
   first_step p x xs false rest = rest
 
 -- the first of those that pass one test that passes another
-pub first_of_both : (p q : ℕ → Bool) (xs : List ℕ) → first_that (λ x. p x && q x) xs ≡ first_that p (filter q xs)
+pub first_of_both : (p q : ℕ → Bool) (xs : List ℕ) → first_to_pass (λ x. p x && q x) xs ≡ first_to_pass p (filter q xs)
 first_of_both p q xs =
     first_passing (λ x. p x && q x) xs
     ∙ ap (λ (ys : List ℕ). slice_get ys 0) (sym (filter_twice p q (λ x. p x && q x) (λ x. swapped (p x) (q x)) xs))
@@ -208,9 +208,9 @@ range_last p n =
     ap (filter p) (range_cut 0 n 1 ∙ ap (λ (k : ℕ). range_with_len 0 n ++ k ∷ []) (zero-add n)) ∙ filter-append p (range_with_len 0 n) (n ∷ [])
 
 -- the first that passes a test passes it
-pub first_passes : (p : ℕ → Bool) (xs : List ℕ) → IfSome (first_that p xs) (λ x. p x ≡ true)
+pub first_passes : (p : ℕ → Bool) (xs : List ℕ) → IfSome (first_to_pass p xs) (λ x. p x ≡ true)
 first_passes p [] = tt
 first_passes p (x ∷ xs) = by (p x) refl (first_passes p xs) where
-  by : (b : Bool) → p x ≡ b → IfSome (first_that p xs) (λ y. p y ≡ true) → IfSome (if b then Some x else first_that p xs) (λ y. p y ≡ true)
+  by : (b : Bool) → p x ≡ b → IfSome (first_to_pass p xs) (λ y. p y ≡ true) → IfSome (if b then Some x else first_to_pass p xs) (λ y. p y ≡ true)
   by true here rest = here
   by false here rest = rest

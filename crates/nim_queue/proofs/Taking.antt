@@ -16,9 +16,9 @@ use Rattle.nim_command.specs.Waits.{Group, Member, members_of}
 use Rattle.nim_queue.specs.Used.{used_in}
 use Rattle.nim_queue.specs.Arrived.{HasArrived, as_members, commands_of, link_to, reading_of, sight_of}
 use Rattle.nim_queue.specs.Counts.{AreBrief, AreShort, IsRising, is_in, kept_ones, put_in}
-use Rattle.nim_queue.specs.Joined.{are_covered, counted, gathered, gathered_reads, kept_new, more_read, rewritten}
-use Rattle.nim_queue.specs.Midway.{HasRoom, IsMidway}
-use Rattle.nim_queue.specs.Stands.{Keeps, does_use_last, is_reader, is_writer, kept_at, open_waits}
+use Rattle.nim_queue.specs.Joined.{are_covered, link_count, gathered, gathered_reads, kept_new, more_read, rewritten}
+use Rattle.nim_queue.specs.Midway.{HasRoomForArrived, IsMidway}
+use Rattle.nim_queue.specs.Stands.{KeepsGroups, does_use_last, is_reader, is_writer, kept_at, open_waits}
 use Rattle.nim_queue.specs.declared.arrivals.Arrival.{Arrival}
 use Rattle.nim_queue.specs.declared.arrivals.Reading.{Reading}
 use Rattle.nim_queue.specs.declared.queue.BeforeQueue.{BeforeQueue}
@@ -33,12 +33,12 @@ use Rattle.nim_queue.proofs.Uses.{added_readers, arrived_at, reader_after, withi
 
 -- what those before one, it and those behind it have
 counted_at : (past rest : List Arrival) (a : Arrival)
-    → counted (past ++ a ∷ rest) ≡ counted past + (length a.waits.items + length a.reads.items + counted rest)
+    → link_count (past ++ a ∷ rest) ≡ link_count past + (length a.waits.items + length a.reads.items + link_count rest)
 counted_at past rest a =
     let own : Arrival → ℕ = λ x. length x.waits.items + length x.reads.items in
-    sum_by-append own past (a ∷ rest) ∙ ap (λ (n : ℕ). counted past + n) (sum_by-cons own a rest)
+    sum_by-append own past (a ∷ rest) ∙ ap (λ (n : ℕ). link_count past + n) (sum_by-cons own a rest)
 
-no_counted : counted [] ≡ 0
+no_counted : link_count [] ≡ 0
 no_counted = refl
 
 -- a group without commands has no member
@@ -47,11 +47,11 @@ no_member groups next is =
     members_more groups next ∙ ap (λ (cs : List Command). members_of groups ++ as_members (length groups) cs) is ∙ append-nil (members_of groups)
 
 -- none has joined
-pub begun_midway : (start : BeforeQueue) (groups : List Group) (done : ℕ → Bool) → Keeps start groups done → IsMidway start start [] groups done
+pub begun_midway : (start : BeforeQueue) (groups : List Group) (done : ℕ → Bool) → KeepsGroups start groups done → IsMidway start start [] groups done
 begun_midway start groups done s = record {
   stands = λ next is.
       let same : members_of groups ≡ members_of (groups ++ next ∷ []) = sym (no_member groups next is) in
-      let links : start.links ≡ start.links + counted [] = omega (arith, no_counted) in
+      let links : start.links ≡ start.links + link_count [] = omega (arith, no_counted) in
       record {
         waits = s.waits;
         followers = s.followers;
@@ -78,7 +78,7 @@ begun_midway start groups done s = record {
 
 -- one more has joined
 pub stepped : (start now after : BeforeQueue) (past rest : List Arrival) (a : Arrival) (groups : List Group) (done : ℕ → Bool) (any : Group)
-    → HasRoom start (past ++ a ∷ rest) → Keeps start groups done → IsMidway start now past groups done
+    → HasRoomForArrived start (past ++ a ∷ rest) → KeepsGroups start groups done → IsMidway start now past groups done
     → ((k : ℕ) (d : List ℕ) → AreShort (get nat_eq now.waiting) k → a.waits.items ≡ map (link_to now.given) d → k + length d < 2 ^ 63 → 0 < spare now.waiting
     → HasEntered (get nat_eq now.waiting) (get nat_eq after.waiting) (λ t. gathered t (map (link_to now.given) d)) now.given
     (kept_new now.groups a.command (length d)))
@@ -95,7 +95,7 @@ stepped start now after past rest a groups done any room began mid waiting slots
       let prev : Group = record next { commands = commands_of past } in
       let stood = mid.stands prev refl in
       joined (record now { groups = length groups + 1; links = before })
-      (record after { groups = length groups + 1; links = start.links + counted (past ++ a ∷ []) })
+      (record after { groups = length groups + 1; links = start.links + link_count (past ++ a ∷ []) })
       (groups ++ prev ∷ []) (groups ++ next ∷ []) done m d stood
       (one_member groups prev next a.command (is ∙ map-append (λ (x : Arrival). x.command) past (a ∷ [])))
       (λ e.
@@ -162,7 +162,7 @@ stepped start now after past rest a groups done any room began mid waiting slots
     m = record { group = length groups; command = a.command }
 
     before : ℕ
-    before = start.links + counted past
+    before = start.links + link_count past
 
     own : ℕ
     own = length a.waits.items + length a.reads.items
@@ -195,10 +195,10 @@ stepped start now after past rest a groups done any room began mid waiting slots
     long : length (past ++ a ∷ []) ≡ length past + 1
     long = length-append past (a ∷ [])
 
-    total : before + own ≡ start.links + counted (past ++ a ∷ [])
+    total : before + own ≡ start.links + link_count (past ++ a ∷ [])
     total = omega (arith, counted_at past [] a, no_counted)
 
-    standing : Keeps (record now { groups = length groups + 1; links = before }) (groups ++ record any { commands = commands_of past } ∷ []) done
+    standing : KeepsGroups (record now { groups = length groups + 1; links = before }) (groups ++ record any { commands = commands_of past } ∷ []) done
     standing = mid.stands (record any { commands = commands_of past }) refl
 
     of_group : kept_new now.groups a.command (length d) ≡ kept_new (length groups) a.command (length d)

@@ -44,25 +44,25 @@ pub record Sight : Type 0 where
   pub written : ℕ → Bool
 
 -- whether a waiting command is met as a user of one of these slots, where none of the group writes it before
-abbrev pub is_met : Sight → (ℕ → Option SlotUse → Bool) → List Slot → ℕ → Bool
-is_met sight is_user slots ticket =
+abbrev pub is_user_met : Sight → (ℕ → Option SlotUse → Bool) → List Slot → ℕ → Bool
+is_user_met sight is_user slots ticket =
     list_any (λ (slot : Slot). not (sight.written slot.0)
     && (is_user ticket (sight.used slot.0) && is_some (sight.kept ticket))) slots
 
 -- whether a command of the group waits for the one of a ticket
-abbrev pub is_reached : Sight → Command → ℕ → Bool
-is_reached sight command ticket =
+abbrev pub does_await : Sight → Command → ℕ → Bool
+does_await sight command ticket =
     ((list_any (λ number. is_in ticket (sight.named number)) command.before
-    || is_met sight is_writer (reads_of command.kind) ticket)
-    || is_met sight is_writer (writes_of command.kind) ticket)
-    || is_met sight is_reader (writes_of command.kind) ticket
+    || is_user_met sight is_writer (reads_of command.kind) ticket)
+    || is_user_met sight is_writer (writes_of command.kind) ticket)
+    || is_user_met sight is_reader (writes_of command.kind) ticket
 
 -- A command has arrived with this ticket.
 pub record HasArrived (sight : Sight) (ticket : ℕ) (arrival : Arrival) : Type 0 where
   pub reads : arrival.reads.items ≡ map (reading_of ticket) (reads_of arrival.command.kind)
   pub waits : List ℕ
   pub links : arrival.waits.items ≡ map (link_to ticket) waits
-  pub reached : (earlier : ℕ) → is_in earlier waits ≡ is_reached sight arrival.command earlier
+  pub reached : (earlier : ℕ) → is_in earlier waits ≡ does_await sight arrival.command earlier
 
 -- what the next command of a group is held against, when these have arrived
 abbrev pub sight_of : (ℕ → Option Waiting) → (ℕ → Option SlotUse) → ℕ → List Command → Sight

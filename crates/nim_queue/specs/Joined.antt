@@ -44,8 +44,8 @@ are_covered used arrival =
     && list_all (λ (slot : Slot). is_some (used slot.0)) (writes_of arrival.command.kind)
 
 -- how many waits and readings commands have
-abbrev pub counted : List Arrival → ℕ
-counted arrived = sum_by (λ (a : Arrival). length a.waits.items + length a.reads.items) arrived
+abbrev pub link_count : List Arrival → ℕ
+link_count arrived = sum_by (λ (a : Arrival). length a.waits.items + length a.reads.items) arrived
 
 -- readers without those in front that don't wait any more
 abbrev pub without_front : (ℕ → Option Waiting) → List ℕ → List ℕ
@@ -53,8 +53,8 @@ without_front kept [] = []
 without_front kept (t ∷ rest) = if is_some (kept t) then t ∷ rest else without_front kept rest
 
 -- a slot's use with these readers left
-abbrev pub left_by : (ℕ → Option Waiting) → SlotUse → SlotUse
-left_by kept u = record u { readers = without_front kept u.readers }
+abbrev pub with_readers_left : (ℕ → Option Waiting) → SlotUse → SlotUse
+with_readers_left kept u = record u { readers = without_front kept u.readers }
 
 -- a use that nobody has
 abbrev pub no_use : SlotUse
@@ -63,7 +63,7 @@ no_use = record { writer = None; readers = [] }
 -- what a slot has once it is to be used
 abbrev pub use_at : (ℕ → Option Waiting) → Option SlotUse → Option SlotUse
 use_at kept None = Some no_use
-use_at kept (Some u) = Some (left_by kept u)
+use_at kept (Some u) = Some (with_readers_left kept u)
 
 -- The uses of slots are those that there were, and maybe some that nobody has, or without readers that don't wait.
 pub record HaveSameUses (kept : ℕ → Option Waiting) (old new : ℕ → Option SlotUse) : Type 0 where

@@ -7,16 +7,16 @@ use Rattle.nim_command.specs.Waits.{Group}
 use Rattle.nim_queue.specs.Used.{used_in}
 use Rattle.nim_queue.specs.Arrived.{HaveArrived, commands_of}
 use Rattle.nim_queue.specs.Counts.{kept_ones}
-use Rattle.nim_queue.specs.Joined.{are_covered, counted}
-use Rattle.nim_queue.specs.Stands.{Keeps}
+use Rattle.nim_queue.specs.Joined.{are_covered, link_count}
+use Rattle.nim_queue.specs.Stands.{KeepsGroups}
 use Rattle.nim_queue.specs.declared.arrivals.Arrival.{Arrival}
 use Rattle.nim_queue.specs.declared.queue.BeforeQueue.{BeforeQueue}
 
 -- There is room for what has arrived.
-pub record HasRoom (start : BeforeQueue) (all : List Arrival) : Type 0 where
+pub record HasRoomForArrived (start : BeforeQueue) (all : List Arrival) : Type 0 where
   pub arrived : HaveArrived (get nat_eq start.waiting) (used_in start.slots.items) start.given [] all
   pub covered : list_all (are_covered (used_in start.slots.items)) all ≡ true
-  pub few : start.links + counted all < 2 ^ 62
+  pub few : start.links + link_count all < 2 ^ 62
   pub spare : length all ≤ spare start.waiting
   pub room : length (kept_ones (get nat_eq start.waiting) start.given) + length all
       ≤ deque_capacity start.released.items
@@ -25,7 +25,7 @@ pub record HasRoom (start : BeforeQueue) (all : List Arrival) : Type 0 where
 pub record IsMidway (start now : BeforeQueue) (past : List Arrival) (groups : List Group) (done : ℕ → Bool) : Type 0
   where
     pub stands : (next : Group) → next.commands ≡ commands_of past
-        → Keeps (record now { groups = length groups + 1; links = start.links + counted past }) (groups ++ next ∷ [])
+        → KeepsGroups (record now { groups = length groups + 1; links = start.links + link_count past }) (groups ++ next ∷ [])
         done
     pub given : now.given ≡ start.given + length past
     pub spare : spare start.waiting ≤ spare now.waiting + length past

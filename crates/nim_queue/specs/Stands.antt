@@ -15,8 +15,8 @@ use Rattle.nim_queue.specs.declared.slot_use.SlotUse.{SlotUse}
 use Rattle.nim_queue.specs.declared.waiting.Waiting.{Waiting}
 
 -- how many commands the groups have: the ticket of the next one
-abbrev pub count_of : List Group → ℕ
-count_of groups = length (members_of groups)
+abbrev pub command_count : List Group → ℕ
+command_count groups = length (members_of groups)
 
 -- Whether the command of a ticket is released: it isn't complete, and all that it waits for is.
 abbrev pub is_released : List Group → (ℕ → Bool) → ℕ → Bool
@@ -28,29 +28,29 @@ is_after None ticket = true
 is_after (Some after) ticket = nat_lt after ticket
 
 -- the first of some numbers that passes a test
-abbrev pub first_that : (ℕ → Bool) → List ℕ → Option ℕ
-first_that test [] = None
-first_that test (n ∷ rest) = if test n then Some n else first_that test rest
+abbrev pub first_to_pass : (ℕ → Bool) → List ℕ → Option ℕ
+first_to_pass test [] = None
+first_to_pass test (n ∷ rest) = if test n then Some n else first_to_pass test rest
 
 -- the first released command after the given one, in the order given
 abbrev pub ready_of : List Group → (ℕ → Bool) → Option ℕ → Option ℕ
 ready_of groups done after =
-    first_that (λ ticket. is_after after ticket && is_released groups done ticket) (range_with_len 0 (count_of groups))
+    first_to_pass (λ ticket. is_after after ticket && is_released groups done ticket) (range_with_len 0 (command_count groups))
 
 -- the command of a ticket while it isn't complete
-abbrev pub command_of : List Group → (ℕ → Bool) → ℕ → Option Command
-command_of groups done ticket =
+abbrev pub outstanding_command : List Group → (ℕ → Bool) → ℕ → Option Command
+outstanding_command groups done ticket =
     if done ticket then None else option_map (λ (m : Member). m.command) (slice_get (members_of groups) ticket)
 
 -- which of the groups, from 0 on, the command of a ticket is of while it isn't complete
-abbrev pub group_of : List Group → (ℕ → Bool) → ℕ → Option ℕ
-group_of groups done ticket =
+abbrev pub outstanding_group : List Group → (ℕ → Bool) → ℕ → Option ℕ
+outstanding_group groups done ticket =
     if done ticket then None else option_map (λ (m : Member). m.group) (slice_get (members_of groups) ticket)
 
 -- What is complete once the command of a ticket is. A ticket that was never given changes nothing.
 abbrev pub done_with : List Group → (ℕ → Bool) → ℕ → ℕ → Bool
 done_with groups done ticket =
-    if nat_lt ticket (count_of groups) then (λ place. done place || (ticket == place)) else done
+    if nat_lt ticket (command_count groups) then (λ place. done place || (ticket == place)) else done
 
 -- nothing is complete
 abbrev pub nothing_done : ℕ → Bool
@@ -89,7 +89,7 @@ abbrev pub waiting_count : BeforeQueue → ℕ
 waiting_count queue = length (kept_ones (get nat_eq queue.waiting) queue.given)
 
 -- The queue keeps what it has to of these groups, of which just these commands are complete.
-pub record Keeps (queue : BeforeQueue) (groups : List Group) (done : ℕ → Bool) : Type 0 where
+pub record KeepsGroups (queue : BeforeQueue) (groups : List Group) (done : ℕ → Bool) : Type 0 where
   -- whom each command waits for, and who waits for it, as often as they were met
   pub waits : ℕ → List ℕ
   pub followers : ℕ → List ℕ
@@ -113,19 +113,19 @@ pub record Keeps (queue : BeforeQueue) (groups : List Group) (done : ℕ → Boo
   -- no list is longer than was counted
   pub short : AreShort (get nat_eq queue.waiting) queue.links
   pub brief : AreBrief (used_in queue.slots.items) queue.links
-  pub given : queue.given ≡ count_of groups
+  pub given : queue.given ≡ command_count groups
   pub numbered : queue.groups ≡ length groups
   -- no command is complete before it is given
-  pub later : (ticket : ℕ) → count_of groups ≤ ticket → done ticket ≡ false
+  pub later : (ticket : ℕ) → command_count groups ≤ ticket → done ticket ≡ false
 
 -- the same, as one fact to those who call the queue
-unfoldable pub IsKept : BeforeQueue → List Group → (ℕ → Bool) → Type 0
-IsKept queue groups done = Keeps queue groups done
+unfoldable pub AreGroupsKept : BeforeQueue → List Group → (ℕ → Bool) → Type 0
+AreGroupsKept queue groups done = KeepsGroups queue groups done
 
 -- The queue was given these groups, and just these of their commands are complete, each by its place in the order
 -- given, which is its ticket. It keeps nothing of those but their number, and their tickets where they used a slot
 -- last.
-pub record Stands (queue : BeforeQueue) (groups : List Group) (done : ℕ → Bool) : Type 0 where
-  pub kept : IsKept queue groups done
+pub record StandsForGroups (queue : BeforeQueue) (groups : List Group) (done : ℕ → Bool) : Type 0 where
+  pub kept : AreGroupsKept queue groups done
   -- no command is complete before it is given
-  pub later : (ticket : ℕ) → count_of groups ≤ ticket → done ticket ≡ false
+  pub later : (ticket : ℕ) → command_count groups ≤ ticket → done ticket ≡ false

@@ -5,7 +5,7 @@ ghost use Rattle.std.specs.List.{list_any};
 ghost use Rattle.nim_base.specs.declared.number.Slot.{Slot as slot_type};
 ghost use Rattle.nim_command.specs.Slots.{does_write, is_among};
 ghost use Rattle.nim_queue.specs.Used.{used_in};
-ghost use Rattle.nim_queue.specs.Arrived.{HasArrived, HaveArrived, commands_of, is_reached, link_to, reading_of};
+ghost use Rattle.nim_queue.specs.Arrived.{HasArrived, HaveArrived, commands_of, does_await, link_to, reading_of};
 ghost use Rattle.nim_queue.specs.Counts.{is_in};
 ghost use Rattle.nim_queue.specs.Stands.{is_reader, is_writer};
 
@@ -150,7 +150,7 @@ impl Arrivals {
         slots: &Vec<Option<SlotUse>>,
         command: &Command,
     ) -> Result<Short<u64, 8>, NoMemory>
-        ensures { IfOk result (λ tickets. (e : ℕ) → is_in e tickets ≡ is_reached
+        ensures { IfOk result (λ tickets. (e : ℕ) → is_in e tickets ≡ does_await
             (record {
               kept = get nat_eq waiting.now;
               used = used_in slots.now.items;

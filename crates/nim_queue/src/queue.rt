@@ -9,10 +9,10 @@ ghost use Rattle.nim_command.specs.Slots.{is_among, writes_of};
 ghost use Rattle.nim_queue.specs.Used.{used_in};
 ghost use Rattle.nim_queue.specs.Arrived.{HaveArrived, link_to, reading_of};
 ghost use Rattle.nim_queue.specs.Counts.{IsRising, put_in};
-ghost use Rattle.nim_queue.specs.Joined.{AreBrief, AreShort, counted, followed, gathered, gathered_reads, kept_new, more_read, rewritten};
-ghost use Rattle.nim_queue.specs.Midway.{HasRoom, IsMidway};
+ghost use Rattle.nim_queue.specs.Joined.{AreBrief, AreShort, link_count, followed, gathered, gathered_reads, kept_new, more_read, rewritten};
+ghost use Rattle.nim_queue.specs.Midway.{HasRoomForArrived, IsMidway};
 ghost use Rattle.nim_order.specs.Progress.{IsReleasedAt};
-ghost use Rattle.nim_queue.specs.Stands.{Keeps, Stands, command_of, done_with, group_of, is_after, nothing_done, ready_of};
+ghost use Rattle.nim_queue.specs.Stands.{KeepsGroups, StandsForGroups, outstanding_command, done_with, outstanding_group, is_after, nothing_done, ready_of};
 
 use crate::arrivals::{Arrival, Arrivals, arrive_all};
 use crate::complete::free;
@@ -30,7 +30,7 @@ use std::slice;
 
 /// Commands that wait for others: those of their group that their before sets name, and those of earlier groups that
 /// they meet in a slot. The ticket of a command is its place in the order given. Which groups a queue stands for,
-/// and which of their commands are complete, is `Stands` of `specs/Stands.antt`.
+/// and which of their commands are complete, is `StandsForGroups` of `specs/Stands.antt`.
 #[derive(Drop)]
 pub struct BeforeQueue {
     pub(crate) alloc: Global,
@@ -50,7 +50,7 @@ pub struct BeforeQueue {
 impl BeforeQueue {
     /// Was given no command; takes no memory.
     pub fn new(alloc: Global) -> BeforeQueue
-        ensures { Stands result [] nothing_done }
+        ensures { StandsForGroups result [] nothing_done }
     {
         BeforeQueue {
             alloc,
@@ -67,11 +67,11 @@ impl BeforeQueue {
     /// no earlier command of the group has are nothing. Memory is also refused where tickets or the count of all
     /// waits run out.
     pub fn admit(&mut self, group: Vec<Command>) -> Result<(), NoMemory>
-        ensures ok { (groups : List group_type) (done : ℕ → Bool) (next : group_type) → Stands self.old groups done
+        ensures ok { (groups : List group_type) (done : ℕ → Bool) (next : group_type) → StandsForGroups self.old groups done
             → next.commands ≡ group.items
-            → OnOk result (Stands self.new (groups ++ next ∷ []) done) }
-        ensures err { (groups : List group_type) (done : ℕ → Bool) → Stands self.old groups done
-            → OnErr result (Stands self.new groups done) }
+            → OnOk result (StandsForGroups self.new (groups ++ next ∷ []) done) }
+        ensures err { (groups : List group_type) (done : ℕ → Bool) → StandsForGroups self.old groups done
+            → OnErr result (StandsForGroups self.new groups done) }
     {
         if group.len() as u64 > u64::MAX - self.given || self.groups == u64::MAX {
             return Err(NoMemory);
@@ -91,9 +91,9 @@ impl BeforeQueue {
     /// The ticket of the first command after the given one, the first of all where none is given, that isn't complete
     /// and whose waits are all complete; takes no memory.
     pub fn ready(&self, after: Option<u64>) -> Option<u64>
-        ensures first { (groups : List group_type) (done : ℕ → Bool) → Stands self.now groups done
+        ensures first { (groups : List group_type) (done : ℕ → Bool) → StandsForGroups self.now groups done
             → result ≡ ready_of groups done after }
-        ensures released { (groups : List group_type) (done : ℕ → Bool) → Stands self.now groups done
+        ensures released { (groups : List group_type) (done : ℕ → Bool) → StandsForGroups self.now groups done
             → IfSome result (λ ticket. IsReleasedAt (placed_commands groups) done ticket) }
         ensures later { IfSome result (λ ticket. is_after after ticket ≡ true) }
     {
@@ -102,16 +102,16 @@ impl BeforeQueue {
 
     /// The command of a ticket, while it isn't complete; takes no memory.
     pub fn command(&self, ticket: u64) -> Option<&Command>
-        ensures { (groups : List group_type) (done : ℕ → Bool) → Stands self.now groups done
-            → option_copied result ≡ command_of groups done ticket }
+        ensures { (groups : List group_type) (done : ℕ → Bool) → StandsForGroups self.now groups done
+            → option_copied result ≡ outstanding_command groups done ticket }
     {
         command_at(&self.waiting, ticket)
     }
 
     /// Which of the groups given, from 0 on, the command of a ticket is of, while it isn't complete; takes no memory.
     pub fn group(&self, ticket: u64) -> Option<u64>
-        ensures { (groups : List group_type) (done : ℕ → Bool) → Stands self.now groups done
-            → result ≡ group_of groups done ticket }
+        ensures { (groups : List group_type) (done : ℕ → Bool) → StandsForGroups self.now groups done
+            → result ≡ outstanding_group groups done ticket }
     {
         group_at(&self.waiting, ticket)
     }
@@ -120,10 +120,10 @@ impl BeforeQueue {
     /// never
     /// given changes nothing. Takes no memory.
     pub fn complete(&mut self, ticket: u64) -> Option<Command>
-        ensures stands { (groups : List group_type) (done : ℕ → Bool) → Stands self.old groups done
-            → Stands self.new groups (done_with groups done ticket) }
-        ensures command { (groups : List group_type) (done : ℕ → Bool) → Stands self.old groups done
-            → result ≡ command_of groups done ticket }
+        ensures stands { (groups : List group_type) (done : ℕ → Bool) → StandsForGroups self.old groups done
+            → StandsForGroups self.new groups (done_with groups done ticket) }
+        ensures command { (groups : List group_type) (done : ℕ → Bool) → StandsForGroups self.old groups done
+            → result ≡ outstanding_command groups done ticket }
     {
         free(&mut self.waiting, &mut self.released, ticket)
     }
@@ -133,11 +133,11 @@ impl BeforeQueue {
         requires one { length group.items ≡ 1 }
         requires tickets { self.old.given + 1 < 2 ^ 64 }
         requires groups { self.old.groups + 1 < 2 ^ 64 }
-        ensures ok { (groups : List group_type) (done : ℕ → Bool) (next : group_type) → Stands self.old groups done
+        ensures ok { (groups : List group_type) (done : ℕ → Bool) (next : group_type) → StandsForGroups self.old groups done
             → next.commands ≡ group.items
-            → OnOk result (Stands self.new (groups ++ next ∷ []) done) }
-        ensures err { (groups : List group_type) (done : ℕ → Bool) → Stands self.old groups done
-            → OnErr result (Stands self.new groups done) }
+            → OnOk result (StandsForGroups self.new (groups ++ next ∷ []) done) }
+        ensures err { (groups : List group_type) (done : ℕ → Bool) → StandsForGroups self.old groups done
+            → OnErr result (StandsForGroups self.new groups done) }
     {
         match group.pop() {
             Some(command) => self.admit_alone(command),
@@ -149,11 +149,11 @@ impl BeforeQueue {
     fn admit_alone(&mut self, command: Command) -> Result<(), NoMemory>
         requires tickets { self.old.given + 1 < 2 ^ 64 }
         requires groups { self.old.groups + 1 < 2 ^ 64 }
-        ensures ok { (groups : List group_type) (done : ℕ → Bool) (next : group_type) → Stands self.old groups done
+        ensures ok { (groups : List group_type) (done : ℕ → Bool) (next : group_type) → StandsForGroups self.old groups done
             → next.commands ≡ command ∷ []
-            → OnOk result (Stands self.new (groups ++ next ∷ []) done) }
-        ensures err { (groups : List group_type) (done : ℕ → Bool) → Stands self.old groups done
-            → OnErr result (Stands self.new groups done) }
+            → OnOk result (StandsForGroups self.new (groups ++ next ∷ []) done) }
+        ensures err { (groups : List group_type) (done : ℕ → Bool) → StandsForGroups self.old groups done
+            → OnErr result (StandsForGroups self.new groups done) }
     {
         let nothing = Arrivals::new(self.alloc);
         let arrival = nothing.arrival(&self.waiting, &self.slots, self.given, command)?;
@@ -167,11 +167,11 @@ impl BeforeQueue {
 
     /// Room for what has arrived.
     fn make_room(&mut self, arrived: &[Arrival]) -> Result<(), NoMemory>
-        ensures stands { (groups : List group_type) (done : ℕ → Bool) → Stands self.old groups done
-            → Stands self.new groups done }
+        ensures stands { (groups : List group_type) (done : ℕ → Bool) → StandsForGroups self.old groups done
+            → StandsForGroups self.new groups done }
         ensures room { OnOk result (HaveArrived (get nat_eq self.old.waiting) (used_in self.old.slots.items)
             self.old.given [] arrived.now
-            → self.old.links + counted arrived.now < 2 ^ 62 → HasRoom self.new arrived.now) }
+            → self.old.links + link_count arrived.now < 2 ^ 62 → HasRoomForArrived self.new arrived.now) }
         ensures given { self.new.given ≡ self.old.given }
         ensures groups { self.new.groups ≡ self.old.groups }
         ensures links { self.new.links ≡ self.old.links }
@@ -185,8 +185,8 @@ impl BeforeQueue {
     /// Takes in what has arrived, for which there is room.
     fn join_all(&mut self, arrived: Vec<Arrival>)
         requires tickets { self.old.given + length arrived.items < 2 ^ 64 }
-        ensures midway { (groups : List group_type) (done : ℕ → Bool) → group_type → HasRoom self.old arrived.items
-            → Keeps self.old groups done
+        ensures midway { (groups : List group_type) (done : ℕ → Bool) → group_type → HasRoomForArrived self.old arrived.items
+            → KeepsGroups self.old groups done
             → IsMidway self.old self.new arrived.items groups done }
         ensures groups { self.new.groups ≡ self.old.groups }
     {

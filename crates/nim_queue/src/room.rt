@@ -3,7 +3,7 @@ ghost use Rattle.std.specs.HashMap.{get};
 ghost use Rattle.std.specs.List.{list_all};
 ghost use Rattle.nim_base.specs.declared.number.Slot.{Slot as slot_type};
 ghost use Rattle.nim_queue.specs.Used.{used_in};
-ghost use Rattle.nim_queue.specs.Joined.{HaveSameUses, are_covered, counted, use_at, without_front};
+ghost use Rattle.nim_queue.specs.Joined.{HaveSameUses, are_covered, link_count, use_at, without_front};
 
 use crate::arrivals::Arrival;
 use crate::slot_use::{SlotUse, reach, settle};
@@ -101,7 +101,7 @@ fn is_past(waiting: &HashMap<u64, Waiting>, readers: &LinkedList<u64>) -> bool
 
 /// How long lists of followers or readers may be at most with these.
 pub(crate) fn count_all(links: u64, arrived: &[Arrival]) -> Result<u64, NoMemory>
-    ensures count { IfOk result (λ count. count ≡ links + counted arrived.now) }
+    ensures count { IfOk result (λ count. count ≡ links + link_count arrived.now) }
     ensures few { IfOk result (λ count. count < 2 ^ 62) }
 {
     if links >= MOST {

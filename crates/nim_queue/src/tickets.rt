@@ -1,7 +1,7 @@
 ghost use Rattle.std.specs.Prelude.{◌≡◌, ◌<◌, ◌≤◌, [], true, IfSome, OnOk, nat_lt};
 ghost use Rattle.std.specs.VecDeque.{deque_capacity, deque_len};
 ghost use Rattle.nim_queue.specs.Counts.{IsRising, put_in, taken_out};
-ghost use Rattle.nim_queue.specs.Stands.{first_that, is_after};
+ghost use Rattle.nim_queue.specs.Stands.{first_to_pass, is_after};
 
 use nim_base::NoMemory;
 use std::alloc::Global;
@@ -55,7 +55,7 @@ impl Tickets {
 
     /// The first after the given one, the first of all where none is given.
     pub(crate) fn after(&self, after: Option<u64>) -> Option<u64>
-        ensures first { IsRising self.now.items.items → result ≡ first_that (is_after after) self.now.items.items }
+        ensures first { IsRising self.now.items.items → result ≡ first_to_pass (is_after after) self.now.items.items }
         ensures later { IfSome result (λ ticket. is_after after ticket ≡ true) }
     {
         match after {
@@ -66,7 +66,7 @@ impl Tickets {
 
     /// The first after this one.
     fn past(&self, after: u64) -> Option<u64>
-        ensures first { IsRising self.now.items.items → result ≡ first_that (nat_lt after) self.now.items.items }
+        ensures first { IsRising self.now.items.items → result ≡ first_to_pass (nat_lt after) self.now.items.items }
         ensures later { IfSome result (λ ticket. nat_lt after ticket ≡ true) }
     {
         let index = self.items.partition_point(|ticket| *ticket <= after);

@@ -12,7 +12,7 @@ use Rattle.nim_order.proofs.Sessions.{orders_cover}
 use Rattle.nim_job.specs.declared.job.Job.{Job}
 use Rattle.nim_plan.specs.Legal.{IsLegal}
 use Rattle.nim_plan.specs.Paired.{ArePaired, Key}
-use Rattle.nim_place.specs.Extends.{AreCovered, HaveNone, is_live, live_lists, longer}
+use Rattle.nim_place.specs.Extends.{AreCoveredByRule, HaveNone, is_live, live_lists, longer}
 use Rattle.nim_template.proofs.Turns.{have_fewer}
 use Rattle.nim_reuse.specs.Reuse.{no_orders}
 
@@ -23,7 +23,7 @@ StayLegal job live before after =
 
 -- Lists stay covered and paired, each new key passes a test, and live workers keep the halves and the patches whose numbers don't pass theirs.
 pub record Follow (test : Key → Bool) (live : List Bool) (renewed made : ℕ → Bool) (before after : ℕ → List ToWorker) : Type 0 where
-  pub covered : (worker : Worker) → All IsOrderByRule (before worker.0) → AreCovered (after worker.0)
+  pub covered : (worker : Worker) → All IsOrderByRule (before worker.0) → AreCoveredByRule (after worker.0)
   pub paired : ArePaired (live_lists live before) → HaveNone test live before → ArePaired (live_lists live after)
   pub others : (other : Key → Bool) → ((key : Key) → test key ≡ true → other key ≡ false) → HaveNone other live before → HaveNone other live after
   pub halves : (block : ℕ) → renewed block ≡ false → (worker : Worker) → is_live live worker ≡ true

@@ -19,14 +19,14 @@ use Rattle.nim_template.specs.Given.{AreInstalled, instances_of}
 use Rattle.nim_template.specs.Instance.{instance_of}
 use Rattle.nim_patch.specs.declared.patch.PatchCopy.{PatchCopy}
 use Rattle.nim_patch.specs.Parts.{patch_commands_of}
-use Rattle.nim_patch.specs.Patches.{after_copies, copies_of}
+use Rattle.nim_patch.specs.Patches.{after_copies, patch_copies}
 use Rattle.nim_patch.proofs.Due.{copies_due, due_within}
 use Rattle.nim_patch.proofs.Runs.{AreWithinWorkers}
 use Rattle.nim_reuse.specs.declared.decided.Decided.TheVariants.{Installed}
 use Rattle.nim_reuse.specs.declared.reused.Patched.{Patched}
 use Rattle.nim_reuse.specs.Decisions.{Decisions, decided_of}
 use Rattle.nim_reuse.specs.GoesOn.{AreDecided, InstancesGoOn, IsDecided, IsTemplateOf, is_key_at}
-use Rattle.nim_reuse.specs.Reuse.{decisions_by, is_new, key_at, orders_at}
+use Rattle.nim_reuse.specs.Reuse.{decisions_by, is_new, patch_key_at, orders_at}
 use Rattle.nim_reuse.specs.Reuse.{patch_installs, patch_runs, patched_at, template_at, template_by, template_installs, versions_by}
 use Rattle.nim_reuse.proofs.Follows.{Follow}
 use Rattle.nim_reuse.proofs.Blocks.{decided_stays, set_decided}
@@ -41,8 +41,8 @@ decided_then : (place : Placement) (live : List Bool) (objects : ℕ) (forms : �
     (test : Key → Bool) (patched : Patched) (versions : Versions) (template : WorkerTemplate) (decisions : Decisions)
     → AreDecided place live objects forms lists decisions → IsTemplateOf place live objects (forms block) block template
     → Follow test live (λ other. other == template.block) (is_made patched) lists after → AreInstalled live template after
-    → HasCopies live (copies_of versions template.preconditions) after patched
-    → IsFor (key_at decisions block) versions decisions.patches template.preconditions patched
+    → HasCopies live (patch_copies versions template.preconditions) after patched
+    → IsFor (patch_key_at decisions block) versions decisions.patches template.preconditions patched
     → AreDecided place live objects forms after (decisions_by block patched versions template decisions)
 decided_then place live objects forms block lists after test patched versions template decisions are is follow installed has chosen = record {
   blocks =
@@ -51,9 +51,9 @@ decided_then place live objects forms block lists after test patched versions te
       decided_stays place live objects (forms other) lists after other (decided_of decisions other)
       (follow.halves other (subst (λ (n : ℕ). (other == n) ≡ false) (sym is.is_block) apart)) (are.blocks other));
   patches =
-      all_kept live lists after (key_at decisions block) versions decisions.patches template.preconditions patched chosen are.valid
+      all_kept live lists after (patch_key_at decisions block) versions decisions.patches template.preconditions patched chosen are.valid
       (λ patch kept. follow.patches patch kept) has are.patches;
-  valid = kept_valid (key_at decisions block) versions decisions.patches template.preconditions patched chosen are.valid;
+  valid = kept_valid (patch_key_at decisions block) versions decisions.patches template.preconditions patched chosen are.valid;
 }
 
 pub instances_go_on : InstancesGoOn
@@ -93,7 +93,7 @@ instances_go_on place live objects forms at args given commands versions decisio
       orders = orders_at place live at args versions decisions
 
       copies : List PatchCopy
-      copies = copies_of versions template.preconditions
+      copies = patch_copies versions template.preconditions
 
       copied : List (Worker × Command)
       copied = patch_commands_of copies versions
@@ -110,15 +110,15 @@ instances_go_on place live objects forms at args given commands versions decisio
           (template_had place live objects (forms at.block) at.block (by_number given) (decided_of decisions at.block) may.some may.few may.few_objects
           may.recorded (may.decided.blocks at.block))
 
-      chosen : IsFor (key_at decisions at.block) versions decisions.patches template.preconditions patched
-      chosen = patched_for (key_at decisions at.block) versions decisions.patches template
+      chosen : IsFor (patch_key_at decisions at.block) versions decisions.patches template.preconditions patched
+      chosen = patched_for (patch_key_at decisions at.block) versions decisions.patches template
 
       behind : ℕ → List ToWorker
       behind = lists_behind at args new patched versions template (by_number given)
 
       done : IsDone place live objects at args patched template (by_number given) behind commands versions
       done =
-          all_done place live objects (forms at.block) at args new patched (key_at decisions at.block) decisions.patches template (by_number given) commands
+          all_done place live objects (forms at.block) at args new patched (patch_key_at decisions at.block) decisions.patches template (by_number given) commands
           versions had chosen may.decided.patches may.so_far may.before may.room
           (λ object there. may.holders object (let columns = may.before.columns in omega (arith, there, columns)))
 

@@ -19,19 +19,19 @@ use Rattle.nim_place.specs.Extends.{is_live, longer}
 use Rattle.nim_place.specs.TaskOrders.{AreSoFar, IsAt}
 use Rattle.nim_place.specs.Versions.{Versions, holder, latest_of}
 use Rattle.nim_template.specs.Again.{IsBefore}
-use Rattle.nim_template.specs.Given.{AreInstalled, AreTasksAt, IsInstantiated, instance_with, instances_of, is_key_in}
+use Rattle.nim_template.specs.Given.{AreInstalled, AreTasksAt, IsInstanceAsked, instance_with, instances_of, is_key_in}
 use Rattle.nim_template.specs.Instance.{half_of, instance_of}
 use Rattle.nim_template.specs.Runs.{IsRun}
 use Rattle.nim_patch.specs.declared.kept.Key.{Key as PatchKey}
 use Rattle.nim_patch.specs.declared.patch.PatchCopy.{PatchCopy}
 use Rattle.nim_patch.specs.Given.{is_patch_key_in}
 use Rattle.nim_patch.specs.Parts.{patch_commands_of}
-use Rattle.nim_patch.specs.Patches.{after_copies, copies_of}
+use Rattle.nim_patch.specs.Patches.{after_copies, patch_copies}
 use Rattle.nim_patch.specs.Uses.{Use}
 use Rattle.nim_reuse.specs.declared.instance.InstanceAt.{InstanceAt}
 use Rattle.nim_reuse.specs.declared.reused.Patched.{Patched}
 use Rattle.nim_reuse.specs.declared.reused.Patched.TheVariants.{Not, Repeated, Made}
-use Rattle.nim_reuse.specs.GoesOn.{IsKept, is_key_at}
+use Rattle.nim_reuse.specs.GoesOn.{HasPartsInstalled, is_key_at}
 use Rattle.nim_reuse.specs.Reuse.{commands_by, patch_installs, patch_runs, template_installs, versions_by}
 use Rattle.nim_reuse.proofs.Follows.{Follow, StayLegal, follow_then, none_then}
 use Rattle.nim_reuse.proofs.Keeps.{IsKeptBy, instance_keeps}
@@ -68,9 +68,9 @@ copies_stay live copies before after (Made number) kept has = parts_stay live be
 abbrev pub lists_behind : InstanceAt → List ℤ → Bool → Patched → Versions → WorkerTemplate → (ℕ → List ToWorker) → ℕ → List ToWorker
 lists_behind at args new patched versions template lists =
     longer
-    (longer (longer (longer lists (template_installs new at.epoch template)) (patch_installs patched at.epoch (copies_of versions template.preconditions)))
-    (patch_runs patched at.epoch at.instance (copies_of versions template.preconditions) versions))
-    (instances_of at.epoch at.instance template at.base args (after_copies versions (copies_of versions template.preconditions)))
+    (longer (longer (longer lists (template_installs new at.epoch template)) (patch_installs patched at.epoch (patch_copies versions template.preconditions)))
+    (patch_runs patched at.epoch at.instance (patch_copies versions template.preconditions) versions))
+    (instances_of at.epoch at.instance template at.base args (after_copies versions (patch_copies versions template.preconditions)))
 
 -- what is true of them
 pub record IsDone (place : Placement) (live : List Bool) (objects : ℕ) (at : InstanceAt) (args : List ℤ) (patched : Patched) (template : WorkerTemplate)
@@ -78,17 +78,17 @@ pub record IsDone (place : Placement) (live : List Bool) (objects : ℕ) (at : I
   pub so_far : AreSoFar live at.epoch after (commands ++ commands_by at args versions template) (versions_by at versions template)
   pub before : IsBefore (length live) objects (at.base + length template.forms) (versions_by at versions template)
   pub installed : AreInstalled live template after
-  pub copies : HasCopies live (copies_of versions template.preconditions) after patched
+  pub copies : HasCopies live (patch_copies versions template.preconditions) after patched
   pub follow : Follow (is_key_at at) live (λ other. other == template.block) (is_made patched) lists after
   pub legal : (job : Job) → IsAt job at.base versions → AreTasksAt job at.base args template → StayLegal job live lists after
   pub next : (job : Job) → IsAt job at.base versions → AreTasksAt job at.base args template
       → IsAt job (at.base + length template.forms) (versions_by at versions template)
-  pub run : IsRun place live objects template at.base args (after_copies versions (copies_of versions template.preconditions))
+  pub run : IsRun place live objects template at.base args (after_copies versions (patch_copies versions template.preconditions))
 
 pub all_done : (place : Placement) (live : List Bool) (objects : ℕ) (forms : List TaskForm) (at : InstanceAt) (args : List ℤ) (new : Bool)
     (patched : Patched) (key : PatchKey) (uses : List Use) (template : WorkerTemplate) (lists : ℕ → List ToWorker) (commands : List (Worker × Command))
     (versions : Versions) → IsHad place live objects forms at.block lists template new → IsFor key versions uses template.preconditions patched
-    → All (IsKept live lists) uses → AreSoFar live at.epoch lists commands versions → IsBefore (length live) objects at.base versions
+    → All (HasPartsInstalled live lists) uses → AreSoFar live at.epoch lists commands versions → IsBefore (length live) objects at.base versions
     → at.base + 1024 < 2 ^ 64 → ((object : Object) → object.0 < versions.objects → is_some (holder versions object) ≡ true)
     → IsDone place live objects at args patched template lists (lists_behind at args new patched versions template lists) commands versions
 all_done place live objects forms at args new patched key uses template lists commands versions had chosen kept so_far before room held =
@@ -115,7 +115,7 @@ all_done place live objects forms at args new patched key uses template lists co
       run = had.is_template.runs at.base args now mended_so.before room mended_so.current;
     } where
       copies : List PatchCopy
-      copies = copies_of versions template.preconditions
+      copies = patch_copies versions template.preconditions
 
       now : Versions
       now = after_copies versions copies
@@ -142,7 +142,7 @@ all_done place live objects forms at args new patched key uses template lists co
       out = template_installed live template at.epoch (is_made patched) lists commands new had.may so_far.ask
 
       -- patches that are kept are installed behind the template's orders
-      still : All (IsKept live first) uses
+      still : All (HasPartsInstalled live first) uses
       still = stay_kept live lists first uses
           (λ patch. (template_installed live template at.epoch (λ other. false) lists commands new had.may so_far.ask).follow.patches patch refl) kept
 
@@ -159,7 +159,7 @@ all_done place live objects forms at args new patched key uses template lists co
       there_still : AreInstalled live template third
       there_still = halves_stay live first third template (mended_so.follow.halves template.block refl) out.installed
 
-      done : IsInstantiated live objects template at.epoch at.instance at.base args (instances_of at.epoch at.instance template at.base args now) third
+      done : IsInstanceAsked live objects template at.epoch at.instance at.base args (instances_of at.epoch at.instance template at.base args now) third
           (commands ++ copied) now
       done =
           had.is_template.extend at.epoch at.instance at.base args third (commands ++ copied) now (record {

@@ -20,12 +20,12 @@ use Rattle.nim_patch.specs.declared.kept.Key.{Key}
 use Rattle.nim_patch.specs.declared.patch.PatchCopy.{PatchCopy}
 use Rattle.nim_patch.specs.Given.{ArePartsInstalled, is_patch_key_in, patch_installs_of, patch_runs_of}
 use Rattle.nim_patch.specs.Parts.{patch_commands_of, run_commands_from}
-use Rattle.nim_patch.specs.Patches.{after_copies, copies_of, copy_first, copy_from, failing_in, fails}
+use Rattle.nim_patch.specs.Patches.{after_copies, patch_copies, copy_first, copy_to_precondition, failing_in, fails}
 use Rattle.nim_patch.specs.Uses.{Use}
 use Rattle.nim_patch.proofs.Given.{patch_installs, patch_runs}
 use Rattle.nim_reuse.specs.declared.reused.Patched.{Patched}
 use Rattle.nim_reuse.specs.declared.reused.Patched.TheVariants.{Not, Repeated, Made}
-use Rattle.nim_reuse.specs.GoesOn.{IsKept}
+use Rattle.nim_reuse.specs.GoesOn.{HasPartsInstalled}
 use Rattle.nim_reuse.specs.Reuse as reuses
 use Rattle.nim_reuse.proofs.Follows.{Follow, StayLegal, follow_same, longer_none, no_key, none_then}
 use Rattle.nim_reuse.proofs.Uses.{HasCopies, IsFor, found_installed, is_made}
@@ -39,17 +39,17 @@ one_more versions need needs = sum_by-append (λ (n : Worker × Object). cond (f
 
 -- then there are no copies, and all hold
 pub none_fail : (versions : Versions) (needs : List (Worker × Object)) → failing_in versions needs ≡ 0
-    → (copies_of versions needs ≡ []) × (are_current versions needs ≡ true)
+    → (patch_copies versions needs ≡ []) × (are_current versions needs ≡ true)
 none_fail versions [] none = (refl, refl)
 none_fail versions (need ∷ needs) none =
     by (is_current versions need.1 need.0) refl (sym (one_more versions need needs) ∙ none) (none_fail versions needs) where
       by : (b : Bool) → is_current versions need.1 need.0 ≡ b → (0 + cond (not b) 1 0) + failing_in versions needs ≡ 0
-          → (failing_in versions needs ≡ 0 → (copies_of versions needs ≡ []) × (are_current versions needs ≡ true))
-          → (copies_of versions (need ∷ needs) ≡ []) × (are_current versions (need ∷ needs) ≡ true)
+          → (failing_in versions needs ≡ 0 → (patch_copies versions needs ≡ []) × (are_current versions needs ≡ true))
+          → (patch_copies versions (need ∷ needs) ≡ []) × (are_current versions (need ∷ needs) ≡ true)
       by true is none rest =
           let on = rest (omega (arith, none)) in
-          let copy : Bool → Option PatchCopy = λ b. if not b then option_map (copy_from need) (holder versions need.1) else None in (
-            ap (λ (b : Bool). copy_first (copy b) (copies_of versions needs)) is ∙ on.0,
+          let copy : Bool → Option PatchCopy = λ b. if not b then option_map (copy_to_precondition need) (holder versions need.1) else None in (
+            ap (λ (b : Bool). copy_first (copy b) (patch_copies versions needs)) is ∙ on.0,
             and_from (is_current versions need.1 need.0) (are_current versions needs) is on.1,
           )
       by false is none rest = absurd (omega (arith, none))
@@ -78,9 +78,9 @@ patch_run : (live : List Bool) (objects : ℕ) (needs : List (Worker × Object))
     (lists : ℕ → List ToWorker) (commands : List (Worker × Command)) (versions : Versions) → AreMainSlots live objects needs
     → AreSoFar live epoch lists commands versions → IsBefore (length live) objects base versions
     → ((object : Object) → object.0 < versions.objects → is_some (holder versions object) ≡ true)
-    → ArePartsInstalled live patch (copies_of versions needs) lists
-    → IsMended live objects needs (copies_of versions needs) epoch instance base (Repeated patch) renewed made lists
-    (longer lists (patch_runs_of epoch instance patch (copies_of versions needs) versions)) commands versions
+    → ArePartsInstalled live patch (patch_copies versions needs) lists
+    → IsMended live objects needs (patch_copies versions needs) epoch instance base (Repeated patch) renewed made lists
+    (longer lists (patch_runs_of epoch instance patch (patch_copies versions needs) versions)) commands versions
 patch_run live objects needs epoch instance patch base renewed made lists commands versions are so_far before held installed =
     let is =
     patch_runs live objects versions needs are epoch instance patch base lists commands
@@ -104,12 +104,12 @@ patch_run live objects needs epoch instance patch base renewed made lists comman
 -- so the patch before an instance mends what fails
 pub patch_mended : (live : List Bool) (objects : ℕ) (key : Key) (uses : List Use) (needs : List (Worker × Object)) (epoch instance base : ℕ)
     (patched : Patched) (renewed : ℕ → Bool) (lists : ℕ → List ToWorker) (commands : List (Worker × Command)) (versions : Versions)
-    → IsFor key versions uses needs patched → All (IsKept live lists) uses → AreMainSlots live objects needs
+    → IsFor key versions uses needs patched → All (HasPartsInstalled live lists) uses → AreMainSlots live objects needs
     → AreSoFar live epoch lists commands versions → IsBefore (length live) objects base versions
     → ((object : Object) → object.0 < versions.objects → is_some (holder versions object) ≡ true)
-    → IsMended live objects needs (copies_of versions needs) epoch instance base patched renewed (is_made patched) lists
-    (longer (longer lists (reuses.patch_installs patched epoch (copies_of versions needs)))
-    (reuses.patch_runs patched epoch instance (copies_of versions needs) versions)) commands versions
+    → IsMended live objects needs (patch_copies versions needs) epoch instance base patched renewed (is_made patched) lists
+    (longer (longer lists (reuses.patch_installs patched epoch (patch_copies versions needs)))
+    (reuses.patch_runs patched epoch instance (patch_copies versions needs) versions)) commands versions
 patch_mended live objects key uses needs epoch instance base Not renewed lists commands versions is kept are so_far before held =
     let none = none_fail versions needs is in
     let same : longer (longer lists reuses.no_orders) reuses.no_orders ≡ lists
@@ -118,7 +118,7 @@ patch_mended live objects key uses needs epoch instance base Not renewed lists c
     ap (λ (cs : List (Worker × Command)). commands ++ cs) (no_commands versions 0 versions.workers) ∙ append-nil commands in
     subst
     (λ (after : ℕ → List ToWorker).
-    IsMended live objects needs (copies_of versions needs) epoch instance base Not renewed (is_made Not) lists after commands versions)
+    IsMended live objects needs (patch_copies versions needs) epoch instance base Not renewed (is_made Not) lists after commands versions)
     (sym same)
     (subst (λ (copies : List PatchCopy). IsMended live objects needs copies epoch instance base Not renewed (is_made Not) lists lists commands versions)
     (sym none.0) (record {
@@ -131,7 +131,7 @@ patch_mended live objects key uses needs epoch instance base Not renewed lists c
       next = λ job at. at;
     }))
 patch_mended live objects key uses needs epoch instance base (Repeated number) renewed lists commands versions is kept are so_far before held =
-    let copies : List PatchCopy = copies_of versions needs in
+    let copies : List PatchCopy = patch_copies versions needs in
     subst
     (λ (first : ℕ → List ToWorker).
     IsMended live objects needs copies epoch instance base (Repeated number) renewed (is_made (Repeated number)) lists
@@ -140,7 +140,7 @@ patch_mended live objects key uses needs epoch instance base (Repeated number) r
     (patch_run live objects needs epoch instance number base renewed (is_made (Repeated number)) lists commands versions are so_far before held
     (found_installed live lists key copies number uses kept is))
 patch_mended live objects key uses needs epoch instance base (Made number) renewed lists commands versions is kept are so_far before held =
-    let copies : List PatchCopy = copies_of versions needs in
+    let copies : List PatchCopy = patch_copies versions needs in
     let first : ℕ → List ToWorker = longer lists (patch_installs_of epoch number copies) in
     let out = patch_installs live copies epoch number lists commands so_far.ask in
     let run =

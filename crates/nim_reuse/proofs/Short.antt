@@ -24,7 +24,7 @@ use Rattle.nim_template.specs.Instance.{half_of}
 use Rattle.nim_patch.specs.declared.patch.PatchCopy.{PatchCopy}
 use Rattle.nim_patch.specs.Given.{run_parts}
 use Rattle.nim_patch.specs.Parts.{patch_parts_of, versions_taken}
-use Rattle.nim_patch.specs.Patches.{after_copies, copies_of}
+use Rattle.nim_patch.specs.Patches.{after_copies, patch_copies}
 use Rattle.nim_reuse.specs.declared.decided.Decided.{Decided}
 use Rattle.nim_reuse.specs.declared.decided.Decided.TheVariants.{Installed}
 use Rattle.nim_reuse.specs.declared.instance.InstanceAt.{InstanceAt}
@@ -32,7 +32,7 @@ use Rattle.nim_reuse.specs.declared.reused.Patched.{Patched}
 use Rattle.nim_reuse.specs.declared.reused.Patched.TheVariants.{Not, Repeated, Made}
 use Rattle.nim_reuse.specs.Cost.{IsNotMade, LaterInstancesAreShort, bound_at, bytes_of, instance_bound, patch_bound}
 use Rattle.nim_reuse.specs.Received.{object_received, received_in}
-use Rattle.nim_reuse.specs.Reuse.{is_new, key_at, no_orders, orders_by, patch_installs, patch_runs, patched_by, template_by}
+use Rattle.nim_reuse.specs.Reuse.{is_new, patch_key_at, no_orders, orders_by, patch_installs, patch_runs, patched_by, template_by}
 
 -- ---- the orders for one worker
 
@@ -216,7 +216,7 @@ two_within first second xs ys one two =
 -- those for a worker
 short_by : (workers : ℕ) (at : InstanceAt) (args : List ℤ) (patched : Patched) (versions : Versions) (template : WorkerTemplate) (number : ℕ)
     → IsNotMade patched
-    → AreTwo (bound_at number (copies_of versions template.preconditions) args template)
+    → AreTwo (bound_at number (patch_copies versions template.preconditions) args template)
     (orders_to number (orders_by workers at args false patched versions template))
 short_by workers at args patched versions template number old =
     subst (AreTwo (bound_at number copies args template)) (sym is)
@@ -230,7 +230,7 @@ short_by workers at args patched versions template number old =
     (instance_within at.epoch at.instance template.block at.base args (latest_of (after_copies versions copies)) (half_of template number))
     (none_within (instance_bound (length args) (length (received_in (half_of template number))))))) where
       copies : List PatchCopy
-      copies = copies_of versions template.preconditions
+      copies = patch_copies versions template.preconditions
 
       first : List Directed
       first = directed workers no_orders
@@ -263,11 +263,11 @@ short_by workers at args patched versions template number old =
 pub later_instances_are_short : LaterInstancesAreShort
 later_instances_are_short place live at args versions decisions template number installed old =
     let has : Decided → WorkerTemplate = λ decided. template_by place versions.objects live at.block decided in
-    let patch : Decided → Patched = λ decided. patched_by (key_at decisions at.block) versions decisions.patches (has decided) in
+    let patch : Decided → Patched = λ decided. patched_by (patch_key_at decisions at.block) versions decisions.patches (has decided) in
     let all =
     subst
     (λ (decided : Decided). IsNotMade (patch decided)
-    → AreTwo (bound_at number (copies_of versions template.preconditions) args template)
+    → AreTwo (bound_at number (patch_copies versions template.preconditions) args template)
     (orders_to number (orders_by (length live) at args (is_new decided) (patch decided) versions (has decided))))
     (sym installed)
     (λ (still : IsNotMade (patch (Installed template))). short_by (length live) at args (patch (Installed template)) versions template number still) old in

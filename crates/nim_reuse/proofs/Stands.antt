@@ -12,7 +12,7 @@ use Rattle.nim_message.specs.Orders.{session_of}
 use Rattle.nim_place.specs.Extends.{longer}
 use Rattle.nim_reuse.specs.declared.decided.Decided.TheVariants.{Open, Recorded}
 use Rattle.nim_reuse.specs.Decisions.{decided_of}
-use Rattle.nim_reuse.specs.GoesOn.{DecisionsStand, IsDecided, IsKept}
+use Rattle.nim_reuse.specs.GoesOn.{DecisionsStand, IsDecided, HasPartsInstalled}
 use Rattle.nim_reuse.proofs.Blocks.{decided_stays, parts_stay, set_decided}
 use Rattle.nim_reuse.proofs.Keeps.{AreAlike, singles_keep}
 
@@ -27,7 +27,7 @@ pub decisions_stand : DecisionsStand
 decisions_stand = record {
   new = λ place live objects blocks forms lists. (record {
     blocks = λ block. subst (IsDecided place live objects (forms block) lists block) (sym (none_decided blocks block)) tt;
-    patches = All-nil (IsKept live lists);
+    patches = All-nil (HasPartsInstalled live lists);
     valid = record {
       few = omega arith;
       numbered = λ number. sym (cond-false (nat_lt number 0) 1 0 (le-ltb number 0 (omega arith)));
@@ -41,7 +41,7 @@ decisions_stand = record {
             decided_stays place live objects (forms block) lists (longer lists more) block (decided_of decisions block)
             (λ worker there. ap (λ (h : ℕ → List Entry). h block) (alike worker).halves) (are.blocks block);
         patches =
-            All-weaker (IsKept live lists) (IsKept live (longer lists more))
+            All-weaker (HasPartsInstalled live lists) (HasPartsInstalled live (longer lists more))
             (λ one.
             parts_stay live lists (longer lists more) one.1.number one.1.patch.copies
             (λ worker there. ap (λ (p : ℕ → List PatchPart). p one.1.number) (alike worker).patches))

@@ -21,7 +21,7 @@ use Rattle.nim_place.specs.Versions.{Versions, holder}
 use Rattle.nim_patch.specs.declared.patch.PatchCopy.{PatchCopy}
 use Rattle.nim_patch.specs.Given.{patch_runs_of}
 use Rattle.nim_patch.specs.Parts.{copy_parts, patch_parts_from}
-use Rattle.nim_patch.specs.Patches.{copies_of, copy_first, copy_from, failing_in, fails}
+use Rattle.nim_patch.specs.Patches.{patch_copies, copy_first, copy_to_precondition, failing_in, fails}
 use Rattle.nim_reuse.specs.Received.{object_received, received_in}
 use Rattle.nim_reuse.specs.declared.instance.InstanceAt.{InstanceAt}
 use Rattle.nim_reuse.specs.declared.reused.Patched.TheVariants.{Not, Repeated}
@@ -73,14 +73,14 @@ named_received before (entry ∷ half) =
 
 -- where no precondition fails there are no copies
 pub none_copied : (versions : Versions) (preconditions : List (Worker × Object)) → failing_in versions preconditions ≡ 0
-    → copies_of versions preconditions ≡ []
+    → patch_copies versions preconditions ≡ []
 none_copied versions [] none = refl
 none_copied versions (precondition ∷ rest) none = either (fails versions precondition) refl (none_copied versions rest) where
   fewer : (if fails versions precondition then 1 else 0) + failing_in versions rest ≡ 0
   fewer = sym (sum_by-cons (λ (one : Worker × Object). if fails versions one then 1 else 0) precondition rest) ∙ none
 
-  either : (b : Bool) → fails versions precondition ≡ b → (failing_in versions rest ≡ 0 → copies_of versions rest ≡ [])
-      → copies_of versions (precondition ∷ rest) ≡ []
+  either : (b : Bool) → fails versions precondition ≡ b → (failing_in versions rest ≡ 0 → patch_copies versions rest ≡ [])
+      → patch_copies versions (precondition ∷ rest) ≡ []
   either true is later =
       let counted : 1 + failing_in versions rest ≡ 0 =
       ap (λ (b : Bool). (if b then 1 else 0) + failing_in versions rest) (sym is) ∙ fewer in
@@ -88,8 +88,8 @@ none_copied versions (precondition ∷ rest) none = either (fails versions preco
   either false is later =
       let counted : 0 + failing_in versions rest ≡ 0 =
       ap (λ (b : Bool). (if b then 1 else 0) + failing_in versions rest) (sym is) ∙ fewer in
-      ap (λ (b : Bool). copy_first (if b then option_map (copy_from precondition) (holder versions precondition.1) else None)
-      (copies_of versions rest)) is
+      ap (λ (b : Bool). copy_first (if b then option_map (copy_to_precondition precondition) (holder versions precondition.1) else None)
+      (patch_copies versions rest)) is
       ∙ later (omega (arith, counted))
 
 -- no orders for so many workers

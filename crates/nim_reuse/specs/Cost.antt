@@ -12,7 +12,7 @@ use Rattle.nim_place.specs.Versions.{Versions}
 use Rattle.nim_template.specs.Instance.{half_of}
 use Rattle.nim_patch.specs.declared.patch.PatchCopy.{PatchCopy}
 use Rattle.nim_patch.specs.Parts.{patch_parts_of}
-use Rattle.nim_patch.specs.Patches.{copies_of}
+use Rattle.nim_patch.specs.Patches.{patch_copies}
 use Rattle.nim_reuse.specs.declared.decided.Decided.TheVariants.{Installed}
 use Rattle.nim_reuse.specs.declared.instance.InstanceAt.{InstanceAt}
 use Rattle.nim_reuse.specs.declared.reused.Patched.{Patched}
@@ -51,7 +51,7 @@ pub record IsShort (place : Placement) (live : List Bool) (at : InstanceAt) (arg
     (decisions : Decisions) (template : WorkerTemplate) (number : ℕ) : Type 0 where
   pub few : length (orders_to number (orders_at place live at args versions decisions)) ≤ 2
   pub bytes : bytes_of (orders_to number (orders_at place live at args versions decisions))
-      ≤ bound_at number (copies_of versions template.preconditions) args template
+      ≤ bound_at number (patch_copies versions template.preconditions) args template
 
 -- So is each instance from the third on.
 abbrev pub LaterInstancesAreShort : Type 0

@@ -62,15 +62,15 @@ IsDecided place live objects forms lists block (Installed template) =
     IsTemplateOf place live objects forms block template × AreInstalled live template lists
 
 -- the live workers have their parts of a kept patch
-abbrev pub IsKept : List Bool → (ℕ → List ToWorker) → Use → Type 0
-IsKept live lists one = ArePartsInstalled live one.1.number one.1.patch.copies lists
+abbrev pub HasPartsInstalled : List Bool → (ℕ → List ToWorker) → Use → Type 0
+HasPartsInstalled live lists one = ArePartsInstalled live one.1.number one.1.patch.copies lists
 
 -- Decisions rest on orders so far, where blocks have these forms: live workers have the templates and the patches that
 -- the decisions say.
 pub record AreDecided (place : Placement) (live : List Bool) (objects : ℕ) (forms : ℕ → List TaskForm)
     (lists : ℕ → List ToWorker) (decisions : Decisions) : Type 0 where
   pub blocks : (block : ℕ) → IsDecided place live objects (forms block) lists block (decided_of decisions block)
-  pub patches : All (IsKept live lists) decisions.patches
+  pub patches : All (HasPartsInstalled live lists) decisions.patches
   pub valid : IsValid decisions.patches
 
 -- ---- a reused instance

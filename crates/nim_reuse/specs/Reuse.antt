@@ -18,11 +18,11 @@ use Rattle.nim_template.specs.Given.{installs_of, instances_of}
 use Rattle.nim_template.specs.Instance.{half_of, instance_of}
 use Rattle.nim_patch.specs.declared.kept.Key.{Key}
 use Rattle.nim_patch.specs.declared.patch.PatchCopy.{PatchCopy}
-use Rattle.nim_patch.specs.Cache.{after_use, found, number_for}
+use Rattle.nim_patch.specs.Cache.{after_use, patch_number_kept, number_for}
 use Rattle.nim_patch.specs.Given.{patch_installs_of, patch_runs_of}
 use Rattle.nim_patch.specs.Parts.{patch_commands_of}
-use Rattle.nim_patch.specs.Patches.{after_copies, copies_of, failing_in}
-use Rattle.nim_patch.specs.Uses.{Use, key_of, use_of}
+use Rattle.nim_patch.specs.Patches.{after_copies, patch_copies, failing_in}
+use Rattle.nim_patch.specs.Uses.{Use, patch_key, use_of}
 use Rattle.nim_reuse.specs.declared.decided.Decided.{Decided}
 use Rattle.nim_reuse.specs.declared.decided.Decided.TheVariants.{Recorded, Installed}
 use Rattle.nim_reuse.specs.declared.instance.InstanceAt.{InstanceAt}
@@ -63,22 +63,22 @@ pub record CanReuse (objects : ℕ) (live : List Bool) (block : ℕ) (decided : 
 -- ---- the patch before an instance
 
 -- what a patch is kept under
-abbrev pub key_at : Decisions → ℕ → Key
-key_at decisions block = key_of decisions.previous block
+abbrev pub patch_key_at : Decisions → ℕ → Key
+patch_key_at decisions block = patch_key decisions.previous block
 
 -- a patch with these copies: one that is kept, or a new one
 abbrev pub patch_found : Key → List PatchCopy → List Use → Patched
-patch_found key copies uses = option_map_or Repeated (found key copies uses) (Made (number_for key uses))
+patch_found key copies uses = option_map_or Repeated (patch_number_kept key copies uses) (Made (number_for key uses))
 
 -- What is needed before an instance of a template: nothing where no precondition fails.
 abbrev pub patched_by : Key → Versions → List Use → WorkerTemplate → Patched
 patched_by key versions uses template =
     if failing_in versions template.preconditions == 0 then Not
-    else patch_found key (copies_of versions template.preconditions) uses
+    else patch_found key (patch_copies versions template.preconditions) uses
 
 -- so it is by what was decided so far
 abbrev pub patched_in : Decisions → ℕ → Versions → WorkerTemplate → Patched
-patched_in decisions block versions template = patched_by (key_at decisions block) versions decisions.patches template
+patched_in decisions block versions template = patched_by (patch_key_at decisions block) versions decisions.patches template
 
 -- the kept patches then
 abbrev pub patches_after : Key → List PatchCopy → List Use → Patched → List Use
@@ -117,7 +117,7 @@ patch_orders workers at patched copies versions =
 -- The orders of an instance: for each worker its half, if the template is new; those of the patch; and the instance.
 abbrev pub orders_by : ℕ → InstanceAt → List ℤ → Bool → Patched → Versions → WorkerTemplate → List Directed
 orders_by workers at args new patched versions template =
-    let copies : List PatchCopy = copies_of versions template.preconditions in
+    let copies : List PatchCopy = patch_copies versions template.preconditions in
     directed workers (template_installs new at.epoch template)
     ++ patch_orders workers at patched copies versions
     ++ directed workers (instances_of at.epoch at.instance template at.base args (after_copies versions copies))
@@ -125,13 +125,13 @@ orders_by workers at args new patched versions template =
 -- the commands that they ask for
 abbrev pub commands_by : InstanceAt → List ℤ → Versions → WorkerTemplate → List (Worker × Command)
 commands_by at args versions template =
-    let copies : List PatchCopy = copies_of versions template.preconditions in
+    let copies : List PatchCopy = patch_copies versions template.preconditions in
     patch_commands_of copies versions ++ instance_of template at.base args (after_copies versions copies)
 
 -- the map behind them: the copies first, then the effect
 abbrev pub versions_by : InstanceAt → Versions → WorkerTemplate → Versions
 versions_by at versions template =
-    after_effect at.base (after_copies versions (copies_of versions template.preconditions)) template.effect
+    after_effect at.base (after_copies versions (patch_copies versions template.preconditions)) template.effect
 
 -- ---- what the instance comes to
 
@@ -149,7 +149,7 @@ decisions_by block patched versions template decisions = record {
   blocks = slice_set decisions.blocks block (Installed template);
   previous = block;
   patches =
-      patches_after (key_at decisions block) (copies_of versions template.preconditions) decisions.patches patched;
+      patches_after (patch_key_at decisions block) (patch_copies versions template.preconditions) decisions.patches patched;
 }
 
 -- a map has the workers and objects that it had

@@ -1,5 +1,5 @@
 ghost use Rattle.std.specs.Prelude.{◌≡◌, ◌<◌, ◌++◌, length, slice_set, IfOk, OnErr, OnOk};
-ghost use Rattle.nim_patch.specs.Patches.{after_copies, copies_of};
+ghost use Rattle.nim_patch.specs.Patches.{after_copies, patch_copies};
 ghost use Rattle.nim_reuse.specs.declared.decided.Decided.TheVariants.{Installed as installed, Open as undecided};
 ghost use Rattle.nim_reuse.specs.Decisions as spec;
 ghost use Rattle.nim_reuse.specs.Reuse as reuses;
@@ -201,13 +201,13 @@ impl DecisionMap {
         at: &InstanceAt,
     ) -> Result<Patched, NoMemory>
         ensures orders { IfOk result (λ patched. orders.new.items ≡ orders.old.items
-            ++ reuses.patch_orders workers at.now patched (copies_of map.old ready.old.preconditions) map.old) }
-        ensures map { OnOk result (map.new ≡ after_copies map.old (copies_of map.old ready.old.preconditions)) }
+            ++ reuses.patch_orders workers at.now patched (patch_copies map.old ready.old.preconditions) map.old) }
+        ensures map { OnOk result (map.new ≡ after_copies map.old (patch_copies map.old ready.old.preconditions)) }
         ensures patched { IfOk result (λ patched. patched
             ≡ reuses.patched_in self.old at.now.block map.old ready.old) }
         ensures kept { IfOk result (λ patched. self.new ≡ record self.old {
-          patches = reuses.patches_after (reuses.key_at self.old at.now.block)
-              (copies_of map.old ready.old.preconditions) self.old.patches patched;
+          patches = reuses.patches_after (reuses.patch_key_at self.old at.now.block)
+              (patch_copies map.old ready.old.preconditions) self.old.patches patched;
         }) }
         ensures ready { ready.new ≡ ready.old }
         ensures refused { OnErr result (map.new ≡ map.old) }
@@ -227,9 +227,9 @@ impl DecisionMap {
     /// A patch before a block: the one that is kept, if it has the same copies, else a new one, which is kept.
     fn patch_by(&mut self, block: u8, patch: Patch) -> Result<Patched, NoMemory>
         ensures patched { IfOk result (λ patched. patched
-            ≡ reuses.patch_found (reuses.key_at self.old block) patch.copies self.old.patches) }
+            ≡ reuses.patch_found (reuses.patch_key_at self.old block) patch.copies self.old.patches) }
         ensures kept { IfOk result (λ patched. self.new ≡ record self.old {
-          patches = reuses.patches_after (reuses.key_at self.old block) patch.copies self.old.patches patched;
+          patches = reuses.patches_after (reuses.patch_key_at self.old block) patch.copies self.old.patches patched;
         }) }
         ensures blocks { self.new.blocks ≡ self.old.blocks }
     {

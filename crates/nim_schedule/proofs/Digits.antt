@@ -6,7 +6,7 @@ use Rattle.std.specs.List.{fold, list_all}
 use Rattle.std.proofs.Math.Nat.{add-mul, mul-le-mul_right, mul_assoc, pow-le-pow_right, pow-succ', pow-zero}
 use Rattle.std.proofs.lemmas.Bool.{and_parts}
 use Rattle.std.proofs.lemmas.Bool.Decides.{nat_tests}
-use Rattle.nim_lex.specs.Numbers.{number_of}
+use Rattle.nim_lex.specs.Numbers.{decimal_value}
 use Rattle.nim_schedule.specs.Words.{is_short}
 
 -- digits behind a number
@@ -30,7 +30,7 @@ after_below n (d ∷ ds) all =
       ap (λ x. (n + 1) * x) (pow-succ' 10 (length ds)),
     )
 
-pub small_below : (word : List ℕ) → is_short 9 word ≡ true → list_all is_ascii_digit word ≡ true → number_of word < 1000000000
+pub small_below : (word : List ℕ) → is_short 9 word ≡ true → list_all is_ascii_digit word ≡ true → decimal_value word < 1000000000
 small_below word short digits =
     let within : length word ≤ 9 = at_most (length word) 9 (and_parts (not (length word == 0)) (nat_le (length word) 9) short).1 in
     omega (arith, after_below 0 word digits, pow-le-pow_right {n = 10} (omega arith) {i = length word} {j = 9} within)

@@ -6,16 +6,16 @@ use Rattle.nim_schedule.specs.declared.event.Line.{Line}
 use Rattle.nim_schedule.specs.declared.event.Line.TheVariants.{Auto, One}
 use Rattle.nim_schedule.specs.declared.kind.LineKind.TheVariants as kind
 use Rattle.nim_schedule.specs.Lines.{line_kind, line_as, line_by, line_rule, lines_in, one_number, proposal, two_numbers}
-use Rattle.nim_schedule.specs.Schedule.{refusal_of, schedule_of}
+use Rattle.nim_schedule.specs.Schedule.{schedule_refusal, schedule_of}
 use Rattle.nim_schedule.specs.Words.{block_word, small_number, words_from, words_in}
 
 -- a schedule that says these lines
 abbrev Says : List ℕ → List Line → Type 0
-Says text lines = (refusal_of text ≡ None) × (schedule_of text ≡ lines)
+Says text lines = (schedule_refusal text ≡ None) × (schedule_of text ≡ lines)
 
 -- a schedule whose first refused line is this one
 abbrev IsRefusedAt : List ℕ → ℕ → Type 0
-IsRefusedAt text line = refusal_of text ≡ Some (record { line = line; rule = 91 })
+IsRefusedAt text line = schedule_refusal text ≡ Some (record { line = line; rule = 91 })
 
 -- ---- what is taken
 
@@ -33,7 +33,7 @@ blanks_and_comments = (refl, refl)
 
 -- ---- what is refused
 
-too_long : (bytes : List ℕ) → nat_lt 16777216 (length bytes) ≡ true → refusal_of bytes ≡ Some (record { line = 0; rule = 90 })
+too_long : (bytes : List ℕ) → nat_lt 16777216 (length bytes) ≡ true → schedule_refusal bytes ≡ Some (record { line = 0; rule = 90 })
 too_long bytes long = rw long refl
 
 -- lines count from 1, and those without words count too

@@ -19,7 +19,7 @@ abbrev pub schedule_of : List ℕ → List Line
 schedule_of bytes = flat_map (λ line. lines_in line.bytes) (lines_of bytes)
 
 -- why a schedule is refused, if it is: a schedule has at most 16,777,216 bytes
-abbrev pub refusal_of : List ℕ → Option Refusal
-refusal_of bytes =
+abbrev pub schedule_refusal : List ℕ → Option Refusal
+schedule_refusal bytes =
     if nat_lt 16777216 (length bytes) then Some (record { line = 0; rule = 90 })
     else first_refusal (lines_of bytes)

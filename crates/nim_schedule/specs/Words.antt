@@ -3,7 +3,7 @@ use Rattle.std.specs.Prelude.{ℕ, zero, suc, ◌==◌, nat_le, if◌then◌else
 use Rattle.std.specs.List.{list_all, position_or_len, prefix_len, take_while}
 use Rattle.std.specs.Char.{is_ascii_digit}
 use Rattle.nim_lex.specs.Bytes.{is_blank, is_hash, is_name_byte}
-use Rattle.nim_lex.specs.Numbers.{number_of}
+use Rattle.nim_lex.specs.Numbers.{decimal_value}
 
 -- no blank
 abbrev pub is_word_byte : ℕ → Bool
@@ -37,7 +37,7 @@ is_short most word = not (length word == 0) && nat_le (length word) most
 
 -- 1 to 9 digits, and the number that they write
 unfoldable pub small_number : List ℕ → Option ℕ
-small_number word = if is_short 9 word && list_all is_ascii_digit word then Some (number_of word) else None
+small_number word = if is_short 9 word && list_all is_ascii_digit word then Some (decimal_value word) else None
 
 -- 1 to 16 letters, digits and underscores
 unfoldable pub block_word : List ℕ → Option (List ℕ)

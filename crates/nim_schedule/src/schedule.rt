@@ -1,7 +1,7 @@
 ghost use Rattle.std.specs.Prelude.{◌≡◌, IfOk};
 ghost use Rattle.nim_lex.specs.Refusals.{Answers};
 ghost use Rattle.nim_schedule.specs.Fault.{told};
-ghost use Rattle.nim_schedule.specs.Schedule.{refusal_of, schedule_of};
+ghost use Rattle.nim_schedule.specs.Schedule.{schedule_refusal, schedule_of};
 
 use crate::line::read_line;
 use crate::{Line, ScheduleFault};
@@ -21,7 +21,7 @@ const TOO_LONG: u8 = 90;
 /// are defined in `specs/Schedule.antt` over `specs/Lines.antt`. Any bytes are taken. Nothing is kept but what the
 /// lines say. Want of memory may come in place of any answer.
 pub fn read_schedule(alloc: Global, bytes: &[u8]) -> Result<Vec<Line>, ScheduleFault>
-    ensures answers { Answers told (refusal_of bytes.now) result }
+    ensures answers { Answers told (schedule_refusal bytes.now) result }
     ensures lines { IfOk result (λ lines. lines.items ≡ schedule_of bytes.now) }
 {
     if bytes.len() > MOST_BYTES {

@@ -10,13 +10,13 @@ use Rattle.std.specs.Map.{lookup}
 use Rattle.std.specs.Ordering.{is_eq, nat_cmp}
 use Rattle.std.specs.declared.cmp.Ordering.{Ordering}
 use Rattle.std.specs.declared.cmp.Ordering.TheVariants.{Less, Equal, Greater}
-use Rattle.nim_store.specs.Keys.{from_numbers, is_not_before, key_cmp, numbers_of}
+use Rattle.nim_store.specs.Keys.{from_numbers, is_not_before, key_cmp, key_numbers}
 use Rattle.nim_store.specs.declared.key.Key.{Key}
 
 -- keys that compare alike are one
 pub exact_keys : CmpEqualImpliesEq key_cmp
 exact_keys a b alike = ap from_numbers (exact_pairs nat_cmp _ exact_unsigned (exact_pairs nat_cmp _ exact_unsigned
-    (exact_pairs nat_cmp _ exact_unsigned (exact_pairs nat_cmp nat_cmp exact_unsigned exact_unsigned))) (numbers_of a) (numbers_of b) alike)
+    (exact_pairs nat_cmp _ exact_unsigned (exact_pairs nat_cmp nat_cmp exact_unsigned exact_unsigned))) (key_numbers a) (key_numbers b) alike)
 
 pub keys_total : IsTotalOrder key_cmp
 keys_total = then_total (on_total (λ k. k.epoch) nat_cmp_total) (then_total (on_total (λ k. k.instance) nat_cmp_total)

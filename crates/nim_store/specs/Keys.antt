@@ -35,8 +35,8 @@ abbrev pub Numbers : Type 0
 Numbers = ℕ × (ℕ × (ℕ × (ℕ × ℕ)))
 
 -- epoch, instance, entry, object and version, in this order
-abbrev pub numbers_of : Key → Numbers
-numbers_of key = (key.epoch, (key.instance, (key.entry, (key.object.0, key.version))))
+abbrev pub key_numbers : Key → Numbers
+key_numbers key = (key.epoch, (key.instance, (key.entry, (key.object.0, key.version))))
 
 -- the key that has these numbers
 abbrev pub from_numbers : Numbers → Key
@@ -45,5 +45,5 @@ from_numbers p =
 
 -- a code that tells keys apart, made of those of their numbers
 abbrev pub coded_key : Coded Key
-coded_key = code_by Numbers (coded× coded_ℕ (coded× coded_ℕ (coded× coded_ℕ (coded× coded_ℕ coded_ℕ)))) numbers_of
+coded_key = code_by Numbers (coded× coded_ℕ (coded× coded_ℕ (coded× coded_ℕ (coded× coded_ℕ coded_ℕ)))) key_numbers
     from_numbers (λ _. refl)

@@ -10,12 +10,12 @@ pub record Stored : Type 0 where
   pub slots : List (Option Held)
 
 -- what a list of slots has at a slot
-abbrev pub numbered : List (Option Held) → Slot → Option Held
-numbered slots slot = slice_index_or slots slot.0 None
+abbrev pub slot_content : List (Option Held) → Slot → Option Held
+slot_content slots slot = slice_index_or slots slot.0 None
 
 -- what a slot has
 abbrev pub slot_at : Stored → Slot → Option Held
-slot_at stored = numbered stored.slots
+slot_at stored = slot_content stored.slots
 
 -- a slot has a place in memory, so that a put into it needs no other
 abbrev pub HasPlace : Stored → Slot → Type 0

@@ -2,7 +2,7 @@ ghost use Rattle.std.specs.Prelude.{◌≡◌, ◌<◌, ◌≤◌, [], None, Som
 ghost use Rattle.std.specs.Option.{option_copied};
 ghost use Rattle.nim_base.specs.declared.number.Slot.{Slot as slot_number};
 ghost use Rattle.nim_command.specs.Holds.{put_at};
-ghost use Rattle.nim_store.specs.Stored.{HasPlace, KeepsPlaces, numbered, slot_at};
+ghost use Rattle.nim_store.specs.Stored.{HasPlace, KeepsPlaces, slot_content, slot_at};
 
 use crate::Held;
 use nim_base::{NoMemory, Object, Shape, Slot};
@@ -89,7 +89,7 @@ impl Store {
 }
 
 fn look(slots: &[Option<Held>], slot: Slot) -> Option<&Held>
-    ensures value { option_copied result ≡ numbered slots.now slot }
+    ensures value { option_copied result ≡ slot_content slots.now slot }
     ensures place { IsSome result → slot.0 < length slots.now }
 {
     match slots.get(usize::from(slot.0)) {
@@ -99,8 +99,8 @@ fn look(slots: &[Option<Held>], slot: Slot) -> Option<&Held>
 }
 
 fn take_from(slots: &mut Vec<Option<Held>>, slot: Slot) -> Option<Held>
-    ensures value { result ≡ numbered slots.old.items slot }
-    ensures slots { numbered slots.new.items ≡ put_at slot None (numbered slots.old.items) }
+    ensures value { result ≡ slot_content slots.old.items slot }
+    ensures slots { slot_content slots.new.items ≡ put_at slot None (slot_content slots.old.items) }
     ensures place { IsSome result → slot.0 < length slots.new.items }
     ensures places { length slots.new.items ≡ length slots.old.items }
 {
@@ -113,7 +113,7 @@ fn take_from(slots: &mut Vec<Option<Held>>, slot: Slot) -> Option<Held>
 }
 
 fn put_into(slots: &mut Vec<Option<Held>>, slot: Slot, held: Held) -> Result<(), NoMemory>
-    ensures ok { OnOk result (numbered slots.new.items ≡ put_at slot (Some held) (numbered slots.old.items)) }
+    ensures ok { OnOk result (slot_content slots.new.items ≡ put_at slot (Some held) (slot_content slots.old.items)) }
     ensures err { OnErr result (slots.new.items ≡ slots.old.items) }
     ensures room { slot.0 < length slots.old.items → IsOk result }
     ensures place { OnOk result (slot.0 < length slots.new.items) }
@@ -126,7 +126,7 @@ fn put_into(slots: &mut Vec<Option<Held>>, slot: Slot, held: Held) -> Result<(),
 
 // Makes sure that there is a place for this slot; places that are new are empty.
 fn reach(slots: &mut Vec<Option<Held>>, slot: Slot) -> Result<(), NoMemory>
-    ensures slots { numbered slots.new.items ≡ numbered slots.old.items }
+    ensures slots { slot_content slots.new.items ≡ slot_content slots.old.items }
     ensures there { OnOk result (slot.0 < length slots.new.items) }
     ensures err { OnErr result (slots.new.items ≡ slots.old.items) }
     ensures room { slot.0 < length slots.old.items → IsOk result }

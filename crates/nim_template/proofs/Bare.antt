@@ -16,7 +16,7 @@ use Rattle.nim_command.specs.Waits.{FromSingle, Group}
 use Rattle.nim_job.specs.declared.job.Job.{Job}
 use Rattle.nim_plan.specs.Legal.{AreLegal, IsLegalKind}
 use Rattle.nim_plan.specs.Paired.{Key, received, sent}
-use Rattle.nim_place.specs.Stands.{Stands, commands_for, greatest_put, greater_put}
+use Rattle.nim_place.specs.Stands.{MapStands, commands_for, greatest_put, greater_put}
 use Rattle.nim_place.specs.Versions.{Versions}
 use Rattle.nim_place.proofs.Held.{for_append}
 use Rattle.nim_place.proofs.Keys.{new_received, new_sent}
@@ -66,7 +66,7 @@ for_both worker given xs ys same =
     ∙ sym (map-append without_before (commands_for worker given) (commands_for worker ys))
     ∙ sym (ap (map without_before) (for_append worker given ys))
 
-pub stands_same : (given xs ys : List (Worker × Command)) (versions : Versions) → AreSame xs ys → Stands (given ++ xs) versions → Stands (given ++ ys) versions
+pub stands_same : (given xs ys : List (Worker × Command)) (versions : Versions) → AreSame xs ys → MapStands (given ++ xs) versions → MapStands (given ++ ys) versions
 stands_same given xs ys versions same stands = record {
   slots = stands.slots;
   all = stands.all;

@@ -8,7 +8,7 @@ use Rattle.std.specs.declared.cmp.Ordering.{Ordering}
 use Rattle.std.proofs.lemmas.Bool.{cases_order, eq-eqb, eqb-true, false≢true}
 use Rattle.nim_base.specs.declared.number.Worker.{Worker}
 use Rattle.nim_command.specs.declared.command.Command.{Command}
-use Rattle.nim_command.specs.Ranks.{is_later, rank_of, ranks_compared, stage_of}
+use Rattle.nim_command.specs.Ranks.{is_later, rank_of, ranks_compared, rank_stage}
 use Rattle.nim_place.specs.Sound.{by_rank, put_by_rank}
 use Rattle.nim_place.specs.Stands.{commands_for}
 use Rattle.nim_template.proofs.Chosen.{plain}
@@ -22,7 +22,7 @@ order_of c = if is_later c.kind then 2 * c.id + 1 else 2 * c.id
 -- of the last stage, from one number in this order to another
 abbrev pub RanksAscend : ℕ → ℕ → List (Worker × Command) → Type 0
 RanksAscend low high [] = low ≤ high
-RanksAscend low high (c ∷ cs) = (stage_of c.1.id c.1.kind ≡ 3) × (low ≤ order_of c.1) × RanksAscend (order_of c.1 + 1) high cs
+RanksAscend low high (c ∷ cs) = (rank_stage c.1.id c.1.kind ≡ 3) × (low ≤ order_of c.1) × RanksAscend (order_of c.1 + 1) high cs
 
 pub ascends_lower : (less low high : ℕ) (cs : List (Worker × Command)) → less ≤ low → RanksAscend low high cs → RanksAscend less high cs
 ascends_lower less low high [] below are = omega (arith, below, are)
@@ -79,20 +79,20 @@ numbers_before n m a b below = either (cases_order n m) where
   either (inr (inr more)) = absurd (never_before n m a b more below)
 
 -- stages and bases that are the same don't count
-staged : (base : ℕ) (c d : Command) → stage_of c.id c.kind ≡ 3 → stage_of d.id d.kind ≡ 3
+staged : (base : ℕ) (c d : Command) → rank_stage c.id c.kind ≡ 3 → rank_stage d.id d.kind ≡ 3
     → ranks_compared (rank_of base c) (rank_of base d) ≡ ordering_then (nat_cmp c.id d.id) (bool_cmp (is_later c.kind) (is_later d.kind))
 staged base c d first second =
     let rest : Ordering = ordering_then (nat_cmp c.id d.id) (bool_cmp (is_later c.kind) (is_later d.kind)) in
-    ap (λ (o : Ordering). ordering_then o (ordering_then (nat_cmp (stage_of c.id c.kind) (stage_of d.id d.kind)) rest)) (nat_same base)
+    ap (λ (o : Ordering). ordering_then o (ordering_then (nat_cmp (rank_stage c.id c.kind) (rank_stage d.id d.kind)) rest)) (nat_same base)
     ∙ ap₂ (λ (n m : ℕ). ordering_then (nat_cmp n m) rest) first second
     ∙ ap (λ (o : Ordering). ordering_then o rest) (nat_same 3)
 
-before_is : (base : ℕ) (c d : Command) → stage_of c.id c.kind ≡ 3 → stage_of d.id d.kind ≡ 3 → order_of c < order_of d
+before_is : (base : ℕ) (c d : Command) → rank_stage c.id c.kind ≡ 3 → rank_stage d.id d.kind ≡ 3 → order_of c < order_of d
     → is_le (ranks_compared (rank_of base c) (rank_of base d)) ≡ true
 before_is base c d first second below =
     ap is_le (staged base c d first second) ∙ (numbers_before c.id d.id (is_later c.kind) (is_later d.kind) below).0
 
-behind_is : (base : ℕ) (c d : Command) → stage_of c.id c.kind ≡ 3 → stage_of d.id d.kind ≡ 3 → order_of c < order_of d
+behind_is : (base : ℕ) (c d : Command) → rank_stage c.id c.kind ≡ 3 → rank_stage d.id d.kind ≡ 3 → order_of c < order_of d
     → is_le (ranks_compared (rank_of base d) (rank_of base c)) ≡ false
 behind_is base c d first second below =
     ap is_le (staged base d c second first) ∙ (numbers_before c.id d.id (is_later c.kind) (is_later d.kind) below).1
@@ -102,7 +102,7 @@ behind_is base c d first second below =
 -- each is of the last stage, and behind this number
 abbrev Behind : ℕ → List Command → Type 0
 Behind low [] = Unit {0}
-Behind low (c ∷ cs) = (stage_of c.id c.kind ≡ 3) × (low < order_of c) × Behind low cs
+Behind low (c ∷ cs) = (rank_stage c.id c.kind ≡ 3) × (low < order_of c) × Behind low cs
 
 abbrev only : List (Worker × Command) → List Command
 only cs = map (λ (c : Worker × Command). c.1) cs
@@ -131,7 +131,7 @@ behind_all low (c ∷ cs) each =
       others worker = filter (λ (d : Worker × Command). d.0.0 == worker.0) cs
 
       first : (b : Bool) → b ≡ true → Behind low (only (if b then c ∷ others c.0 else others c.0))
-          → (stage_of c.1.id c.1.kind ≡ 3) × (low < order_of c.1)
+          → (rank_stage c.1.id c.1.kind ≡ 3) × (low < order_of c.1)
       first true is behind = (behind.0, behind.1)
       first false is behind = absurd (false≢true is)
 
@@ -139,7 +139,7 @@ behind_all low (c ∷ cs) each =
       rest worker true behind = behind.2
       rest worker false behind = behind
 
-put_behind : (low base : ℕ) (c : Worker × Command) (cs : List (Worker × Command)) → stage_of c.1.id c.1.kind ≡ 3 → low < order_of c.1 → Behind low (only cs)
+put_behind : (low base : ℕ) (c : Worker × Command) (cs : List (Worker × Command)) → rank_stage c.1.id c.1.kind ≡ 3 → low < order_of c.1 → Behind low (only cs)
     → Behind low (only (put_by_rank base c cs))
 put_behind low base c [] stage below behind = (stage, below, tt)
 put_behind low base c (d ∷ ds) stage below behind =
@@ -154,13 +154,13 @@ rank_behind low base (c ∷ cs) behind = put_behind low base c (by_rank base cs)
 
 -- ---- the first by rank
 
-put_first : (base : ℕ) (y : Worker × Command) (ds : List (Worker × Command)) → stage_of y.1.id y.1.kind ≡ 3 → Behind (order_of y.1) (only ds)
+put_first : (base : ℕ) (y : Worker × Command) (ds : List (Worker × Command)) → rank_stage y.1.id y.1.kind ≡ 3 → Behind (order_of y.1) (only ds)
     → put_by_rank base y ds ≡ y ∷ ds
 put_first base y [] stage behind = refl
 put_first base y (d ∷ ds) stage behind =
     ap (λ (b : Bool). if b then y ∷ d ∷ ds else d ∷ put_by_rank base y ds) (before_is base y.1 d.1 stage behind.0 behind.1)
 
-put_second : (base : ℕ) (x y : Worker × Command) (ds : List (Worker × Command)) → stage_of y.1.id y.1.kind ≡ 3 → stage_of x.1.id x.1.kind ≡ 3
+put_second : (base : ℕ) (x y : Worker × Command) (ds : List (Worker × Command)) → rank_stage y.1.id y.1.kind ≡ 3 → rank_stage x.1.id x.1.kind ≡ 3
     → order_of y.1 < order_of x.1 → put_by_rank base x (y ∷ ds) ≡ y ∷ put_by_rank base x ds
 put_second base x y ds stage other below =
     ap (λ (b : Bool). if b then x ∷ y ∷ ds else y ∷ put_by_rank base x ds) (behind_is base y.1 x.1 stage other below)
@@ -232,7 +232,7 @@ dropped_for y (x ∷ xs) rest is worker b same =
             either false apart false mine tail = for_step worker x (drop_first y.0 xs) false mine ∙ tail ∙ sym (for_step worker x xs false mine)
 
 -- the first by rank is the first of its worker, where all others are behind it
-first_by_rank : (base : ℕ) (y : Worker × Command) (xs : List (Worker × Command)) (rest : List Command) → stage_of y.1.id y.1.kind ≡ 3
+first_by_rank : (base : ℕ) (y : Worker × Command) (xs : List (Worker × Command)) (rest : List Command) → rank_stage y.1.id y.1.kind ≡ 3
     → commands_for y.0 xs ≡ y.1 ∷ rest → Behind (order_of y.1) (only (drop_first y.0 xs)) → by_rank base xs ≡ y ∷ by_rank base (drop_first y.0 xs)
 first_by_rank base y [] rest stage is behind = absurd cc
 first_by_rank base y (x ∷ xs) rest stage is behind =

@@ -16,7 +16,7 @@ use Rattle.nim_job.specs.Objects.{objects_of}
 use Rattle.nim_job.specs.Versions.{read_version}
 use Rattle.nim_job.specs.Whole.{is_whole}
 use Rattle.nim_plan.specs.Legal.{is_version}
-use Rattle.nim_place.specs.Sound.{Frame, Plane, sent_to, walked as walked_plane}
+use Rattle.nim_place.specs.Sound.{Frame, Plane, sent_to, plane_left as walked_plane}
 use Rattle.nim_place.specs.Versions.{Versions, after_commands, latest_of, with_version}
 use Rattle.nim_place.proofs.Puts.{IsPut, put_all}
 use Rattle.nim_template.specs.Closing.{closed_for, closing_entries, closing_from, closing_number, closings, copy_from}

@@ -19,7 +19,7 @@ use Rattle.nim_job.specs.Objects.{objects_of}
 use Rattle.nim_plan.specs.Legal.{AreLegal, is_version}
 use Rattle.nim_plan.specs.Paired.{Key, is_key, keys_received, keys_sent}
 use Rattle.nim_place.specs.Extends.{LongerIsPaired, is_live, live_workers, singles_of}
-use Rattle.nim_place.specs.Stands.{Stands, commands_for}
+use Rattle.nim_place.specs.Stands.{MapStands, commands_for}
 use Rattle.nim_place.specs.TaskOrders.{AreSoFar, IsAt}
 use Rattle.nim_place.specs.Versions.{Versions, held_at, holder, is_current, latest_of, with_version}
 use Rattle.nim_place.proofs.Finds.{current_held}
@@ -266,7 +266,7 @@ copy_given live epoch instance number lists given versions from to object versio
 
 -- each worker's part is legal
 pub copy_legal : (job : Job) (position number : ℕ) (given : List (Worker × Command)) (versions : Versions) (from to : Worker) (object : Object) (version : ℕ)
-    → Stands given versions → IsAt job position versions → objects_of job.vars ≤ 512 → IsCopy versions from to object version → (worker : Worker)
+    → MapStands given versions → IsAt job position versions → objects_of job.vars ≤ 512 → IsCopy versions from to object version → (worker : Worker)
     → AreLegal job (commands_for worker given) (commands_for worker (copy_at number from to object version))
 copy_legal job position number given versions from to object version stands at few copy worker =
     subst (AreLegal job (commands_for worker given))
@@ -296,7 +296,7 @@ copy_legal job position number given versions from to object version stands at f
 
 -- the map stays at its position
 pub copy_at_position : (job : Job) (position : ℕ) (given : List (Worker × Command)) (versions : Versions) (from to : Worker) (object : Object) (version : ℕ)
-    → Stands given versions → IsAt job position versions → IsCopy versions from to object version
+    → MapStands given versions → IsAt job position versions → IsCopy versions from to object version
     → IsAt job position (with_version to version versions (main_slot object))
 copy_at_position job position given versions from to object version stands at copy =
     record {

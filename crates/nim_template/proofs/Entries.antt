@@ -21,7 +21,7 @@ use Rattle.nim_command.specs.Numbers.{counted_from}
 use Rattle.nim_command.specs.Ruled.{entries_by_rule, entry_footprint}
 use Rattle.nim_place.specs.declared.placement.Placement.{Placement}
 use Rattle.nim_place.specs.Schedule.{copies_of, moves, run_of, scheduled}
-use Rattle.nim_place.specs.Sound.{commands_at, commands_from, version_named}
+use Rattle.nim_place.specs.Sound.{commands_of_half, commands_from, version_named}
 use Rattle.nim_place.specs.Stands.{commands_for}
 use Rattle.nim_place.specs.Versions.{Versions, holder, is_current, latest_of}
 use Rattle.nim_place.proofs.Held.{for_append}
@@ -216,7 +216,7 @@ none_from before base args entries worker from (suc n) apart =
     let here : Worker = record { 0 = from } in
     let half : List Entry = half_for here entries in
     let rest : List (Worker × Command) = commands_from before base args (from + 1) (halves_from entries (from + 1) n) in
-    for_append worker (commands_at before base args here half) rest
+    for_append worker (commands_of_half before base args here half) rest
     ∙ ap₂ (λ (xs ys : List Command). xs ++ ys)
     (for_there worker from (own_commands before base args half) (apart from (omega arith) (omega arith)))
     (none_from before base args entries worker (from + 1) n (λ k above below. apart k (omega (arith, above)) (omega (arith, below))))
@@ -229,14 +229,14 @@ one_from before base args entries worker from (suc n) above below =
     let here : Worker = record { 0 = from } in
     let half : List Entry = half_for here entries in
     let rest : List (Worker × Command) = commands_from before base args (from + 1) (halves_from entries (from + 1) n) in
-    for_append worker (commands_at before base args here half) rest
+    for_append worker (commands_of_half before base args here half) rest
     ∙ either (from == worker.0) refl
     (λ apart. one_from before base args entries worker (from + 1) n (omega (arith, above, apart)) (omega (arith, below))) where
       either : (b : Bool) → (from == worker.0) ≡ b
           → ((from ≡ worker.0 → ⊥)
           → commands_for worker (commands_from before base args (from + 1) (halves_from entries (from + 1) n))
           ≡ own_commands before base args (half_for worker entries))
-          → commands_for worker (commands_at before base args (record { 0 = from }) (half_for (record { 0 = from }) entries))
+          → commands_for worker (commands_of_half before base args (record { 0 = from }) (half_for (record { 0 = from }) entries))
           ++ commands_for worker (commands_from before base args (from + 1) (halves_from entries (from + 1) n))
           ≡ own_commands before base args (half_for worker entries)
       either true is later =

@@ -24,12 +24,12 @@ use Rattle.nim_order.specs.Orders.{AreEntriesByRule}
 use Rattle.nim_order.proofs.Sessions.{orders_cover}
 use Rattle.nim_job.specs.declared.job.Job.{Job}
 use Rattle.nim_job.specs.Serial.{tasks_of}
-use Rattle.nim_job.specs.Tasks.{param_of, task_of}
+use Rattle.nim_job.specs.Tasks.{param_of, task_with_args}
 use Rattle.nim_plan.specs.Legal.{AreLegal}
 use Rattle.nim_plan.specs.Paired.{Key, keys_received, keys_sent}
 use Rattle.nim_place.specs.declared.placement.Placement.{Placement}
 use Rattle.nim_place.specs.Extends.{is_live, longer}
-use Rattle.nim_place.specs.Stands.{Stands, commands_for}
+use Rattle.nim_place.specs.Stands.{MapStands, commands_for}
 use Rattle.nim_place.specs.TaskOrders.{IsAt}
 use Rattle.nim_place.specs.Versions.{Versions, after_commands, is_current, latest_of}
 use Rattle.nim_place.proofs.Held.{for_append}
@@ -63,7 +63,7 @@ param_same args [] = refl
 param_same args (Const number ∷ params) = ap (λ (rest : List ℤ). number ∷ rest) (param_same args params)
 param_same args (Arg place ∷ params) = ap (λ (rest : List ℤ). param_with args (Arg place) ∷ rest) (param_same args params)
 
-task_same : (args : List ℤ) (form : TaskForm) → task_of args form ≡ task_with args form
+task_same : (args : List ℤ) (form : TaskForm) → task_with_args args form ≡ task_with args form
 task_same args form =
     ap (λ (params : List ℤ). (
     let task : Task = record { func = form.func; params = params; reads = form.reads; writes = form.writes } in task)) (param_same args form.params)
@@ -79,13 +79,13 @@ first_drop (t ∷ tasks) (suc k) task rest is =
     (parts.0, ap (λ (n : ℕ). drop n (t ∷ tasks)) next ∙ parts.1)
 
 pub tasks_from : (job : Job) (base : ℕ) (args : List ℤ) (number : ℕ) (forms : List TaskForm) (tasks : List Task) → drop (base + number) (tasks_of job) ≡ tasks
-    → take (length forms) tasks ≡ map (task_of args) forms → AreTasksFrom job base args number forms
+    → take (length forms) tasks ≡ map (task_with_args args) forms → AreTasksFrom job base args number forms
 tasks_from job base args number [] tasks there are = tt
 tasks_from job base args number (form ∷ forms) [] there are = absurd cc
 tasks_from job base args number (form ∷ forms) (task ∷ tasks) there are =
     let parts = first_drop (tasks_of job) (base + number) task tasks there in
-    let first : task ≡ task_of args form = ap (λ (ts : List Task). slice_index_or ts 0 task) are in
-    let rest : take (length forms) tasks ≡ map (task_of args) forms = ap (drop 1) are in
+    let first : task ≡ task_with_args args form = ap (λ (ts : List Task). slice_index_or ts 0 task) are in
+    let rest : take (length forms) tasks ≡ map (task_with_args args) forms = ap (drop 1) are in
     let next : base + (number + 1) ≡ base + number + 1 = omega arith in (
       parts.0 ∙ ap Some (first ∙ task_same args form),
       tasks_from job base args (number + 1) forms tasks (ap (λ (n : ℕ). drop n (tasks_of job)) next ∙ parts.1) rest,
@@ -160,7 +160,7 @@ built_instances place objects live template some workers_few objects_few few fit
     record {
       so_far = record {
         stands =
-            subst (Stands (given ++ own)) (sym is.effect)
+            subst (MapStands (given ++ own)) (sym is.effect)
             (stands_same given (real ++ last) own after (λ worker. sym (is.same (latest_of versions) worker)) all.so_far.stands);
         ask = record {
           begun = λ worker there. (on worker there).begun;

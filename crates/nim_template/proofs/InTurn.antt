@@ -24,7 +24,7 @@ use Rattle.nim_place.specs.declared.placement.Placement.{Placement}
 use Rattle.nim_place.specs.Extends.{is_live}
 use Rattle.nim_place.specs.Placement.{home, live_ahead, live_from, preferred}
 use Rattle.nim_place.specs.Schedule.{moves, scheduled}
-use Rattle.nim_place.specs.Stands.{Stands, StandsOn, commands_for}
+use Rattle.nim_place.specs.Stands.{MapStands, StandsOn, commands_for}
 use Rattle.nim_place.specs.TaskOrders.{AreSoFar, IsAt, IsTaskAt, is_key_of}
 use Rattle.nim_place.specs.Versions.{Versions, after_commands, after_kind, held_at, latest_of, with_version}
 use Rattle.nim_place.proofs.Given.{all_stand, schedule_stands}
@@ -160,7 +160,7 @@ legal_then job position next given first second between after one two = record {
 }
 
 pub tasks_legal : (place : Placement) (live : List Bool) (job : Job) (base : ℕ) (args : List ℤ) (number : ℕ) (versions : Versions) (forms : List TaskForm)
-    (given : List (Worker × Command)) → Stands given versions → versions.workers ≡ length live → list_any (λ (flag : Bool). flag) live ≡ true
+    (given : List (Worker × Command)) → MapStands given versions → versions.workers ≡ length live → list_any (λ (flag : Bool). flag) live ≡ true
     → base + number + length forms < 2 ^ 64 → is_whole job ≡ true → IsAt job (base + number) versions → AreTasksFrom job base args number forms
     → AreLegalAt job (base + number + length forms) given (scheduled_from place live base args number versions forms)
     (after_commands versions (scheduled_from place live base args number versions forms))
@@ -287,7 +287,7 @@ closings_given live epoch instance most base args entry offsets versions (need �
           (after_commands next (rest_of (copy + 1))) (omega arith) (omega arith) (omega arith) one two)
 
 pub closings_legal : (job : Job) (position most base : ℕ) (args : List ℤ) (entry offsets versions : Versions) (needs : List (Worker × Object)) (copy : ℕ)
-    (given : List (Worker × Command)) → Stands given versions → objects_of job.vars ≤ 512 → IsAt job position versions
+    (given : List (Worker × Command)) → MapStands given versions → objects_of job.vars ≤ 512 → IsAt job position versions
     → IsClosing most base entry offsets versions needs
     → AreLegalAt job position given (map (command_at base args) (closing_entries copy (closings offsets needs)))
     (after_commands versions (map (command_at base args) (closing_entries copy (closings offsets needs))))
@@ -299,7 +299,7 @@ closings_legal job position most base args entry offsets versions (need ∷ need
       rest_of k = map (command_at base args) (closing_entries k (closings (closed_for offsets need) needs))
 
       either : (o : Option Worker) → closing_from offsets need ≡ o
-          → ((v : Versions) (k : ℕ) (g : List (Worker × Command)) → Stands g v → IsAt job position v
+          → ((v : Versions) (k : ℕ) (g : List (Worker × Command)) → MapStands g v → IsAt job position v
           → IsClosing most base entry (closed_for offsets need) v needs → AreLegalAt job position g (rest_of k) (after_commands v (rest_of k)))
           → AreLegalAt job position given
           (map (command_at base args) (closing_entries copy (copy_from offsets need o ++ closings (closed_for offsets need) needs)))

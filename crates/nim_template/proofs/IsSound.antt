@@ -20,7 +20,7 @@ use Rattle.nim_job.specs.Serial.{tasks_of}
 use Rattle.nim_job.specs.Versions.{read_version}
 use Rattle.nim_place.specs.declared.placement.Placement.{Placement}
 use Rattle.nim_place.specs.Sound.{AreFound, DoesTasks, EachEndOnce, IsSound, Plane, by_rank, commands_from, first_plane, is_end}
-use Rattle.nim_place.specs.Sound.{walked as walked_plane}
+use Rattle.nim_place.specs.Sound.{plane_left as walked_plane}
 use Rattle.nim_place.specs.Versions.{Versions, after_commands, held_at, is_current, latest_of, no_versions}
 use Rattle.nim_place.proofs.GoesOn.{before_within, position_few}
 use Rattle.nim_template.specs.declared.closing.Closing.{Closing}

@@ -4,7 +4,7 @@ use Rattle.std.specs.List.{flat_map}
 use Rattle.nim_base.specs.declared.number.Worker.{Worker}
 use Rattle.nim_command.specs.declared.command.Command.{Command}
 use Rattle.nim_job.specs.declared.job.Job.{Job}
-use Rattle.nim_place.specs.Sound.{AreFound, Plane, end_received, end_sent, run_by, step_of, walked as walked_plane}
+use Rattle.nim_place.specs.Sound.{AreFound, Plane, end_received, end_sent, run_by, step_of, plane_left as walked_plane}
 use Rattle.nim_template.proofs.Chosen.{plain}
 use Rattle.nim_template.proofs.Ranked.{runs_of}
 use Rattle.nim_template.proofs.RankedEnds.{ends_received, ends_sent}

@@ -23,7 +23,7 @@ use Rattle.nim_job.specs.Serial.{tasks_of}
 use Rattle.nim_job.specs.Versions.{read_version}
 use Rattle.nim_plan.specs.Legal.{IsRunOf, is_version}
 use Rattle.nim_place.specs.Schedule.{copies_of, is_one_of, moves, receive_of, run_of, send_of}
-use Rattle.nim_place.specs.Sound.{AreFound, Frame, Plane, sent_to, step_of, walked, with_slots}
+use Rattle.nim_place.specs.Sound.{AreFound, Frame, Plane, sent_to, step_of, plane_left, with_slots}
 use Rattle.nim_place.specs.Versions.{Versions, after_commands, after_kind, held_at, holder, is_current, is_kept, latest_of, place_of, with_version}
 use Rattle.nim_place.proofs.Finds.{after_copies, current_held, latest_there}
 use Rattle.nim_place.proofs.Held.{AreHeld, moves_held}
@@ -168,12 +168,12 @@ first_sent frame frames =
 
 -- ---- commands one after another
 
-pub found_append : (job : Job) (plane : Plane) (xs ys : List (Worker × Command)) → AreFound job plane xs → AreFound job (walked plane xs) ys
+pub found_append : (job : Job) (plane : Plane) (xs ys : List (Worker × Command)) → AreFound job plane xs → AreFound job (plane_left plane xs) ys
     → AreFound job plane (xs ++ ys)
 found_append job plane [] ys first second = second
 found_append job plane (x ∷ xs) ys first second = (first.0, found_append job (step_of x.0 x.1.id x.1.kind plane) xs ys first.1 second)
 
-pub walked_append : (plane : Plane) (xs ys : List (Worker × Command)) → walked plane (xs ++ ys) ≡ walked (walked plane xs) ys
+pub walked_append : (plane : Plane) (xs ys : List (Worker × Command)) → plane_left plane (xs ++ ys) ≡ plane_left (plane_left plane xs) ys
 walked_append plane xs ys = fold-append (λ (now : Plane) (c : Worker × Command). step_of c.0 c.1.id c.1.kind now) plane xs ys
 
 -- ---- what a task sends
@@ -212,7 +212,7 @@ some_there content slot version is none = false≢true (ap (λ (c : Content). is
 -- Sends in turn
 pub record AreSent (job : Job) (plane : Plane) (commands : List (Worker × Command)) (frames : List Frame) : Type 0 where
   pub found : AreFound job plane commands
-  pub after : walked plane commands ≡ with_frames frames plane
+  pub after : plane_left plane commands ≡ with_frames frames plane
 
 abbrev plane_of : (Worker → Slot → Content) → List Frame → Plane
 plane_of slots frames = record { slots = slots; frames = frames }
@@ -244,8 +244,8 @@ sends_found job versions number owner slots frames (m ∷ ms) has few are =
 -- commands in turn, and the map that their slots are like then
 pub record AreDone (job : Job) (start : Worker → Slot → Content) (plane : Plane) (commands : List (Worker × Command)) (after : Versions) : Type 0 where
   pub found : AreFound job plane commands
-  pub like : IsLike start after (walked plane commands)
-  pub frames : (walked plane commands).frames ≡ plane.frames
+  pub like : IsLike start after (plane_left plane commands)
+  pub frames : (plane_left plane commands).frames ≡ plane.frames
 
 -- what a Receive leaves
 pub taken_is : (written slot : Slot) (version : ℕ) (sent before : Content) → sent ≡ content_at written version
@@ -312,8 +312,8 @@ pub record MayRun (job : Job) (versions : Versions) (owner : Worker) (task : Tas
 -- commands were run, and each frame is to an entry of a smaller number
 pub record IsRun (job : Job) (start : Worker → Slot → Content) (plane : Plane) (commands : List (Worker × Command)) (high : ℕ) (after : Versions) : Type 0 where
   pub found : AreFound job plane commands
-  pub like : IsLike start after (walked plane commands)
-  pub frames : Below high (walked plane commands).frames
+  pub like : IsLike start after (plane_left plane commands)
+  pub frames : Below high (plane_left plane commands).frames
 
 run_found : (job : Job) (start : Worker → Slot → Content) (before mid : Versions) (owner : Worker) (task : Task) (number position : ℕ) (ms : List _)
     (plane : Plane) → MayRun job before owner task position → IsLike start mid plane → owner.0 < mid.workers → mid.objects ≡ before.objects
@@ -365,7 +365,7 @@ task_found job start versions owner task number position plane small may like ol
     receives_found job start versions versions number owner task.reads 0 ms plane.frames first
     (record { whole = like.whole; held = like.held; rest = like.rest }) may.below may.few refl (moves_facts versions owner task.reads) at small may.reads
     may.versioned refl (below_more (64 * number) (64 * number + 8 + 0) plane.frames (omega arith) old) in
-    let second : Plane = walked first receives in
+    let second : Plane = plane_left first receives in
     let like_mid = like_commands copies versions in
     let below : owner.0 < mid.workers = (let low = may.below in omega (arith, like_mid.workers, low)) in
     let ran : AreDone job start second run (fold (with_version owner (version_after position)) mid (map main_slot task.writes)) =
@@ -377,9 +377,9 @@ task_found job start versions owner task number position plane small may like ol
     ∙ latest_there versions owner task.reads object one (may.holders object one) in
     taken.like.held owner object (latest_of versions object) below (omega (arith, like_mid.objects, inside)) held
     ∙ ap (λ (v : ℕ). Some (object, v)) (may.latest object one))) in
-    let all : walked plane (sends ++ (receives ++ run)) ≡ walked second run =
+    let all : plane_left plane (sends ++ (receives ++ run)) ≡ plane_left second run =
     walked_append plane sends (receives ++ run)
-    ∙ ap (λ (p : Plane). walked p (receives ++ run)) sent.after
+    ∙ ap (λ (p : Plane). plane_left p (receives ++ run)) sent.after
     ∙ walked_append first receives run in
     record {
       found =
@@ -387,7 +387,7 @@ task_found job start versions owner task number position plane small may like ol
           (subst (λ (p : Plane). AreFound job p (receives ++ run)) (sym sent.after) (found_append job first receives run taken.found ran.found));
       like =
           subst (λ (p : Plane). IsLike start (after_commands versions (copies ++ run)) p) (sym all)
-          (subst (λ (v : Versions). IsLike start v (walked second run))
+          (subst (λ (v : Versions). IsLike start v (plane_left second run))
           (sym (fold-append (λ (before : Versions) (c : Worker × Command). after_kind c.0 before c.1.kind) versions copies run)) ran.like);
       frames =
           subst (λ (p : Plane). Below (64 * (number + 1)) p.frames) (sym all)

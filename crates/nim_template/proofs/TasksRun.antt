@@ -20,13 +20,13 @@ use Rattle.nim_job.specs.declared.job.Job.{Job}
 use Rattle.nim_job.specs.Objects.{objects_of}
 use Rattle.nim_job.specs.Serial.{tasks_of}
 use Rattle.nim_job.specs.Versions.{is_written, read_version}
-use Rattle.nim_job.specs.Whole.{is_task, is_whole}
+use Rattle.nim_job.specs.Whole.{is_whole_task, is_whole}
 use Rattle.nim_job.proofs.FewTasks.{tasks_fit}
 use Rattle.nim_job.proofs.Whole.{vars_sizes, whole_vars}
 use Rattle.nim_plan.specs.Legal.{is_version}
 use Rattle.nim_place.specs.declared.placement.Placement.{Placement}
 use Rattle.nim_place.specs.Schedule.{copies_of, is_one_of, moves, run_of, scheduled}
-use Rattle.nim_place.specs.Sound.{Plane, walked as walked_plane}
+use Rattle.nim_place.specs.Sound.{Plane, plane_left as walked_plane}
 use Rattle.nim_place.specs.Stands.{greater_put}
 use Rattle.nim_place.specs.Versions.{Versions, after_commands, after_kind, holder, is_current, latest_of}
 use Rattle.nim_place.proofs.GoesOn.{before_within, holder_there, read_next}
@@ -67,7 +67,7 @@ written_there job (suc k) object whole more =
         chosen true wrote found =
             read_within (objects_of job.vars) task.writes object
             (task_objects (objects_of job.vars) task
-            (task_passes (is_task (objects_of job.vars)) (tasks_of job) k task (tasks_fit job whole) there)).1 wrote
+            (task_passes (is_whole_task (objects_of job.vars)) (tasks_of job) k task (tasks_fit job whole) there)).1 wrote
         chosen false wrote found = rest found
 
 -- a version that is read is one of the job
@@ -245,7 +245,7 @@ tasks_run place live job base args start entry number walk versions (form ∷ fo
     let n : ℕ = objects_of job.vars in
     let job_few : n ≤ 512 = (vars_sizes job.vars (whole_vars job whole)).0 in
     let there : slice_get (tasks_of job) position ≡ Some task = subst (λ (k : ℕ). slice_get (tasks_of job) k ≡ Some task) counted are.0 in
-    let of_job = task_objects n task (task_passes (is_task n) (tasks_of job) position task (tasks_fit job whole) there) in
+    let of_job = task_objects n task (task_passes (is_whole_task n) (tasks_of job) position task (tasks_fit job whole) there) in
     let latest_here : AreLatest job position versions = subst (λ (k : ℕ). AreLatest job k versions) counted latest in
     let inside : (object : Object) → is_one_of form.reads object ≡ true → object.0 < versions.objects =
     λ object one. (let low = here.within object one in omega (arith, alike_now.objects, low)) in

@@ -13,7 +13,7 @@ use Rattle.nim_message.specs.declared.order.ToWorker.TheVariants.{InstallTemplat
 use Rattle.nim_message.specs.Orders.{session_of}
 use Rattle.nim_job.specs.declared.job.Job.{Job}
 use Rattle.nim_job.specs.Serial.{tasks_of}
-use Rattle.nim_job.specs.Tasks.{task_of}
+use Rattle.nim_job.specs.Tasks.{task_with_args}
 use Rattle.nim_job.specs.Whole.{is_whole}
 use Rattle.nim_plan.specs.Paired.{Key}
 use Rattle.nim_place.specs.Extends.{AskFor, LongerIsCovered, LongerIsLegal, LongerIsPaired, is_live, longer}
@@ -91,14 +91,14 @@ pub record MayInstantiate (live : List Bool) (objects : ℕ) (template : WorkerT
 -- a whole job's tasks from a position on are the block's, with these arguments
 pub record AreTasksAt (job : Job) (base : ℕ) (args : List ℤ) (template : WorkerTemplate) : Type 0 where
   pub whole : is_whole job ≡ true
-  pub tasks : take (length template.forms) (drop base (tasks_of job)) ≡ map (task_of args) template.forms
+  pub tasks : take (length template.forms) (drop base (tasks_of job)) ≡ map (task_with_args args) template.forms
 
 -- whether a key is of an instance of a template; the copies of the patch before it are numbered from 131072 on
 abbrev pub is_key_in : ℕ → ℕ → Key → Bool
 is_key_in epoch instance key = (key.epoch == epoch) && (key.instance == instance) && not (is_patch_number key.entry)
 
 -- An instance was asked for behind orders so far, by these orders.
-pub record IsInstantiated (live : List Bool) (objects : ℕ) (template : WorkerTemplate) (epoch instance base : ℕ)
+pub record IsInstanceAsked (live : List Bool) (objects : ℕ) (template : WorkerTemplate) (epoch instance base : ℕ)
     (args : List ℤ) (more lists : ℕ → List ToWorker) (given : List (Worker × Command)) (versions : Versions)
     : Type 0 where
   -- all orders ask for its commands too, and the map behind its effect stands for them
@@ -125,5 +125,5 @@ InstancesExtend live objects template =
     (epoch instance base : ℕ) (args : List ℤ) (lists : ℕ → List ToWorker) (given : List (Worker × Command))
     (versions : Versions)
     → MayInstantiate live objects template epoch base lists given versions
-    → IsInstantiated live objects template epoch instance base args
+    → IsInstanceAsked live objects template epoch instance base args
     (instances_of epoch instance template base args versions) lists given versions

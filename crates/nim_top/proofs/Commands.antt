@@ -11,7 +11,7 @@ use Rattle.clap.specs.declared.builder.arg.Arg.{Arg}
 use Rattle.clap.specs.declared.builder.command.Command.{Command}
 use Rattle.clap.specs.declared.error.Error.{Error}
 use Rattle.clap.specs.declared.error.kind.ErrorKind.TheVariants.{OutOfMemory}
-use Rattle.nim_top.specs.Words.{app_for, found}
+use Rattle.nim_top.specs.Words.{app_for, clap_found}
 use Rattle.nim_top.specs.declared.verb.Verb.{Verb}
 use Rattle.nim_top.specs.declared.verb.Verb.TheVariants.{Check, Replay}
 
@@ -26,8 +26,8 @@ simple_for Replay = refl
 -- a value that is read of what a command found
 pub value_found : (value : Option (Bor Text)) (f : Found) (id : Text) (app : App) (verb : Verb) (words : List Text)
     → option_map (λ text. text.now) value ≡ first_value f id → rows_of f ≡ matches_of app words → app ≡ app_for verb
-    → option_map (λ text. text.now) value ≡ first_of id (found verb words)
-unfolding found
+    → option_map (λ text. text.now) value ≡ first_of id (clap_found verb words)
+unfolding clap_found
 value_found value f id app verb words is rows same =
     is ∙ first_value-rows f id ∙ ap (first_of id) (rows ∙ ap (λ (a : App). matches_of a words) same)
 

@@ -8,7 +8,7 @@ use Rattle.nim_lockstep.specs.Cluster.{ClusterState}
 use Rattle.nim_lockstep.specs.InStep.{IsInStep}
 use Rattle.nim_lockstep.specs.Schedules.{IsRunBy}
 use Rattle.nim_cluster.specs.declared.cluster.Cluster.{Cluster}
-use Rattle.nim_cluster.specs.Stands.{Stands}
+use Rattle.nim_cluster.specs.Stands.{ClusterStands}
 use Rattle.nim_top.specs.Answer.{came_to, has_run, status_of}
 use Rattle.nim_top.specs.Parts.{Leaves, LeavesIf, MayPrint}
 use Rattle.nim_top.specs.declared.read.Plan.{Plan}
@@ -17,7 +17,7 @@ use Rattle.nim_top.specs.declared.status.Outcome.TheVariants.{Done, Memory, Writ
 
 -- a plan was followed, and its cluster is kept where the status says so
 pub left_run : (plan : Plan) (setup : Setup) (status : ℕ) (s : ClusterState) (cluster : Cluster) (old : Option Cluster)
-    → IsRunBy plan.job setup plan.schedule.items s → Stands cluster s → IsInStep s → (has_run status ≡ true → s.control.outcome ≡ came_to status)
+    → IsRunBy plan.job setup plan.schedule.items s → ClusterStands cluster s → IsInStep s → (has_run status ≡ true → s.control.outcome ≡ came_to status)
     → Leaves plan setup status old (if has_run status then Some cluster else old)
 left_run plan setup status s cluster old run stands step ended = by_flag (has_run status) ended where
   by_flag : (flag : Bool) → (flag ≡ true → s.control.outcome ≡ came_to status) → LeavesIf flag plan setup status old (if flag then Some cluster else old)

@@ -14,9 +14,9 @@ use Rattle.nim_lockstep.specs.Cluster.{ClusterState}
 use Rattle.nim_lockstep.specs.InStep.{IsInStep}
 use Rattle.nim_lockstep.specs.Schedules.{IsRunBy}
 use Rattle.nim_cluster.specs.declared.cluster.Cluster.{Cluster}
-use Rattle.nim_cluster.specs.Stands.{Stands}
+use Rattle.nim_cluster.specs.Stands.{ClusterStands}
 use Rattle.clap.specs.Words.{Text}
-use Rattle.nim_top.specs.Texts.{FileRefusal, OfTexts, Texts, refusal_line, refusal_of}
+use Rattle.nim_top.specs.Texts.{FileRefusal, OfTexts, Texts, refusal_line, files_refusal}
 use Rattle.nim_top.specs.Words.{is_accepted, setup_of, sums_up}
 use Rattle.nim_top.specs.declared.status.Outcome.{Outcome}
 use Rattle.nim_top.specs.declared.status.Outcome.TheVariants as outcome
@@ -26,18 +26,18 @@ use Rattle.nim_top.specs.declared.verb.Verb.TheVariants.{Check, Replay}
 -- ---- what a command makes of files
 
 -- a line of text
-abbrev pub line_of : List ℕ → List ℕ
-line_of text = text ++ 10 ∷ []
+abbrev pub with_newline : List ℕ → List ℕ
+with_newline text = text ++ 10 ∷ []
 
 -- The status and the bytes that a command gives for files that aren't refused: `check` says that it accepts them, and
 -- `replay` does the job of the driver and its data, as if its tasks ran one by one.
-abbrev pub ending_of : Verb → Texts → Ending
-ending_of Check t = record { status = 0; bytes = line_of (codes "accepted") }
-ending_of Replay t = serial_of (job_from t.driver t.data_file)
+abbrev pub command_ending : Verb → Texts → Ending
+command_ending Check t = record { status = 0; bytes = with_newline (codes "accepted") }
+command_ending Replay t = serial_of (job_from t.driver t.data_file)
 
 -- nothing is refused, and this is the status
 abbrev pub Comes : Verb → ℕ → Texts → Type 0
-Comes verb status t = (refusal_of t ≡ None) × ((ending_of verb t).status ≡ status)
+Comes verb status t = (files_refusal t ≡ None) × ((command_ending verb t).status ≡ status)
 
 -- ---- how a command ends
 
@@ -49,8 +49,8 @@ pub record Outside : Type 0 where
   pub write_faults : ℕ
 
 -- the outside with these four
-abbrev pub outside : Option (List (List ℕ × List ℕ)) → ℕ → Option (List ℕ) → ℕ → Outside
-outside told read_faults written write_faults =
+abbrev pub outside_with : Option (List (List ℕ × List ℕ)) → ℕ → Option (List ℕ) → ℕ → Outside
+outside_with told read_faults written write_faults =
     record { told = told; read_faults = read_faults; written = written; write_faults = write_faults }
 
 -- no count rose
@@ -65,7 +65,7 @@ IsSilent old new = Appends old.written new.written []
 abbrev pub TellsRefusal : Outside → Verb → List Text → List ℕ → Type 0
 TellsRefusal old verb words line =
     (refusal : FileRefusal) × (line ≡ refusal_line refusal)
-    × OfTexts old.told verb words (λ t. refusal_of t ≡ Some refusal)
+    × OfTexts old.told verb words (λ t. files_refusal t ≡ Some refusal)
 
 -- a run may come to a point where nothing may happen next; nothing else may
 abbrev pub does_run : Verb → Bool
@@ -92,17 +92,17 @@ Ends verb words old new outcome.Limit =
     × IsSilent old new
 -- no event is enabled, and the job hasn't ended
 Ends verb words old new outcome.Stalled =
-    (is_accepted verb words ≡ true) × (does_run verb ≡ true) × OfTexts old.told verb words (λ t. refusal_of t ≡ None)
+    (is_accepted verb words ≡ true) × (does_run verb ≡ true) × OfTexts old.told verb words (λ t. files_refusal t ≡ None)
     × IsFaultless old new × IsSilent old new
 -- all is done, and all its bytes are written
 Ends verb words old new outcome.Done =
     (is_accepted verb words ≡ true)
-    × OfTexts old.told verb words (λ t. Comes verb 0 t × Appends old.written new.written (ending_of verb t).bytes)
+    × OfTexts old.told verb words (λ t. Comes verb 0 t × Appends old.written new.written (command_ending verb t).bytes)
     × IsFaultless old new
 -- the output couldn't be written, and the front of its bytes is
 Ends verb words old new outcome.Write =
     (is_accepted verb words ≡ true)
-    × OfTexts old.told verb words (λ t. Comes verb 0 t × AppendsFront old.written new.written (ending_of verb t).bytes)
+    × OfTexts old.told verb words (λ t. Comes verb 0 t × AppendsFront old.written new.written (command_ending verb t).bytes)
     × (new.read_faults ≡ old.read_faults) × Rose old.write_faults new.write_faults
 
 -- ---- what is told of that
@@ -121,44 +121,44 @@ status_of outcome.Stalled = 9
 -- the line of a status on standard error; 0 has none, and that of 2 tells the refusal
 abbrev pub status_text : ℕ → List ℕ
 status_text status =
-    if status == 1 then line_of (codes "nimbus: words refused")
-    else (if status == 3 then line_of (codes "nimbus: memory")
-    else (if status == 4 then line_of (codes "nimbus: limit")
-    else (if status == 6 then line_of (codes "nimbus: read fault")
-    else (if status == 7 then line_of (codes "nimbus: write fault")
-    else (if status == 9 then line_of (codes "nimbus: stalled")
+    if status == 1 then with_newline (codes "nimbus: words refused")
+    else (if status == 3 then with_newline (codes "nimbus: memory")
+    else (if status == 4 then with_newline (codes "nimbus: limit")
+    else (if status == 6 then with_newline (codes "nimbus: read fault")
+    else (if status == 7 then with_newline (codes "nimbus: write fault")
+    else (if status == 9 then with_newline (codes "nimbus: stalled")
     else [])))))
 
 -- what is told on standard error
-abbrev pub text_of : Outcome → List ℕ
-text_of (outcome.Refused line) = string_bytes line
-text_of outcome.Done = []
-text_of outcome.Words = status_text 1
-text_of outcome.Memory = status_text 3
-text_of outcome.Limit = status_text 4
-text_of outcome.Read = status_text 6
-text_of outcome.Write = status_text 7
-text_of outcome.Stalled = status_text 9
+abbrev pub error_text : Outcome → List ℕ
+error_text (outcome.Refused line) = string_bytes line
+error_text outcome.Done = []
+error_text outcome.Words = status_text 1
+error_text outcome.Memory = status_text 3
+error_text outcome.Limit = status_text 4
+error_text outcome.Read = status_text 6
+error_text outcome.Write = status_text 7
+error_text outcome.Stalled = status_text 9
 
 -- whether the summary is told of that, where it is asked for: all is done
-abbrev pub is_told : Bool → Outcome → Bool
-is_told asked outcome.Done = asked
-is_told asked _ = false
+abbrev pub is_summary_told : Bool → Outcome → Bool
+is_summary_told asked outcome.Done = asked
+is_summary_told asked _ = false
 
 -- whether the summary is told, by the words
 abbrev pub is_summed : Verb → List Text → Outcome → Bool
-is_summed verb words way = is_told (sums_up verb words) way
+is_summed verb words way = is_summary_told (sums_up verb words) way
 
 -- this text was told, or the front of it where a fault came
-abbrev pub Tells : Option (List ℕ) → Option (List ℕ) → ℕ → ℕ → List ℕ → Type 0
-Tells old new old_faults new_faults text =
+abbrev pub WritesText : Option (List ℕ) → Option (List ℕ) → ℕ → ℕ → List ℕ → Type 0
+WritesText old new old_faults new_faults text =
     Appends old new text ⊎ (Rose old_faults new_faults × AppendsFront old new text)
 
 -- A top call: it ended in one of the ways, with that status, and told it, but where it tells the summary.
-abbrev pub Answers : Verb → List Text → Outside → Outside → (List ℕ → Type 0) → ℕ → Type 0
-Answers verb words old new IsTold status =
+abbrev pub EndsAndTells : Verb → List Text → Outside → Outside → (List ℕ → Type 0) → ℕ → Type 0
+EndsAndTells verb words old new IsTold status =
     (way : Outcome) × (status ≡ status_of way) × Ends verb words old new way
-    × (is_summed verb words way ≡ false → IsTold (text_of way))
+    × (is_summed verb words way ≡ false → IsTold (error_text way))
 
 -- ---- what a run leaves behind
 
@@ -173,26 +173,26 @@ came_to status =
 
 -- A cluster of the job of these files, in which events were given that follow the schedule: it stayed in step with
 -- program order, and came to the end of this status.
-pub record IsRun (t : Texts) (setup : Setup) (status : ℕ) (cluster : Cluster) : Type 0 where
+pub record IsReplayOf (t : Texts) (setup : Setup) (status : ℕ) (cluster : Cluster) : Type 0 where
   pub state : ClusterState
   pub run : IsRunBy (job_from t.driver t.data_file) setup (schedule_of t.schedule) state
-  pub stands : Stands cluster state
+  pub stands : ClusterStands cluster state
   pub in_step : IsInStep state
   pub ended : state.control.outcome ≡ came_to status
 
 -- what is kept where a job was run, and where none was
 abbrev pub KeepsIf : Bool → Option (List (List ℕ × List ℕ)) → List Text → ℕ → Option Cluster → Option Cluster → Type 0
 KeepsIf true told words status old new =
-    OfTexts told Replay words (λ t. IsSomeAnd new (IsRun t (setup_of Replay words) status))
+    OfTexts told Replay words (λ t. IsSomeAnd new (IsReplayOf t (setup_of Replay words) status))
 KeepsIf false told words status old new = new ≡ old
 
 -- `replay` keeps its cluster, and where no job was run what was kept before.
-abbrev pub Keeps : Option (List (List ℕ × List ℕ)) → List Text → ℕ → Option Cluster → Option Cluster → Type 0
-Keeps told words status old new = KeepsIf (has_run status) told words status old new
+abbrev pub KeepsCluster : Option (List (List ℕ × List ℕ)) → List Text → ℕ → Option Cluster → Option Cluster → Type 0
+KeepsCluster told words status old new = KeepsIf (has_run status) told words status old new
 
 -- Where all is done and the words ask for it, the summary of the cluster that is kept is told.
 abbrev pub TellsSummary : List Text → (List ℕ → Type 0) → ℕ → Option Cluster → Type 0
 TellsSummary words IsTold status kept =
     status ≡ 0 → sums_up Replay words ≡ true
     → IsSomeAnd kept (λ (cluster : Cluster). (s : ClusterState)
-    × (Stands cluster s × IsTold (text_of_summary s.control.summary)))
+    × (ClusterStands cluster s × IsTold (text_of_summary s.control.summary)))

@@ -11,7 +11,7 @@ use Rattle.nim_schedule.specs.declared.event.Line.{Line}
 use Rattle.nim_schedule.specs.declared.fault.ScheduleFault.{ScheduleFault}
 use Rattle.nim_schedule.specs.declared.fault.ScheduleFault.TheVariants as schedule_fault
 use Rattle.nim_check.specs.Faults.{TellsFile}
-use Rattle.nim_check.specs.Refusals.{job_from, refused}
+use Rattle.nim_check.specs.Refusals.{job_from, job_refusal}
 use Rattle.nim_check.specs.declared.fault.ReadFault.{ReadFault}
 use Rattle.nim_check.specs.declared.fault.ReadFault.TheVariants as read_fault
 use Rattle.nim_job.specs.declared.job.Job.{Job}
@@ -23,10 +23,10 @@ use Rattle.nim_lockstep.specs.Cluster.{ClusterState}
 use Rattle.nim_lockstep.specs.InStep.{IsInStep}
 use Rattle.nim_lockstep.specs.Schedules.{IsRunBy}
 use Rattle.nim_cluster.specs.declared.cluster.Cluster.{Cluster}
-use Rattle.nim_cluster.specs.Stands.{Stands}
+use Rattle.nim_cluster.specs.Stands.{ClusterStands}
 use Rattle.clap.specs.Words.{Text}
-use Rattle.nim_top.specs.Answer.{came_to, has_run, is_told, text_of}
-use Rattle.nim_top.specs.Texts.{Texts, file_of, refusal_line, refusal_of}
+use Rattle.nim_top.specs.Answer.{came_to, has_run, is_summary_told, error_text}
+use Rattle.nim_top.specs.Texts.{Texts, file_of, refusal_line, files_refusal}
 use Rattle.nim_top.specs.Words.{is_accepted, mixed_by, number_word}
 use Rattle.nim_top.specs.declared.fault.InputFault.{InputFault}
 use Rattle.nim_top.specs.declared.fault.InputFault.TheVariants as fault
@@ -75,13 +75,13 @@ of_schedule schedule_fault.NoMemory = fault.NoMemory
 
 -- what reading gave is the job of a driver and its data, or why they are refused
 abbrev pub ReadsJob : List ℕ → List ℕ → Result Job ReadFault → Type 0
-ReadsJob driver file (Ok job) = (refused driver file ≡ None) × (job ≡ job_from driver file)
-ReadsJob driver file (Err fault) = TellsFile (refused driver file) fault
+ReadsJob driver file (Ok job) = (job_refusal driver file ≡ None) × (job ≡ job_from driver file)
+ReadsJob driver file (Err fault) = TellsFile (job_refusal driver file) fault
 
 -- the same of the lines of a schedule
 abbrev pub ReadsSchedule : List ℕ → Result (Vec Line Global) ScheduleFault → Type 0
-ReadsSchedule bytes (Ok lines) = (schedule.refusal_of bytes ≡ None) × (lines.items ≡ schedule.schedule_of bytes)
-ReadsSchedule bytes (Err (schedule_fault.Refused refusal)) = schedule.refusal_of bytes ≡ Some refusal
+ReadsSchedule bytes (Ok lines) = (schedule.schedule_refusal bytes ≡ None) × (lines.items ≡ schedule.schedule_of bytes)
+ReadsSchedule bytes (Err (schedule_fault.Refused refusal)) = schedule.schedule_refusal bytes ≡ Some refusal
 ReadsSchedule bytes (Err schedule_fault.NoMemory) = Unit {0}
 
 -- a plan is that of these files
@@ -90,30 +90,30 @@ pub record IsPlanOf (t : Texts) (plan : Plan) : Type 0 where
   pub schedule : plan.schedule.items ≡ schedule.schedule_of t.schedule
 
 -- what reading gave is the plan of these files, or why they are refused
-abbrev pub Reads : Texts → Result Plan InputFault → Type 0
-Reads t (Ok plan) = (refusal_of t ≡ None) × IsPlanOf t plan
-Reads t (Err (fault.At file refusal)) = refusal_of t ≡ Some (record { file = file; refusal = refusal })
-Reads t (Err fault.NoMemory) = Unit {0}
+abbrev pub ReadsPlan : Texts → Result Plan InputFault → Type 0
+ReadsPlan t (Ok plan) = (files_refusal t ≡ None) × IsPlanOf t plan
+ReadsPlan t (Err (fault.At file refusal)) = files_refusal t ≡ Some (record { file = file; refusal = refusal })
+ReadsPlan t (Err fault.NoMemory) = Unit {0}
 
 -- the outcome tells why files are refused, unless memory was refused
-abbrev pub IsLine : InputFault → Outcome → Type 0
-IsLine (fault.At file refusal) (outcome.Refused text) =
+abbrev pub TellsInputFault : InputFault → Outcome → Type 0
+TellsInputFault (fault.At file refusal) (outcome.Refused text) =
     string_bytes text ≡ refusal_line (record { file = file; refusal = refusal })
-IsLine _ outcome.Memory = Unit {0}
-IsLine _ _ = ⊥
+TellsInputFault _ outcome.Memory = Unit {0}
+TellsInputFault _ _ = ⊥
 
 -- ---- what is written and kept
 
 -- bytes were written, or the front of them where a fault came
-abbrev pub Prints : List ℕ → Option (List ℕ) → Option (List ℕ) → ℕ → ℕ → Outcome → Type 0
-Prints bytes old new old_faults new_faults outcome.Done = Appends old new bytes × (new_faults ≡ old_faults)
-Prints bytes old new old_faults new_faults outcome.Write = AppendsFront old new bytes × Rose old_faults new_faults
-Prints bytes old new old_faults new_faults _ = ⊥
+abbrev pub PrintsBytes : List ℕ → Option (List ℕ) → Option (List ℕ) → ℕ → ℕ → Outcome → Type 0
+PrintsBytes bytes old new old_faults new_faults outcome.Done = Appends old new bytes × (new_faults ≡ old_faults)
+PrintsBytes bytes old new old_faults new_faults outcome.Write = AppendsFront old new bytes × Rose old_faults new_faults
+PrintsBytes bytes old new old_faults new_faults _ = ⊥
 
 -- the same, or memory was refused before
 abbrev pub MayPrint : List ℕ → Option (List ℕ) → Option (List ℕ) → ℕ → ℕ → Outcome → Type 0
 MayPrint bytes old new old_faults new_faults outcome.Memory = Appends old new [] × (new_faults ≡ old_faults)
-MayPrint bytes old new old_faults new_faults outcome = Prints bytes old new old_faults new_faults outcome
+MayPrint bytes old new old_faults new_faults outcome = PrintsBytes bytes old new old_faults new_faults outcome
 
 -- a job was run that ends so: its bytes were written, or the front of them where a fault came; or it passes its limits;
 -- or nothing is told of it
@@ -129,16 +129,16 @@ Finishes ending old new old_faults new_faults outcome.Memory = Appends old new [
 Finishes ending old new old_faults new_faults _ = ⊥
 
 -- a cluster of a job, in which events were given that follow these lines: it came to the end of this status
-pub record IsRunOf (job : Job) (lines : List Line) (setup : Setup) (status : ℕ) (cluster : Cluster) : Type 0 where
+pub record IsJobReplay (job : Job) (lines : List Line) (setup : Setup) (status : ℕ) (cluster : Cluster) : Type 0 where
   pub state : ClusterState
   pub run : IsRunBy job setup lines state
-  pub stands : Stands cluster state
+  pub stands : ClusterStands cluster state
   pub in_step : IsInStep state
   pub ended : state.control.outcome ≡ came_to status
 
 -- what is kept where a plan was followed, and where it wasn't
 abbrev pub LeavesIf : Bool → Plan → Setup → ℕ → Option Cluster → Option Cluster → Type 0
-LeavesIf true plan setup status old new = IsSomeAnd new (IsRunOf plan.job plan.schedule.items setup status)
+LeavesIf true plan setup status old new = IsSomeAnd new (IsJobReplay plan.job plan.schedule.items setup status)
 LeavesIf false plan setup status old new = new ≡ old
 
 -- what is kept, by the status: a plan was followed where the job has run
@@ -150,7 +150,7 @@ Leaves plan setup status old new = LeavesIf (has_run status) plan setup status o
 -- the summary, where there is one, or how it ended
 abbrev pub told_by : Option (Vec ℕ Global) → Outcome → List ℕ
 told_by (Some text) outcome = text.items
-told_by None outcome = text_of outcome
+told_by None outcome = error_text outcome
 
 -- what is told of a replay
 abbrev pub told_of : Replayed → List ℕ
@@ -164,9 +164,9 @@ SumsUpState false text s = text ≡ None
 -- the same of the cluster that is kept
 abbrev pub SumsUpIf : Bool → Option (Vec ℕ Global) → Option Cluster → Type 0
 SumsUpIf true text kept =
-    IsSomeAnd kept (λ (cluster : Cluster). (s : ClusterState) × (Stands cluster s × SumsUpState true text s))
+    IsSomeAnd kept (λ (cluster : Cluster). (s : ClusterState) × (ClusterStands cluster s × SumsUpState true text s))
 SumsUpIf false text kept = text ≡ None
 
 -- a replay has a summary where it is asked for and all is done
 abbrev pub SumsUp : Bool → Replayed → Option Cluster → Type 0
-SumsUp asked replayed kept = SumsUpIf (is_told asked replayed.outcome) replayed.summary kept
+SumsUp asked replayed kept = SumsUpIf (is_summary_told asked replayed.outcome) replayed.summary kept

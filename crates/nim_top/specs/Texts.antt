@@ -5,7 +5,7 @@ use Rattle.nim_io.specs.Files.{content}
 use Rattle.nim_lex.specs.declared.fault.Refusal.{Refusal}
 use Rattle.nim_schedule.specs.Schedule as schedule
 use Rattle.nim_check.specs.Faults as check
-use Rattle.nim_check.specs.Refusals.{refused}
+use Rattle.nim_check.specs.Refusals.{job_refusal}
 use Rattle.nim_check.specs.declared.fault.Input.{Input}
 use Rattle.nim_check.specs.declared.fault.Input.TheVariants as input
 use Rattle.clap.specs.Words.{Text}
@@ -47,15 +47,15 @@ OfTexts told verb words P =
     (λ schedule. P (texts driver data_file schedule))))
 
 -- what was read of a file of this text, of which at most so many bytes are wanted
-abbrev pub IsOf : ℕ → FileText → List ℕ → Type 0
-IsOf most (Whole bytes) text = text ≡ bytes.items
-IsOf most TooLong text = most < length text
+abbrev pub IsTextRead : ℕ → FileText → List ℕ → Type 0
+IsTextRead most (Whole bytes) text = text ≡ bytes.items
+IsTextRead most TooLong text = most < length text
 
 -- what was read of a driver, its data and a schedule
 abbrev pub AreOf : Inputs → Texts → Type 0
 AreOf inputs t =
-    IsOf 1048576 inputs.driver t.driver × IsOf 33554432 inputs.data_file t.data_file
-    × IsOf 16777216 inputs.schedule t.schedule
+    IsTextRead 1048576 inputs.driver t.driver × IsTextRead 33554432 inputs.data_file t.data_file
+    × IsTextRead 16777216 inputs.schedule t.schedule
 
 -- ---- why they are refused
 
@@ -78,10 +78,10 @@ abbrev pub of_schedule : Refusal → FileRefusal
 of_schedule refusal = record { file = Schedule; refusal = refusal }
 
 -- why files are refused, if they are: the driver first, then its data, then the schedule
-abbrev pub refusal_of : Texts → Option FileRefusal
-refusal_of t =
-    option_or (option_map of_job (refused t.driver t.data_file))
-    (option_map of_schedule (schedule.refusal_of t.schedule))
+abbrev pub files_refusal : Texts → Option FileRefusal
+files_refusal t =
+    option_or (option_map of_job (job_refusal t.driver t.data_file))
+    (option_map of_schedule (schedule.schedule_refusal t.schedule))
 
 -- how the line that tells a refusal names a file
 abbrev pub file_name : InputFile → List ℕ

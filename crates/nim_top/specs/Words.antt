@@ -10,7 +10,7 @@ use Rattle.std.specs.declared.alloc.Global.{Global}
 use Rattle.clap.specs.Words.{App, Kinds, Row, Rule, Text, fault_of, first_of, matches_of, new_app, new_rule, with_rule}
 use Rattle.clap.specs.Simple.{on_top}
 use Rattle.clap.specs.declared.builder.action.ArgAction.TheVariants.{SetTrue}
-use Rattle.nim_lex.specs.Numbers.{number_of}
+use Rattle.nim_lex.specs.Numbers.{decimal_value}
 use Rattle.nim_schedule.specs.Words.{is_short}
 use Rattle.nim_place.specs.declared.placement.Placement.{Placement}
 use Rattle.nim_place.specs.declared.placement.Placement.TheVariants.{Cyclic, Block, Mixed}
@@ -78,8 +78,8 @@ unfoldable pub faults : Verb → List Text → Kinds
 faults verb rest = fault_of (app_for verb) rest
 
 -- what clap finds there
-unfoldable pub found : Verb → List Text → List Row
-found verb rest = matches_of (app_for verb) rest
+unfoldable pub clap_found : Verb → List Text → List Row
+clap_found verb rest = matches_of (app_for verb) rest
 
 -- ---- the names of files
 
@@ -99,12 +99,12 @@ is_optional None = true
 is_optional (Some name) = is_file_name name
 
 -- the words behind the command
-abbrev pub behind : List Text → List Text
-behind words = drop 1 words
+abbrev pub behind_command : List Text → List Text
+behind_command words = drop 1 words
 
 -- the value that the words give under a name, where they do
 abbrev pub given_as : Text → Verb → List Text → Option Text
-given_as name verb words = first_of name (found verb (behind words))
+given_as name verb words = first_of name (clap_found verb (behind_command words))
 
 -- the name of the driver's file, where the words have one
 abbrev pub driver_given : Verb → List Text → Option Text
@@ -122,7 +122,7 @@ schedule_given verb words = given_as (codes "schedule") verb words
 
 -- 1 to 20 digits, and the number that they write
 unfoldable pub number_word : Text → Option ℕ
-number_word word = if is_short 20 word && list_all is_ascii_digit word then Some (number_of word) else None
+number_word word = if is_short 20 word && list_all is_ascii_digit word then Some (decimal_value word) else None
 
 -- 1 to 16 workers
 abbrev pub workers_in : ℕ → Option ℕ
@@ -192,7 +192,7 @@ are_named verb words =
 -- what clap found is what a command takes
 abbrev pub are_accepted : Verb → List Text → Bool
 are_accepted verb words =
-    (length (faults verb (behind words)) == 0) && (are_named verb words && is_some (setup_said verb words))
+    (length (faults verb (behind_command words)) == 0) && (are_named verb words && is_some (setup_said verb words))
 
 -- the first word is this command, and the others are what it takes
 abbrev pub is_accepted : Verb → List Text → Bool

@@ -1,4 +1,4 @@
-ghost use Rattle.nim_top.specs.Answer.{Answers, Ends, Tells, outside};
+ghost use Rattle.nim_top.specs.Answer.{EndsAndTells, Ends, WritesText, outside_with};
 ghost use Rattle.nim_top.specs.Words.{texts_of};
 ghost use Rattle.nim_top.specs.declared.verb.Verb.TheVariants as verb;
 
@@ -20,10 +20,10 @@ pub fn top_check<L: Files, K: Sink>(
     out: &mut K,
     err: &mut K,
 ) -> Status
-    ensures { Answers verb.Check (texts_of words.now)
-        (outside (L.told files.old) (L.faults files.old) (K.written out.old) (K.faults out.old))
-        (outside (L.told files.new) (L.faults files.new) (K.written out.new) (K.faults out.new))
-        (Tells (K.written err.old) (K.written err.new) (K.faults err.old) (K.faults err.new)) result.0 }
+    ensures { EndsAndTells verb.Check (texts_of words.now)
+        (outside_with (L.told files.old) (L.faults files.old) (K.written out.old) (K.faults out.old))
+        (outside_with (L.told files.new) (L.faults files.new) (K.written out.new) (K.faults out.new))
+        (WritesText (K.written err.old) (K.written err.new) (K.faults err.old) (K.faults err.new)) result.0 }
 {
     let outcome = check(alloc, words, files, out);
     tell(outcome.text().as_bytes(), err);
@@ -33,8 +33,8 @@ pub fn top_check<L: Files, K: Sink>(
 // All but what is told on standard error.
 fn check<L: Files, K: Sink>(alloc: Global, words: &[String], files: &mut L, out: &mut K) -> Outcome
     ensures { Ends verb.Check (texts_of words.now)
-        (outside (L.told files.old) (L.faults files.old) (K.written out.old) (K.faults out.old))
-        (outside (L.told files.new) (L.faults files.new) (K.written out.new) (K.faults out.new)) result }
+        (outside_with (L.told files.old) (L.faults files.old) (K.written out.old) (K.faults out.old))
+        (outside_with (L.told files.new) (L.faults files.new) (K.written out.new) (K.faults out.new)) result }
 {
     let inputs = match load(alloc, Verb::Check, words, files) {
         Ok(inputs) => inputs,

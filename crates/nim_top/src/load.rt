@@ -1,6 +1,6 @@
 ghost use Rattle.std.specs.Prelude.{◌≡◌, IfErr, IfOk, true};
 ghost use Rattle.nim_top.specs.Parts.{IsUnloaded, IsUnread};
-ghost use Rattle.nim_top.specs.Texts.{AreOf, IsOf, OfFile, OfTexts};
+ghost use Rattle.nim_top.specs.Texts.{AreOf, IsTextRead, OfFile, OfTexts};
 ghost use Rattle.nim_top.specs.Words.{is_accepted, setup_of, sums_up, texts_of, word_of};
 
 use crate::status::Outcome;
@@ -75,7 +75,7 @@ fn load_one<L: Files>(
     name: Option<&str>,
     most: usize,
 ) -> Result<FileText, Outcome>
-    ensures text { IfOk result (λ text. OfFile (L.told files.old) (word_of name.entry) (IsOf most text)) }
+    ensures text { IfOk result (λ text. OfFile (L.told files.old) (word_of name.entry) (IsTextRead most text)) }
     ensures quiet { IfOk result (λ text. L.faults files.new ≡ L.faults files.old) }
     ensures unread { IfErr result (IsUnread (L.faults files.old) (L.faults files.new)) }
     ensures same { L.told files.new ≡ L.told files.old }

@@ -2,9 +2,9 @@ ghost use Rattle.std.specs.Prelude.{◌≡◌, ◌<◌, ℕ, List, length, strin
 ghost use Rattle.nim_job.specs.Whole.{is_whole};
 ghost use Rattle.nim_check.specs.declared.fault.ReadFault.TheVariants as read_fault;
 ghost use Rattle.nim_check.specs.Faults.{TellsFile};
-ghost use Rattle.nim_check.specs.Refusals.{refused};
-ghost use Rattle.nim_top.specs.Parts.{IsLine, Reads, ReadsJob, ReadsSchedule};
-ghost use Rattle.nim_top.specs.Texts.{AreOf, IsOf, Texts, refusal_line};
+ghost use Rattle.nim_check.specs.Refusals.{job_refusal};
+ghost use Rattle.nim_top.specs.Parts.{TellsInputFault, ReadsPlan, ReadsJob, ReadsSchedule};
+ghost use Rattle.nim_top.specs.Texts.{AreOf, IsTextRead, Texts, refusal_line};
 
 use crate::fault::InputFault;
 use crate::load::{FileText, Inputs};
@@ -37,7 +37,7 @@ pub struct Plan {
 /// The job of a driver and its data with the lines of a schedule, or the first refused line of the first of the three
 /// files that has one.
 pub fn read(alloc: Global, inputs: &Inputs) -> Result<Plan, InputFault>
-    ensures reads { (t : Texts) → AreOf inputs.now t → Reads t result }
+    ensures reads { (t : Texts) → AreOf inputs.now t → ReadsPlan t result }
     ensures whole { IfOk result (λ plan. IsTrue (is_whole plan.job)) }
 {
     let job = job_in(alloc, &inputs.driver, &inputs.data_file)?;
@@ -47,7 +47,7 @@ pub fn read(alloc: Global, inputs: &Inputs) -> Result<Plan, InputFault>
 
 // The job of a driver and its data, or why they are refused.
 fn job_in(alloc: Global, driver: &FileText, data_file: &FileText) -> Result<Job, ReadFault>
-    ensures reads { (text file : List ℕ) → IsOf 1048576 driver.now text → IsOf 33554432 data_file.now file
+    ensures reads { (text file : List ℕ) → IsTextRead 1048576 driver.now text → IsTextRead 33554432 data_file.now file
         → ReadsJob text file result }
     ensures whole { IfOk result (λ job. IsTrue (is_whole job)) }
 {
@@ -70,7 +70,7 @@ fn too_long(input: Input, rule: u8) -> ReadFault
 
 // Why a driver or, where no rule refuses it, its data are refused, which are too long.
 fn refused_data(alloc: Global, driver: &[u8]) -> ReadFault
-    ensures { (file : List ℕ) → 33554432 < length file → TellsFile (refused driver.now file) result }
+    ensures { (file : List ℕ) → 33554432 < length file → TellsFile (job_refusal driver.now file) result }
 {
     match read_driver(alloc, driver) {
         Ok(_job) => too_long(Input::Data, DATA_TOO_LONG),
@@ -84,7 +84,7 @@ fn refused_data(alloc: Global, driver: &[u8]) -> ReadFault
 
 // The lines of a schedule, or why it is refused.
 fn schedule_in(alloc: Global, text: &FileText) -> Result<Vec<Line>, ScheduleFault>
-    ensures { (bytes : List ℕ) → IsOf 16777216 text.now bytes → ReadsSchedule bytes result }
+    ensures { (bytes : List ℕ) → IsTextRead 16777216 text.now bytes → ReadsSchedule bytes result }
 {
     match text {
         FileText::Whole(bytes) => read_schedule(alloc, bytes),
@@ -97,7 +97,7 @@ fn schedule_in(alloc: Global, text: &FileText) -> Result<Vec<Line>, ScheduleFaul
 
 /// The outcome of files that are refused.
 pub fn refused(alloc: Global, fault: InputFault) -> Outcome
-    ensures { IsLine fault result }
+    ensures { TellsInputFault fault result }
 {
     match fault {
         InputFault::At { file, refusal } => match refusal_line(alloc, file, refusal) {

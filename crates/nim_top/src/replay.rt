@@ -1,9 +1,9 @@
 ghost use Rattle.std.specs.Prelude.{◌≡◌, ◌≤◌, if◌then◌else◌, IfOk, IsTrue, Some as some};
 ghost use Rattle.nim_job.specs.Serial.{serial_of};
 ghost use Rattle.nim_job.specs.Whole.{is_whole};
-ghost use Rattle.nim_cluster.specs.Stands.{Stands};
+ghost use Rattle.nim_cluster.specs.Stands.{ClusterStands};
 ghost use Rattle.nim_lockstep.specs.Cluster.{ClusterState};
-ghost use Rattle.nim_top.specs.Answer.{Answers, Ends, Keeps, Tells, TellsSummary, is_told, outside, status_of};
+ghost use Rattle.nim_top.specs.Answer.{EndsAndTells, Ends, KeepsCluster, WritesText, TellsSummary, is_summary_told, outside_with, status_of};
 ghost use Rattle.nim_top.specs.Parts.{Finishes, Leaves, MayPrint, SumsUp, SumsUpState};
 ghost use Rattle.nim_top.specs.Words.{sums_up, texts_of};
 ghost use Rattle.nim_top.specs.declared.verb.Verb.TheVariants as verb;
@@ -34,15 +34,15 @@ pub fn top_replay<L: Files, K: Sink>(
     err: &mut K,
     kept: &mut Option<Cluster>,
 ) -> Status
-    ensures answers { Answers verb.Replay (texts_of words.now)
-        (outside (L.told files.old) (L.faults files.old) (K.written out.old) (K.faults out.old))
-        (outside (L.told files.new) (L.faults files.new) (K.written out.new) (K.faults out.new))
-        (Tells (K.written err.old) (K.written err.new) (K.faults err.old) (K.faults err.new)) result.0 }
+    ensures answers { EndsAndTells verb.Replay (texts_of words.now)
+        (outside_with (L.told files.old) (L.faults files.old) (K.written out.old) (K.faults out.old))
+        (outside_with (L.told files.new) (L.faults files.new) (K.written out.new) (K.faults out.new))
+        (WritesText (K.written err.old) (K.written err.new) (K.faults err.old) (K.faults err.new)) result.0 }
 
     // Each task that the kept cluster ran read the versions that program order names.
-    ensures kept { Keeps (L.told files.old) (texts_of words.now) result.0 kept.old kept.new }
+    ensures kept { KeepsCluster (L.told files.old) (texts_of words.now) result.0 kept.old kept.new }
     ensures summary { TellsSummary (texts_of words.now)
-        (Tells (K.written err.old) (K.written err.new) (K.faults err.old) (K.faults err.new)) result.0 kept.new }
+        (WritesText (K.written err.old) (K.written err.new) (K.faults err.old) (K.faults err.new)) result.0 kept.new }
 {
     let replayed = replay(alloc, words, files, out, kept);
     tell(replayed.told(), err);
@@ -58,9 +58,9 @@ fn replay<L: Files, K: Sink>(
     kept: &mut Option<Cluster>,
 ) -> Replayed
     ensures ends { Ends verb.Replay (texts_of words.now)
-        (outside (L.told files.old) (L.faults files.old) (K.written out.old) (K.faults out.old))
-        (outside (L.told files.new) (L.faults files.new) (K.written out.new) (K.faults out.new)) result.outcome }
-    ensures kept { Keeps (L.told files.old) (texts_of words.now) (status_of result.outcome) kept.old kept.new }
+        (outside_with (L.told files.old) (L.faults files.old) (K.written out.old) (K.faults out.old))
+        (outside_with (L.told files.new) (L.faults files.new) (K.written out.new) (K.faults out.new)) result.outcome }
+    ensures kept { KeepsCluster (L.told files.old) (texts_of words.now) (status_of result.outcome) kept.old kept.new }
     ensures summary { SumsUp (sums_up verb.Replay (texts_of words.now)) result kept.new }
 {
     let inputs = match load(alloc, Verb::Replay, words, files) {
@@ -108,10 +108,10 @@ fn follow<K: Sink>(
 
 // Writes what a job printed that is done. The summary is made before, so that memory is refused before or not at all.
 fn done<K: Sink>(alloc: Global, cluster: &Cluster, is_asked: bool, out: &mut K) -> Replayed
-    ensures prints { (s : ClusterState) → Stands cluster.now s → MayPrint s.control.machine.driver.output
+    ensures prints { (s : ClusterState) → ClusterStands cluster.now s → MayPrint s.control.machine.driver.output
         (K.written out.old) (K.written out.new) (K.faults out.old) (K.faults out.new) result.outcome }
-    ensures summary { (s : ClusterState) → Stands cluster.now s
-        → SumsUpState (is_told is_asked result.outcome) result.summary s }
+    ensures summary { (s : ClusterState) → ClusterStands cluster.now s
+        → SumsUpState (is_summary_told is_asked result.outcome) result.summary s }
 {
     let Ok(summary) = summary_text(alloc, cluster, is_asked) else {
         return Replayed::without_summary(Outcome::Memory);
@@ -131,7 +131,7 @@ fn summary_text(
     cluster: &Cluster,
     is_asked: bool,
 ) -> Result<Option<Vec<u8>>, NoMemory>
-    ensures { (s : ClusterState) → Stands cluster.now s → IfOk result (λ text. SumsUpState is_asked text s) }
+    ensures { (s : ClusterState) → ClusterStands cluster.now s → IfOk result (λ text. SumsUpState is_asked text s) }
 {
     if is_asked {
         Ok(Some(cluster.summary().text(alloc)?))

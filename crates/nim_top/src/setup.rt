@@ -113,7 +113,7 @@ fn are_digits(word: &[u8]) -> bool
 
 // The number that digits write, or the greatest of a `u128` where it is greater.
 fn number(digits: &[u8]) -> u128
-    ensures { result ≡ min (lex.number_of digits.now) (2 ^ 128 - 1) }
+    ensures { result ≡ min (lex.decimal_value digits.now) (2 ^ 128 - 1) }
 {
     let mut value = 0u128;
     for digit in digits {

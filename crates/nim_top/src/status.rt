@@ -1,5 +1,5 @@
 ghost use Rattle.std.specs.Prelude.{◌≡◌};
-ghost use Rattle.nim_top.specs.Answer.{has_run, status_of, status_text, text_of};
+ghost use Rattle.nim_top.specs.Answer.{has_run, status_of, status_text, error_text};
 
 /// How a command ended: the status that the program ends with.
 #[derive(Clone, Copy, Debug, PartialEq, Eq)]
@@ -97,7 +97,7 @@ impl Outcome {
 
     /// What is told on standard error.
     pub fn text(&self) -> &str
-        ensures { result.now ≡ text_of self.now }
+        ensures { result.now ≡ error_text self.now }
     {
         match self {
             Outcome::Refused(line) => line.as_str(),

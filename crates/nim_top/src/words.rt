@@ -1,6 +1,6 @@
 ghost use Rattle.std.specs.Prelude.{◌≡◌, ◌≢◌, [], true, false, codes, IfOk, IsErrOf, OnOk};
 ghost use Rattle.clap.specs.Words.{app_of, first_of, rule_of};
-ghost use Rattle.nim_top.specs.Words.{app_for, bare_app, check_app, data_given, driver_name, faults, flag_rule, found, is_accepted, is_file_name, is_optional, is_set, option_rule, positional_rule, replay_app, schedule_given, setup_of, sums_up, sums_up_by, texts_of, word_of};
+ghost use Rattle.nim_top.specs.Words.{app_for, bare_app, check_app, data_given, driver_name, faults, flag_rule, clap_found, is_accepted, is_file_name, is_optional, is_set, option_rule, positional_rule, replay_app, schedule_given, setup_of, sums_up, sums_up_by, texts_of, word_of};
 
 use crate::setup::setup;
 use crate::verb::Verb;
@@ -129,17 +129,17 @@ fn parse<'a>(alloc: Global, verb: Verb, rest: &'a [String]) -> Result<Found<'a>,
     ensures taken { OnOk result (faults verb (texts_of rest.now) ≡ []) }
     ensures refused { IsErrOf result WordsFault.Refused → faults verb (texts_of rest.now) ≢ [] }
     ensures driver { IfOk result (λ words. word_of words.driver
-        ≡ first_of (codes "driver") (found verb (texts_of rest.now))) }
+        ≡ first_of (codes "driver") (clap_found verb (texts_of rest.now))) }
     ensures data { IfOk result (λ words. word_of words.data_file
-        ≡ first_of (codes "data") (found verb (texts_of rest.now))) }
+        ≡ first_of (codes "data") (clap_found verb (texts_of rest.now))) }
     ensures schedule { IfOk result (λ words. word_of words.schedule
-        ≡ first_of (codes "schedule") (found verb (texts_of rest.now))) }
+        ≡ first_of (codes "schedule") (clap_found verb (texts_of rest.now))) }
     ensures workers { IfOk result (λ words. word_of words.workers
-        ≡ first_of (codes "workers") (found verb (texts_of rest.now))) }
+        ≡ first_of (codes "workers") (clap_found verb (texts_of rest.now))) }
     ensures place { IfOk result (λ words. word_of words.place
-        ≡ first_of (codes "place") (found verb (texts_of rest.now))) }
+        ≡ first_of (codes "place") (clap_found verb (texts_of rest.now))) }
     ensures summary { IfOk result (λ words. word_of words.summary
-        ≡ first_of (codes "summary") (found verb (texts_of rest.now))) }
+        ≡ first_of (codes "summary") (clap_found verb (texts_of rest.now))) }
 {
     match command(alloc, verb)?.try_get_matches_from(rest) {
         Ok(found) => Ok(Found {

@@ -8,7 +8,7 @@ use Rattle.std.proofs.lemmas.List.Elements.{All-cons, All-head, All-nil, All-tai
 use Rattle.nim_base.specs.declared.number.Slot.{Slot}
 use Rattle.nim_base.specs.declared.task.Task.{Task}
 use Rattle.nim_base.specs.Apply.{has_counts}
-use Rattle.nim_base.specs.Functions.{reads_of}
+use Rattle.nim_base.specs.Functions.{read_values}
 use Rattle.nim_command.specs.declared.command.Kind.{Kind}
 use Rattle.nim_command.specs.declared.command.Kind.TheVariants.{Run}
 use Rattle.nim_command.specs.Waits.{Group, members_of}
@@ -23,7 +23,7 @@ use Rattle.nim_store.specs.declared.held.Held.{Held}
 use Rattle.nim_store.specs.Stored.{slot_at}
 use Rattle.nim_history.specs.History.{Asked, Happening, IsHistory, MayComplete, WorkerState, asked_at, has_frame, orders_in, state_of}
 use Rattle.nim_history.specs.InTurn.{MayAllComplete}
-use Rattle.nim_history.specs.Kept.{content_seen, seen}
+use Rattle.nim_history.specs.Kept.{content_seen, held_or_empty}
 use Rattle.nim_history.specs.Truth.{FindsRight, IsHandedTruth, values_read}
 use Rattle.nim_history.specs.Truth as truth
 use Rattle.nim_history.proofs.GoesOn.{history_goes_on}
@@ -34,7 +34,7 @@ use Rattle.nim_worker.specs.declared.batch.Work.{Work}
 use Rattle.nim_worker.specs.declared.worker.WorkerCore.{WorkerCore}
 use Rattle.nim_worker.specs.Chains.{AreWorks, HasRead, HaveRead}
 use Rattle.nim_worker.specs.Right.{ReadsRight}
-use Rattle.nim_worker.specs.Stands.{HasRoom, HasState, IsBeginning, IsOut, Stands, begun_of, tickets_of}
+use Rattle.nim_worker.specs.Stands.{HasRoom, HasState, IsBeginning, IsOut, CoreStands, begun_of, tickets_of}
 use Rattle.nim_worker.specs.Taken.{taken_from, taken_of}
 use Rattle.nim_worker.specs.Works.{Begun, begun_as, position_of}
 use Rattle.nim_worker.proofs.Chains.{works_read}
@@ -65,9 +65,9 @@ pub record IsLeftBegun (old new : WorkerCore) : Type 0 where
   pub busy : new.busy ≡ true
 
 -- a batch that takes what a batch takes is out
-pub stands_begun : (old new : WorkerCore) (batch : Batch) (history : List Happening) (most : ℕ) → Stands old None history → IsLeftBegun old new
+pub stands_begun : (old new : WorkerCore) (batch : Batch) (history : List Happening) (most : ℕ) → CoreStands old None history → IsLeftBegun old new
     → IsBeginning new batch.works.items (state_of history) → tickets_of batch.works.items ≡ taken_of (state_of history) most
-    → (new.begun ≡ true → HasRoom batch) → Stands new (Some batch) history
+    → (new.begun ≡ true → HasRoom batch) → CoreStands new (Some batch) history
 stands_begun old new batch history most stands left begins taken room = record {
   history = stands.history;
   at = record {
@@ -119,7 +119,7 @@ unbegun true X holds never = absurd (never (holds refl))
 unbegun false X holds never = refl
 
 -- a core without room has begun no epoch, and begins an empty batch
-pub none_begun : (old : WorkerCore) (history : List Happening) (most : ℕ) → Stands old None history → old.room ≡ None → [] ≡ taken_of (state_of history) most
+pub none_begun : (old : WorkerCore) (history : List Happening) (most : ℕ) → CoreStands old None history → old.room ≡ None → [] ≡ taken_of (state_of history) most
 none_begun old history most stands none =
     let not : old.begun ≡ false =
     unbegun old.begun (is_some old.room ≡ true) stands.at.out.1.room (λ there. both_ways true (sym there ∙ ap is_some none) refl) in
@@ -131,13 +131,13 @@ run_right : (job : Job) (before : Slot → Option Held) (kind : Kind) (work : Wo
 run_right job before (Run at func params reads writes) work is read right position named =
     let same : at ≡ position = cc in
     some_then (λ (task : Task). (work.inputs.value.contents.items ≡ reads_at job position task)
-    × (reads_of work.inputs.value.values.items work.inputs.value.places.items ≡ values_read job position task)) (slice_get (tasks_of job) position)
+    × (read_values work.inputs.value.values.items work.inputs.value.places.items ≡ values_read job position task)) (slice_get (tasks_of job) position)
     (subst (λ (n : ℕ). IsSomeAnd (slice_get (tasks_of job) n) (λ task. (has_counts func (length params) (length reads) (length writes) ≡ true)
-    × (map (content_seen before) reads ≡ reads_at job n task) × (map (λ slot. (seen before slot).value) reads ≡ values_read job n task))) same right)
+    × (map (content_seen before) reads ≡ reads_at job n task) × (map (λ slot. (held_or_empty before slot).value) reads ≡ values_read job n task))) same right)
     (λ task there parts.
     let counts = ap (λ (b : Bool). if b then reads else []) parts.0 in (
       read.contents ∙ ap (map (content_seen before)) counts ∙ parts.1,
-      read.values ∙ ap (map (λ slot. (seen before slot).value)) counts ∙ parts.2,
+      read.values ∙ ap (map (λ slot. (held_or_empty before slot).value)) counts ∙ parts.2,
     ))
 run_right job before kind work is read right position named = absurd cc
 

@@ -14,11 +14,11 @@ use Rattle.nim_command.specs.declared.command.Kind.{Kind}
 use Rattle.nim_command.specs.declared.command.Kind.TheVariants.{Run}
 use Rattle.nim_command.specs.Slots.{does_read, does_touch, does_write, is_among, reads_of}
 use Rattle.nim_store.specs.declared.held.Held.{Held}
-use Rattle.nim_history.specs.Kept.{content_seen, fitting_shape, held_at, seen}
+use Rattle.nim_history.specs.Kept.{content_seen, fitting_shape, held_version, held_or_empty}
 use Rattle.nim_worker.specs.declared.batch.Work.{Work}
 use Rattle.nim_worker.specs.declared.inputs.Taken.{Taken}
 use Rattle.nim_worker.specs.Inputs.{AreAmong, given_back, held_of}
-use Rattle.nim_worker.specs.Works.{Begun, IsWork, func_taken, params_taken, reads_taken, results_in, results_of, writes_taken}
+use Rattle.nim_worker.specs.Works.{Begun, IsWork, func_taken, params_taken, reads_taken, results_in, results_performed, writes_taken}
 use Rattle.nim_worker.proofs.Puts.{same_slot}
 
 -- two states of the slots are the same where a command touches them
@@ -57,14 +57,14 @@ pub contents_same : (f g : Slot → Option Held) (slots : List Slot) → ((s : S
     → map (content_seen f) slots ≡ map (content_seen g) slots
 contents_same f g slots same = map_on (content_seen f) (content_seen g) slots
     (λ s among. ap (λ (h : Option Held). (
-      (option_map_or (λ (held : Held). held) h (held_at s 0 empty_grid)).object,
-      (option_map_or (λ (held : Held). held) h (held_at s 0 empty_grid)).version,
+      (option_map_or (λ (held : Held). held) h (held_version s 0 empty_grid)).object,
+      (option_map_or (λ (held : Held). held) h (held_version s 0 empty_grid)).version,
     )) (same s among))
 
 pub values_same : (f g : Slot → Option Held) (slots : List Slot) → ((s : Slot) → is_among slots s ≡ true → f s ≡ g s)
-    → map (λ slot. (seen f slot).value) slots ≡ map (λ slot. (seen g slot).value) slots
-values_same f g slots same = map_on (λ slot. (seen f slot).value) (λ slot. (seen g slot).value) slots
-    (λ s among. ap (λ (h : Option Held). (option_map_or (λ (held : Held). held) h (held_at s 0 empty_grid)).value) (same s among))
+    → map (λ slot. (held_or_empty f slot).value) slots ≡ map (λ slot. (held_or_empty g slot).value) slots
+values_same f g slots same = map_on (λ slot. (held_or_empty f slot).value) (λ slot. (held_or_empty g slot).value) slots
+    (λ s among. ap (λ (h : Option Held). (option_map_or (λ (held : Held). held) h (held_version s 0 empty_grid)).value) (same s among))
 
 -- what is given back to a slot doesn't depend on what others have
 given_back_same : (ts : List Taken) (vs : List Grid) (f g : Slot → Option Held) (s : Slot) → f s ≡ g s → given_back ts vs f s ≡ given_back ts vs g s
@@ -86,7 +86,7 @@ given_back_other slots (t ∷ ts) (v ∷ vs) f s among not =
       either false other rest = rest
 
 -- the results of a command depend on what it touches alone
-results_same : (shapes : List Shape) (kind : Kind) (f g : Slot → Option Held) → Agree kind f g → results_of shapes kind f ≡ results_of shapes kind g
+results_same : (shapes : List Shape) (kind : Kind) (f g : Slot → Option Held) → Agree kind f g → results_performed shapes kind f ≡ results_performed shapes kind g
 results_same shapes kind f g same =
     ap (λ (grids : List Grid). option_map (λ (func : Func). apply_of func (params_taken kind) grids (map (fitting_shape shapes) (writes_taken kind)))
     (func_taken kind))

@@ -20,7 +20,7 @@ use Rattle.nim_worker.specs.declared.batch.Work.{Work}
 use Rattle.nim_worker.specs.declared.inputs.Inputs.{Inputs}
 use Rattle.nim_worker.specs.Inputs.{given_back}
 use Rattle.nim_worker.specs.Leaves.{left_with, told_with}
-use Rattle.nim_worker.specs.Works.{AreInputsOf, Begun, IsPerformed, IsWork, reads_taken, results_from, results_in, results_of}
+use Rattle.nim_worker.specs.Works.{AreInputsOf, Begun, IsPerformed, IsWork, reads_taken, results_from, results_in, results_performed}
 
 -- where no result is left nothing is put
 pub put_none : (shapes : List Shape) (version : ℕ) (slots : List Slot) (values : List Grid) (f : Slot → Option Held) → values ≡ []
@@ -32,22 +32,22 @@ put_none shapes version slots values f none = subst (λ vs. put_results shapes v
 
 -- the results that a work's inputs have are those of the slots that they were taken from
 inputs_results : (shapes : List Shape) (before now : Slot → Option Held) (begun : Begun) (work : Work) → IsWork shapes before now begun work
-    → results_from work ≡ results_of shapes begun.kind before
+    → results_from work ≡ results_performed shapes begun.kind before
 inputs_results shapes before now begun work is =
     rw (is.func, is.inputs.params, is.inputs.values, is.inputs.shapes) refl
 
 -- a work that is performed has its command's results
 pub performed_results : (shapes : List Shape) (before now : Slot → Option Held) (begun : Begun) (work new : Work)
     → IsWork shapes before now begun work → IsPerformed work new
-    → results_in new ≡ results_of shapes begun.kind before
+    → results_in new ≡ results_performed shapes begun.kind before
 performed_results shapes before now begun work new is done = done.results ∙ either (results_in work) is.results where
-  either : (r : Option (List Grid)) → IfSome r (λ results. results_of shapes begun.kind before ≡ Some results)
-      → option_or r (results_from work) ≡ results_of shapes begun.kind before
+  either : (r : Option (List Grid)) → IfSome r (λ results. results_performed shapes begun.kind before ≡ Some results)
+      → option_or r (results_from work) ≡ results_performed shapes begun.kind before
   either None has = inputs_results shapes before now begun work is
   either (Some results) has = sym has
 
 left_run : (shapes : List Shape) (before : Slot → Option Held) (frame : Option Grid) (position : ℕ) (func : Func) (params : List ℤ) (reads writes : List Slot)
-    → left_with shapes frame (Run position func params reads writes) (results_of shapes (Run position func params reads writes) before) before
+    → left_with shapes frame (Run position func params reads writes) (results_performed shapes (Run position func params reads writes) before) before
     ≡ kept_by shapes frame (Run position func params reads writes) before
 left_run shapes before frame position func params reads writes = either (has_counts func (length params) (length reads) (length writes)) where
   either : (b : Bool)
@@ -59,7 +59,7 @@ left_run shapes before frame position func params reads writes = either (has_cou
   either false = refl
 
 left_kept : (shapes : List Shape) (before : Slot → Option Held) (frame : Option Grid) (kind : Kind)
-    → left_with shapes frame kind (results_of shapes kind before) before ≡ kept_by shapes frame kind before
+    → left_with shapes frame kind (results_performed shapes kind before) before ≡ kept_by shapes frame kind before
 left_kept shapes before frame (Run position func params reads writes) = left_run shapes before frame position func params reads writes
 left_kept shapes before frame kind = refl
 
@@ -79,9 +79,9 @@ performed shapes before now begun work new done is = record {
   position = done.position ∙ is.position;
   func = done.func ∙ is.func;
   inputs = subst (AreInputsOf shapes begun.kind before now) (ap (λ (inputs : Box Inputs Global). inputs.value) (sym done.inputs)) is.inputs;
-  results = subst (λ (r : Option (List Grid)). IfSome r (λ results. results_of shapes begun.kind before ≡ Some results))
+  results = subst (λ (r : Option (List Grid)). IfSome r (λ results. results_performed shapes begun.kind before ≡ Some results))
       (sym (performed_results shapes before now begun work new is done))
-      (either (results_of shapes begun.kind before));
+      (either (results_performed shapes begun.kind before));
 } where
   either : (r : Option (List Grid)) → IfSome r (λ results. r ≡ Some results)
   either None = record {}

@@ -20,7 +20,7 @@ use Rattle.nim_worker.specs.declared.batch.Batch.{Batch}
 use Rattle.nim_worker.specs.declared.batch.Work.{Work}
 use Rattle.nim_worker.specs.declared.worker.WorkerCore.{WorkerCore}
 use Rattle.nim_worker.specs.Chains.{AreWorks}
-use Rattle.nim_worker.specs.Stands.{Gave, HasState, IsAtWork, IsOut, Stands, after_completions, begun_of, completions, completions_of, outs_at, tickets_of}
+use Rattle.nim_worker.specs.Stands.{Gave, HasState, IsAtWork, IsOut, CoreStands, after_completions, begun_of, completions, completions_of, outs_at, tickets_of}
 use Rattle.nim_worker.specs.Works.{Begun, begun_as}
 use Rattle.nim_worker.proofs.Begun.{asked_of, begun_first}
 use Rattle.nim_worker.proofs.Handed.{stands_on}
@@ -100,12 +100,12 @@ first_out core first left state at =
     }
 
 -- a core whose batch is finished
-pub stands_finished : (old new : WorkerCore) (batch : Batch) (history : List Happening) (outs : List Out) → Stands old (Some batch) history → old.stale ≡ false
+pub stands_finished : (old new : WorkerCore) (batch : Batch) (history : List Happening) (outs : List Out) → CoreStands old (Some batch) history → old.stale ≡ false
     → AllCompleted (state_of history) batch.works.items outs new → new.busy ≡ false → new.stale ≡ false → (new.begun ≡ true → is_some new.room ≡ true)
-    → Stands new None (history ++ completions_of old batch)
+    → CoreStands new None (history ++ completions_of old batch)
 stands_finished old new batch history outs stands fresh all busy stale room =
     let out = subst (λ (s : Bool). IsOut old s batch (state_of history)) fresh stands.at.out in
-    subst (λ (more : List Happening). Stands new None (history ++ more))
+    subst (λ (more : List Happening). CoreStands new None (history ++ more))
     (sym (ap (λ (b : Bool). if b then [] else completions (tickets_of batch.works.items)) fresh))
     (stands_on new None history (completions (tickets_of batch.works.items)) stands.history out.0.may
     (record { has = all.has; busy = busy; out = (stale, record { slots = sym all.work.chain; room = room }) }))
@@ -125,7 +125,7 @@ last_good job before outs all is good = all_last (IsGoodOut job) before outs (su
 
 pub outs_good : (job : Job) (core new : WorkerCore) (batch : Batch) (history : List Happening) (outs : List Out) → IsTrue (is_whole job)
     → IsHandedTruth job history
-    → Stands new None (history ++ completions_of core batch) → Gave (state_of history) outs (state_of (history ++ completions_of core batch))
+    → CoreStands new None (history ++ completions_of core batch) → Gave (state_of history) outs (state_of (history ++ completions_of core batch))
     → All (IsGoodOut job) outs
 outs_good job core new batch history outs whole handed stands gave =
     last_good job (state_of history).gave outs (state_of (history ++ completions_of core batch)).gave gave

@@ -10,13 +10,13 @@ use Rattle.nim_plan.specs.declared.installed.Installed.{Installed}
 use Rattle.nim_plan.specs.Installed.{Has}
 use Rattle.nim_store.specs.Stored.{slot_at}
 use Rattle.nim_history.specs.declared.out.Out.{Out}
-use Rattle.nim_history.specs.History.{Asked, WorkerState, after_asked, asked_at, completed, left_of, outs_of, through_outs, value_for}
+use Rattle.nim_history.specs.History.{Asked, WorkerState, after_asked, asked_at, completed, left_in_group, outs_of, through_outs, value_received}
 use Rattle.nim_history.specs.Kept.{kept_by, own_outs}
 use Rattle.nim_worker.specs.declared.admitted.Admitted.{Admitted}
 use Rattle.nim_worker.specs.declared.admitted.Ended.{Ended}
 use Rattle.nim_worker.specs.declared.batch.Work.{Work}
 use Rattle.nim_worker.specs.declared.worker.WorkerCore.{WorkerCore}
-use Rattle.nim_worker.specs.Admitted.{IsAdmitted, ended_at, head_of, is_told}
+use Rattle.nim_worker.specs.Admitted.{IsAdmitted, ended_at, group_head, is_told}
 use Rattle.nim_worker.specs.Chains.{AreWorks}
 use Rattle.nim_worker.specs.Finishing.{HasLeft, through_of}
 use Rattle.nim_worker.specs.Stands.{HasState, IsAtWork, begun_of, outs_at, tickets_of}
@@ -31,8 +31,8 @@ both_ok (Err e) follows stands is = tt
 abbrev pub ended_as : List Group → List ℕ → ℕ → Asked → Ended
 ended_as groups ran place asked = record {
   command = asked.command;
-  head = head_of asked.group;
-  through = is_told asked.group.source && (left_of groups asked.number (ran ++ place ∷ []) == 0);
+  head = group_head asked.group;
+  through = is_told asked.group.source && (left_in_group groups asked.number (ran ++ place ∷ []) == 0);
 }
 
 pub ended_same : (groups : List Group) (ran : List ℕ) (place : ℕ) (asked : Asked) (ended : Ended) → asked_at groups place ≡ Some asked
@@ -84,21 +84,21 @@ work_then old new state work left before after through first has leaves =
     record {
       may = first.may;
       chain = subst (λ (s : WorkerState). AreWorks s.session.shapes s.slots (slot_at new.store) (begun_of s.session.groups (tickets_of left)) left) (sym next)
-          (subst (λ (all : List Shape). AreWorks all (kept_by all (value_for state first.asked) first.asked.command.kind state.slots) (slot_at new.store)
+          (subst (λ (all : List Shape). AreWorks all (kept_by all (value_received state first.asked) first.asked.command.kind state.slots) (slot_at new.store)
           (begun_of state.session.groups (tickets_of left)) left) has.session.shapes leaves.works);
     }
 
 -- a group is told to be through where all of its commands are complete
-through_same : (source : Source) (group : Group) (left : ℕ) → through_of (head_of group) (is_told source && (left == 0)) ≡ through_outs source group left
+through_same : (source : Source) (group : Group) (left : ℕ) → through_of (group_head group) (is_told source && (left == 0)) ≡ through_outs source group left
 through_same (FromInstance base) group zero = refl
-through_same (FromInstance base) group (suc left) = ap (through_of (head_of group)) (ne_eqb (suc left) 0 (λ same. absurd (omega (arith, same))))
+through_same (FromInstance base) group (suc left) = ap (through_of (group_head group)) (ne_eqb (suc left) 0 (λ same. absurd (omega (arith, same))))
 through_same FromSingle group left = refl
 through_same FromPatch group left = refl
 
 -- what was given then
 pub given_then : (old new : WorkerCore) (state : WorkerState) (work : Work) (left : List Work) (before after : List Out) (through : Bool)
     (first : IsFirstOut old work left state)
-    → through ≡ (is_told first.asked.group.source && (left_of state.session.groups first.asked.number (state.ran ++ work.ticket ∷ []) == 0))
+    → through ≡ (is_told first.asked.group.source && (left_in_group state.session.groups first.asked.number (state.ran ++ work.ticket ∷ []) == 0))
     → HasLeft old.store.shapes state first.asked (begun_of state.session.groups (tickets_of left)) left before through new after
     → after ≡ before ++ outs_at state work.ticket
 given_then old new state work left before after through first tells leaves =
@@ -106,6 +106,6 @@ given_then old new state work left before after through first tells leaves =
     let own : List Out = own_outs asked.group asked.command.kind state.slots in
     leaves.given
     ∙ ap (λ (told : List Out). before ++ (own ++ told))
-    (ap (through_of (head_of asked.group)) tells
-    ∙ through_same asked.group.source asked.group (left_of state.session.groups asked.number (state.ran ++ work.ticket ∷ [])))
+    (ap (through_of (group_head asked.group)) tells
+    ∙ through_same asked.group.source asked.group (left_in_group state.session.groups asked.number (state.ran ++ work.ticket ∷ [])))
     ∙ ap (λ (outs : List Out). before ++ outs) (sym (ap (λ (o : Option Asked). option_map_or (outs_of state work.ticket) o []) first.found))

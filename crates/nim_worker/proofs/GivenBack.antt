@@ -8,14 +8,14 @@ use Rattle.std.proofs.lemmas.List.{get_or_append_left, map-append, map_more, len
 use Rattle.std.proofs.lemmas.List.Elements.{All-cons, All-nil}
 use Rattle.nim_base.specs.declared.number.Object.{Object}
 use Rattle.nim_base.specs.declared.number.Slot.{Slot}
-use Rattle.nim_base.specs.Functions.{reads_of}
+use Rattle.nim_base.specs.Functions.{read_values}
 use Rattle.nim_base.specs.Value.{Grid, empty_grid}
 use Rattle.nim_command.specs.Holds.{put_at}
 use Rattle.nim_command.specs.Slots.{is_among}
 use Rattle.nim_store.specs.declared.held.Held.{Held}
 use Rattle.nim_worker.specs.declared.inputs.Taken.{Taken}
 use Rattle.nim_worker.specs.Inputs.{AreSeen, Continues, content_of, given_back, held_of, is_from}
-use Rattle.nim_history.specs.Kept.{content_seen, held_at, seen}
+use Rattle.nim_history.specs.Kept.{content_seen, held_version, held_or_empty}
 use Rattle.nim_worker.proofs.Puts.{put_again, put_same, same_slot}
 
 -- the last that was taken is given back first
@@ -58,14 +58,14 @@ not_taken slot (t ∷ ts) (v ∷ vs) f paired past = either (slot.0 == t.slot.0)
 
 -- What a slot that is taken had, by its place.
 pub record IsTakenAt (slot : Slot) (ts : List Taken) (vs : List Grid) (f : Slot → Option Held) (place : ℕ) : Type 0 where
-  pub value : (v : Grid) → get_or vs place v ≡ (seen (given_back ts vs f) slot).value
+  pub value : (v : Grid) → get_or vs place v ≡ (held_or_empty (given_back ts vs f) slot).value
   pub content : (t : Taken) → content_of (get_or ts place t) ≡ content_seen (given_back ts vs f) slot
 
 seen_of : (slot : Slot) (t : Taken) (v : Grid) (g : Slot → Option Held) → slot ≡ t.slot → g slot ≡ held_of t v
     → option_map_or (λ (held : Held). held.value) (held_of t v) empty_grid ≡ v
-    → (v ≡ (seen g slot).value) × (content_of t ≡ content_seen g slot)
+    → (v ≡ (held_or_empty g slot).value) × (content_of t ≡ content_seen g slot)
 seen_of slot t v g same has right = either t.content refl where
-  either : (c : Option (Object × ℕ)) → t.content ≡ c → (v ≡ (seen g slot).value) × (content_of t ≡ content_seen g slot)
+  either : (c : Option (Object × ℕ)) → t.content ≡ c → (v ≡ (held_or_empty g slot).value) × (content_of t ≡ content_seen g slot)
   either None is = rw (has, is, sym same) (sym (rw is at right), refl)
   either (Some c) is = rw (has, is) (refl, refl)
 
@@ -86,10 +86,10 @@ taken_at slot (t ∷ ts) (v ∷ vs) f paired right within = either (slot.0 == t.
       let rest = more (omega (arith, within)) in
       let next : suc (position_or_len (is_from slot) ts) ≡ 1 + position_or_len (is_from slot) ts = omega arith in
       subst (IsTakenAt slot (t ∷ ts) (v ∷ vs) f) next (record {
-        value = λ d. rest.value d ∙ ap (λ (h : Option Held). (option_map_or (λ (held : Held). held) h (held_at slot 0 empty_grid)).value) (sym has);
+        value = λ d. rest.value d ∙ ap (λ (h : Option Held). (option_map_or (λ (held : Held). held) h (held_version slot 0 empty_grid)).value) (sym has);
         content = λ d. rest.content d ∙ ap (λ (h : Option Held). (
-          (option_map_or (λ (held : Held). held) h (held_at slot 0 empty_grid)).object,
-          (option_map_or (λ (held : Held). held) h (held_at slot 0 empty_grid)).version,
+          (option_map_or (λ (held : Held). held) h (held_version slot 0 empty_grid)).object,
+          (option_map_or (λ (held : Held). held) h (held_version slot 0 empty_grid)).version,
         )) (sym has);
       })
 
@@ -97,7 +97,7 @@ taken_at slot (t ∷ ts) (v ∷ vs) f paired right within = either (slot.0 == t.
 pub new_at : (slot : Slot) (ts : List Taken) (vs : List Grid) (f : Slot → Option Held) (t : Taken) (v : Grid) → length ts ≡ length vs
     → length ts ≤ position_or_len (is_from slot) ts → slot ≡ t.slot → held_of t v ≡ f slot
     → option_map_or (λ (held : Held). held.value) (held_of t v) empty_grid ≡ v
-    → (v ≡ (seen (given_back ts vs f) slot).value) × (content_of t ≡ content_seen (given_back ts vs f) slot)
+    → (v ≡ (held_or_empty (given_back ts vs f) slot).value) × (content_of t ≡ content_seen (given_back ts vs f) slot)
 new_at slot ts vs f t v paired past same had right = seen_of slot t v (given_back ts vs f) same (not_taken slot ts vs f paired past ∙ sym had) right
 
 pub AreSeen-snoc : (ts : List Taken) (vs : List Grid) (t : Taken) (v : Grid) → length ts ≡ length vs → AreSeen ts vs
@@ -109,7 +109,7 @@ AreSeen-snoc (u ∷ ts) (w ∷ vs) t v paired all right = (all.0, AreSeen-snoc t
 
 -- more values leave those that are read by their places
 pub reads_of-more : (vs more : List Grid) (places : List ℕ) → All (λ (place : ℕ). place < length vs) places
-    → reads_of (vs ++ more) places ≡ reads_of vs places
+    → read_values (vs ++ more) places ≡ read_values vs places
 reads_of-more vs more [] fit = refl
 reads_of-more vs more (place ∷ places) fit =
     ap₂ (λ (v : Grid) (rest : List Grid). v ∷ rest) (get_or_append_left vs more empty_grid place (fit 0 0 (omega arith)))
@@ -117,11 +117,11 @@ reads_of-more vs more (place ∷ places) fit =
 
 -- one more place
 pub reads_of-push : (vs others : List Grid) (places : List ℕ) (place : ℕ) → Continues vs others → All (λ (p : ℕ). p < length vs) places
-    → reads_of others (places ++ place ∷ []) ≡ reads_of vs places ++ get_or others place empty_grid ∷ []
+    → read_values others (places ++ place ∷ []) ≡ read_values vs places ++ get_or others place empty_grid ∷ []
 reads_of-push vs others places place goes_on fit =
     map-append (λ (p : ℕ). get_or others p empty_grid) places (place ∷ [])
     ∙ ap (λ (all : List Grid). all ++ get_or others place empty_grid ∷ [])
-    (ap (λ (all : List Grid). reads_of all places) goes_on.1 ∙ reads_of-more vs goes_on.0 places fit)
+    (ap (λ (all : List Grid). read_values all places) goes_on.1 ∙ reads_of-more vs goes_on.0 places fit)
 
 pub longer : {X : Type 0} (xs ys : List X) → Continues xs ys → length xs ≤ length ys
 longer xs ys goes_on = omega (arith, ap length goes_on.1, length-append xs goes_on.0)

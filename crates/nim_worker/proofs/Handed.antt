@@ -38,15 +38,15 @@ use Rattle.nim_worker.specs.Chains.{AreWorks}
 use Rattle.nim_worker.specs.declared.head.GroupHead.{GroupHead}
 use Rattle.nim_worker.specs.declared.messages.Asked.{Asked}
 use Rattle.nim_worker.specs.Messages.{IsInstantiated, IsReset}
-use Rattle.nim_worker.specs.Stands.{HasSession, HasState, IsAtRest, IsAtWork, IsOut, MayBeOut, Stands, StandsAt, begun_of, is_current, is_passed, tickets_of}
+use Rattle.nim_worker.specs.Stands.{HasSession, HasState, IsAtRest, IsAtWork, IsOut, MayBeOut, CoreStands, CoreStandsAt, begun_of, is_current, is_passed, tickets_of}
 use Rattle.nim_worker.specs.Works.{Begun, begun_as}
 
 -- what goes on behind a history
 pub stands_on : (core : WorkerCore) (batch : Option Batch) (past more : List Happening) → IsHistory past → MayAllHappen (state_of past) more
-    → StandsAt core batch (fold after_happening (state_of past) more) → Stands core batch (past ++ more)
+    → CoreStandsAt core batch (fold after_happening (state_of past) more) → CoreStands core batch (past ++ more)
 stands_on core batch past more is may at = record {
   history = history_goes_on.may past more is may;
-  at = subst (StandsAt core batch) (sym (history_goes_on.state past more)) at;
+  at = subst (CoreStandsAt core batch) (sym (history_goes_on.state past more)) at;
 }
 
 -- an order that is passed over changes nothing
@@ -95,13 +95,13 @@ passed_no_reset core (ToWorker.Reset epoch worker workers shapes) passed = absur
 passed_no_reset core order passed = refl
 
 pub stands_passed : (core : WorkerCore) (batch : Option Batch) (state : WorkerState) (order : ToWorker) → is_passed core order ≡ true
-    → StandsAt core batch state
-    → StandsAt core batch (ordered state order)
+    → CoreStandsAt core batch state
+    → CoreStandsAt core batch (ordered state order)
 stands_passed core batch state order passed at =
     let same : ordered state order ≡ state =
     ordered_is state order (passed_no_reset core order passed) ∙ ap (λ (s : Session). record state { session = s })
     (passed_same core state.session order at.has.session passed) in
-    subst (StandsAt core batch) (sym same) at
+    subst (CoreStandsAt core batch) (sym same) at
 
 -- works that are out are still out once another order came
 begun_same : (groups others : List Group) (places : List ℕ) → All (λ place. asked_at others place ≡ asked_at groups place) places
@@ -177,7 +177,7 @@ work_ordered old new state order works is same at = record {
 -- a core that has what counts after an order which is no Reset
 pub stands_ordered : (old new : WorkerCore) (batch : Option Batch) (state : WorkerState) (order : ToWorker) → is_reset order ≡ false → OutStays old new
     → new.failed ≡ old.failed → new.inbox ≡ old.inbox → HasSession new (after_order state.session order)
-    → IsAdmitted new.admitted (after_order state.session order).groups state.ran → StandsAt old batch state → StandsAt new batch (ordered state order)
+    → IsAdmitted new.admitted (after_order state.session order).groups state.ran → CoreStandsAt old batch state → CoreStandsAt new batch (ordered state order)
 stands_ordered old new batch state order is same failed inbox session admitted at = record {
   has = subst (HasState new) (sym (ordered_is state order is))
       (record { failed = failed ∙ at.has.failed; session = session; admitted = admitted; inbox = inbox ∙ at.has.inbox });
@@ -215,7 +215,7 @@ pub stands_taken : (old : WorkerCore) (installed : Installed) (admitted : Admitt
     → (counted state.session order).shapes ≡ state.session.shapes
     → (Has old.installed state.session.halves state.session.patches → Has installed (counted state.session order).halves (counted state.session order).patches)
     → (IsAdmitted old.admitted state.session.groups state.ran → IsAdmitted admitted (counted state.session order).groups state.ran)
-    → StandsAt old batch state → StandsAt (record old { installed = installed; admitted = admitted }) batch (ordered state order)
+    → CoreStandsAt old batch state → CoreStandsAt (record old { installed = installed; admitted = admitted }) batch (ordered state order)
 stands_taken old installed admitted batch state order is taken begun epoch shapes install admit at =
     let new : WorkerCore = record old { installed = installed; admitted = admitted } in
     let has = at.has.session in
@@ -229,7 +229,7 @@ stands_taken old installed admitted batch state order is taken begun epoch shape
 -- a Reset
 stands_reset : (old new : WorkerCore) (batch : Option Batch) (state : WorkerState) (epoch : ℕ) (worker : Worker) (workers : ℕ) (shapes : List Shape)
     → IsReset old epoch shapes new
-    → StandsAt old batch state → StandsAt new batch (ordered state (ToWorker.Reset epoch worker workers shapes))
+    → CoreStandsAt old batch state → CoreStandsAt new batch (ordered state (ToWorker.Reset epoch worker workers shapes))
 stands_reset old new batch state epoch worker workers shapes is at = record {
   has = record {
     failed = is.failed ∙ at.has.failed;
@@ -252,18 +252,18 @@ stands_reset old new batch state epoch worker workers shapes is at = record {
 
 pub reset_taken : (old new : WorkerCore) (batch : Option Batch) (state : WorkerState) (order : ToWorker) (epoch : ℕ) (worker : Worker) (workers : ℕ)
     (shapes : List Shape)
-    → order ≡ ToWorker.Reset epoch worker workers shapes → IsReset old epoch shapes new → StandsAt old batch state → StandsAt new batch (ordered state order)
+    → order ≡ ToWorker.Reset epoch worker workers shapes → IsReset old epoch shapes new → CoreStandsAt old batch state → CoreStandsAt new batch (ordered state order)
 reset_taken old new batch state order epoch worker workers shapes is reset at =
-    subst (λ (o : ToWorker). StandsAt new batch (ordered state o)) (sym is) (stands_reset old new batch state epoch worker workers shapes reset at)
+    subst (λ (o : ToWorker). CoreStandsAt new batch (ordered state o)) (sym is) (stands_reset old new batch state epoch worker workers shapes reset at)
 
 -- each other order that counts
 pub single_taken : (old : WorkerCore) (admitted : Admitted) (batch : Option Batch) (state : WorkerState) (order : ToWorker) (epoch instance : ℕ)
     (commands : List Command)
     → order ≡ ToWorker.Single epoch instance commands → is_passed old order ≡ false
     → IsAdmitted admitted (state.session.groups ++ single_group epoch instance commands ∷ []) state.ran
-    → StandsAt old batch state → StandsAt (record old { admitted = admitted }) batch (ordered state order)
+    → CoreStandsAt old batch state → CoreStandsAt (record old { admitted = admitted }) batch (ordered state order)
 single_taken old admitted batch state order epoch instance commands is taken more at =
-    subst (λ (o : ToWorker). StandsAt (record old { admitted = admitted }) batch (ordered state o)) (sym is)
+    subst (λ (o : ToWorker). CoreStandsAt (record old { admitted = admitted }) batch (ordered state o)) (sym is)
     (stands_taken old old.installed admitted batch state (ToWorker.Single epoch instance commands) refl
     (subst (λ (o : ToWorker). is_passed old o ≡ false) is taken) refl refl refl
     (λ has. has) (λ before. more) at)
@@ -272,9 +272,9 @@ pub run_taken : (old : WorkerCore) (admitted : Admitted) (batch : Option Batch) 
     (versions : List ℕ)
     → order ≡ ToWorker.RunPatch epoch instance patch versions → is_passed old order ≡ false
     → IsAdmitted admitted (state.session.groups ++ patch_group epoch instance versions (state.session.patches patch) ∷ []) state.ran
-    → StandsAt old batch state → StandsAt (record old { admitted = admitted }) batch (ordered state order)
+    → CoreStandsAt old batch state → CoreStandsAt (record old { admitted = admitted }) batch (ordered state order)
 run_taken old admitted batch state order epoch instance patch versions is taken more at =
-    subst (λ (o : ToWorker). StandsAt (record old { admitted = admitted }) batch (ordered state o)) (sym is)
+    subst (λ (o : ToWorker). CoreStandsAt (record old { admitted = admitted }) batch (ordered state o)) (sym is)
     (stands_taken old old.installed admitted batch state (ToWorker.RunPatch epoch instance patch versions) refl
     (subst (λ (o : ToWorker). is_passed old o ≡ false) is taken) refl refl refl
     (λ has. has) (λ before. more) at)
@@ -283,9 +283,9 @@ pub template_taken : (old : WorkerCore) (installed : Installed) (batch : Option 
     (entries : List Entry)
     → order ≡ ToWorker.InstallTemplate epoch block entries → is_passed old order ≡ false
     → Has installed (with_list block entries (halves_of old.installed)) (patches_of old.installed)
-    → StandsAt old batch state → StandsAt (record old { installed = installed }) batch (ordered state order)
+    → CoreStandsAt old batch state → CoreStandsAt (record old { installed = installed }) batch (ordered state order)
 template_taken old installed batch state order epoch block entries is taken now at =
-    subst (λ (o : ToWorker). StandsAt (record old { installed = installed }) batch (ordered state o)) (sym is)
+    subst (λ (o : ToWorker). CoreStandsAt (record old { installed = installed }) batch (ordered state o)) (sym is)
     (stands_taken old installed old.admitted batch state (ToWorker.InstallTemplate epoch block entries) refl
     (subst (λ (o : ToWorker). is_passed old o ≡ false) is taken) refl refl refl
     (λ has. record { halves = now.halves ∙ ap (with_list block entries) has.halves; patches = now.patches ∙ has.patches }) (λ before. before) at)
@@ -294,9 +294,9 @@ pub patch_taken : (old : WorkerCore) (installed : Installed) (batch : Option Bat
     (copies : List PatchPart)
     → order ≡ ToWorker.InstallPatch epoch patch copies → is_passed old order ≡ false
     → Has installed (halves_of old.installed) (with_list patch copies (patches_of old.installed))
-    → StandsAt old batch state → StandsAt (record old { installed = installed }) batch (ordered state order)
+    → CoreStandsAt old batch state → CoreStandsAt (record old { installed = installed }) batch (ordered state order)
 patch_taken old installed batch state order epoch patch copies is taken now at =
-    subst (λ (o : ToWorker). StandsAt (record old { installed = installed }) batch (ordered state o)) (sym is)
+    subst (λ (o : ToWorker). CoreStandsAt (record old { installed = installed }) batch (ordered state o)) (sym is)
     (stands_taken old installed old.admitted batch state (ToWorker.InstallPatch epoch patch copies) refl
     (subst (λ (o : ToWorker). is_passed old o ≡ false) is taken) refl refl refl
     (λ has. record { halves = now.halves ∙ has.halves; patches = now.patches ∙ ap (with_list patch copies) has.patches }) (λ before. before) at)
@@ -305,11 +305,11 @@ pub instance_taken : (old : WorkerCore) (installed : Installed) (admitted : Admi
     (epoch instance block : ℕ) (head : GroupHead) (asked : Asked)
     → order ≡ ToWorker.Instantiate epoch instance block asked.base asked.args asked.versions asked.edits → is_passed old order ≡ false
     → head ≡ record { epoch = epoch; instance = instance; single = false } → IsInstantiated old.installed old.admitted head block asked installed admitted
-    → StandsAt old batch state → StandsAt (record old { installed = installed; admitted = admitted }) batch (ordered state order)
+    → CoreStandsAt old batch state → CoreStandsAt (record old { installed = installed; admitted = admitted }) batch (ordered state order)
 instance_taken old installed admitted batch state order epoch instance block head asked is taken known now at =
     let halves = at.has.session.installed.halves in
     let half : List Entry = edited_by asked.edits (state.session.halves block) in
-    subst (λ (o : ToWorker). StandsAt (record old { installed = installed; admitted = admitted }) batch (ordered state o)) (sym is)
+    subst (λ (o : ToWorker). CoreStandsAt (record old { installed = installed; admitted = admitted }) batch (ordered state o)) (sym is)
     (stands_taken old installed admitted batch state (ToWorker.Instantiate epoch instance block asked.base asked.args asked.versions asked.edits) refl
     (subst (λ (o : ToWorker). is_passed old o ≡ false) is taken) refl refl refl
     (λ has. record {
@@ -339,11 +339,11 @@ no_history = record {}
 
 -- a frame of an earlier epoch
 pub stands_late : (core : WorkerCore) (batch : Option Batch) (state : WorkerState) (frame : Data) → nat_lt frame.epoch core.epoch ≡ true
-    → StandsAt core batch state
-    → StandsAt core batch (framed state frame)
+    → CoreStandsAt core batch state
+    → CoreStandsAt core batch (framed state frame)
 stands_late core batch state frame late at =
     let is : nat_lt frame.epoch state.session.epoch ≡ true = subst (λ (epoch : ℕ). nat_lt frame.epoch epoch ≡ true) at.has.session.epoch late in
-    subst (StandsAt core batch) (ap (λ (b : Bool). if b then state else record state { inbox = map.insert state.inbox (key_of frame) frame.value }) (sym is)) at
+    subst (CoreStandsAt core batch) (ap (λ (b : Bool). if b then state else record state { inbox = map.insert state.inbox (key_of frame) frame.value }) (sym is)) at
 
 work_framed : (old new : WorkerCore) (state : WorkerState) (frame : Data) (works : List Work)
     → framed state frame ≡ record state { inbox = map.insert state.inbox (key_of frame) frame.value }
@@ -358,7 +358,7 @@ work_framed old new state frame works is same at = record {
 -- a frame that is kept
 pub stands_framed : (old : WorkerCore) (inbox : map.FinMap key_cmp Grid) (batch : Option Batch) (state : WorkerState) (frame : Data)
     → nat_lt frame.epoch old.epoch ≡ false
-    → inbox ≡ map.insert old.inbox (key_of frame) frame.value → StandsAt old batch state → StandsAt (record old { inbox = inbox }) batch (framed state frame)
+    → inbox ≡ map.insert old.inbox (key_of frame) frame.value → CoreStandsAt old batch state → CoreStandsAt (record old { inbox = inbox }) batch (framed state frame)
 stands_framed old inbox batch state frame late kept at =
     let new : WorkerCore = record old { inbox = inbox } in
     let not_late : nat_lt frame.epoch state.session.epoch ≡ false = subst (λ (epoch : ℕ). nat_lt frame.epoch epoch ≡ false) at.has.session.epoch late in

@@ -18,7 +18,7 @@ use Rattle.nim_command.specs.Waits.{Group}
 use Rattle.nim_message.specs.declared.report.FromWorker.TheVariants.{Ran, Value}
 use Rattle.nim_store.specs.declared.held.Held.{Held}
 use Rattle.nim_history.specs.declared.out.Out.{Out}
-use Rattle.nim_history.specs.Kept.{fitting_shape, frame_of, held_at, is_single, kept_by, own_outs, put_results, put_shaped, results_for, shape_of}
+use Rattle.nim_history.specs.Kept.{fitting_shape, frame_of, held_version, is_single, kept_by, own_outs, put_results, put_shaped, results_for, shape_of}
 use Rattle.nim_worker.proofs.Beside.{Agree, contents_same, touch_read, values_same}
 
 -- what is put into another slot leaves a slot as it is
@@ -50,16 +50,16 @@ results_inside : (shapes : List Shape) (version : ℕ) (slots : List Slot) (valu
 results_inside shapes version [] values s f g same = same
 results_inside shapes version (slot ∷ slots) [] s f g same = same
 results_inside shapes version (slot ∷ slots) (value ∷ values) s f g same =
-    results_inside shapes version slots values s (put_shaped shapes slot (held_at slot version value) f) (put_shaped shapes slot (held_at slot version value) g)
-    (shaped_inside shapes slot s (held_at slot version value) f g same)
+    results_inside shapes version slots values s (put_shaped shapes slot (held_version slot version value) f) (put_shaped shapes slot (held_version slot version value) g)
+    (shaped_inside shapes slot s (held_version slot version value) f g same)
 
 results_outside : (shapes : List Shape) (version : ℕ) (slots : List Slot) (values : List Grid) (s : Slot) (f : Slot → Option Held) → is_among slots s ≡ false
     → put_results shapes version slots values f s ≡ f s
 results_outside shapes version [] values s f not = refl
 results_outside shapes version (slot ∷ slots) [] s f not = refl
 results_outside shapes version (slot ∷ slots) (value ∷ values) s f not =
-    results_outside shapes version slots values s (put_shaped shapes slot (held_at slot version value) f) (or_parts (slot.0 == s.0) (is_among slots s) not).1
-    ∙ shaped_outside shapes slots slot s (held_at slot version value) f not
+    results_outside shapes version slots values s (put_shaped shapes slot (held_version slot version value) f) (or_parts (slot.0 == s.0) (is_among slots s) not).1
+    ∙ shaped_outside shapes slots slot s (held_version slot version value) f not
 
 run_inside : (shapes : List Shape) (position : ℕ) (func : Func) (params : List ℤ) (reads writes : List Slot) (s : Slot) (f g : Slot → Option Held)
     → Agree (Run position func params reads writes) f g → f s ≡ g s → (b : Bool)
@@ -75,10 +75,10 @@ run_inside shapes position func params reads writes s f g same at false = at
 pub kept_inside : (shapes : List Shape) (frame : Option Grid) (kind : Kind) (f g : Slot → Option Held) (s : Slot) → Agree kind f g → does_touch kind s ≡ true
     → kept_by shapes frame kind f s ≡ kept_by shapes frame kind g s
 kept_inside shapes frame (Create slot iota number) f g s same touched =
-    shaped_inside shapes slot s (held_at slot 0 (created (fitting_shape shapes slot) iota number)) f g (same s touched)
-kept_inside shapes frame (Load slot version value) f g s same touched = put_inside slot s (Some (held_at slot version value)) f g (same s touched)
+    shaped_inside shapes slot s (held_version slot 0 (created (fitting_shape shapes slot) iota number)) f g (same s touched)
+kept_inside shapes frame (Load slot version value) f g s same touched = put_inside slot s (Some (held_version slot version value)) f g (same s touched)
 kept_inside shapes None (Receive slot version) f g s same touched = same s touched
-kept_inside shapes (Some value) (Receive slot version) f g s same touched = put_inside slot s (Some (held_at slot version value)) f g (same s touched)
+kept_inside shapes (Some value) (Receive slot version) f g s same touched = put_inside slot s (Some (held_version slot version value)) f g (same s touched)
 kept_inside shapes frame (Copy from to) f g s same touched =
     ap₂ (λ (h x : Option Held). if s.0 == to.0 then h else x) (same from
     (touch_read (Copy from to) from (or_left (from.0 == from.0) false (eq-eqb from.0 from.0 refl)))) (same s touched)
@@ -97,10 +97,10 @@ run_outside shapes version writes values s f not false = refl
 pub kept_outside : (shapes : List Shape) (frame : Option Grid) (kind : Kind) (f : Slot → Option Held) (s : Slot) → does_touch kind s ≡ false
     → kept_by shapes frame kind f s ≡ f s
 kept_outside shapes frame (Create slot iota number) f s not =
-    shaped_outside shapes [] slot s (held_at slot 0 (created (fitting_shape shapes slot) iota number)) f not
-kept_outside shapes frame (Load slot version value) f s not = put_other [] slot s (Some (held_at slot version value)) f not
+    shaped_outside shapes [] slot s (held_version slot 0 (created (fitting_shape shapes slot) iota number)) f not
+kept_outside shapes frame (Load slot version value) f s not = put_other [] slot s (Some (held_version slot version value)) f not
 kept_outside shapes None (Receive slot version) f s not = refl
-kept_outside shapes (Some value) (Receive slot version) f s not = put_other [] slot s (Some (held_at slot version value)) f not
+kept_outside shapes (Some value) (Receive slot version) f s not = put_other [] slot s (Some (held_version slot version value)) f not
 kept_outside shapes frame (Copy from to) f s not = put_other [] to s (f from) f (or_parts (does_read (Copy from to) s) (does_write (Copy from to) s) not).1
 kept_outside shapes frame (Run position func params reads writes) f s not =
     run_outside shapes (version_after position) writes (results_for shapes func params reads writes f) s f
@@ -112,11 +112,11 @@ kept_outside shapes frame (Fetch slot ticket) f s not = refl
 -- where slots that a command touches have the same, it gives the same
 pub outs_same : (group : Group) (kind : Kind) (f g : Slot → Option Held) → Agree kind f g → own_outs group kind f ≡ own_outs group kind g
 outs_same group (Send slot peer entry) f g same =
-    ap (λ (h : Option Held). Out.Data peer (frame_of group entry (option_map_or (λ (held : Held). held) h (held_at slot 0 empty_grid))) ∷ [])
+    ap (λ (h : Option Held). Out.Data peer (frame_of group entry (option_map_or (λ (held : Held). held) h (held_version slot 0 empty_grid))) ∷ [])
     (same slot (touch_read (Send slot peer entry) slot (or_left (slot.0 == slot.0) false (eq-eqb slot.0 slot.0 refl))))
 outs_same group (Fetch slot ticket) f g same =
     ap (λ (h : Option Held).
-    let held : Held = option_map_or (λ (held : Held). held) h (held_at slot 0 empty_grid) in
+    let held : Held = option_map_or (λ (held : Held). held) h (held_version slot 0 empty_grid) in
     Out.Report (Value group.epoch ticket held.object held.version held.value) ∷ [])
     (same slot (touch_read (Fetch slot ticket) slot (or_left (slot.0 == slot.0) false (eq-eqb slot.0 slot.0 refl))))
 outs_same group (Run position func params reads writes) f g same =

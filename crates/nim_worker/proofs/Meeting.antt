@@ -8,7 +8,7 @@ use Rattle.std.proofs.lemmas.List.Elements.{All-head, All-tail}
 use Rattle.nim_command.specs.declared.command.Command.{Command}
 use Rattle.nim_command.specs.Waits.{Group, Member, members_of}
 use Rattle.nim_order.specs.Progress.{is_one_of}
-use Rattle.nim_queue.specs.Stands.{command_of}
+use Rattle.nim_queue.specs.Stands.{outstanding_command}
 use Rattle.nim_history.specs.History.{Asked, asked_at}
 use Rattle.nim_history.proofs.Left.{asked_is, asked_none}
 use Rattle.nim_worker.specs.declared.batch.Work.{Work}
@@ -17,7 +17,7 @@ use Rattle.nim_worker.specs.Taken.{do_share, touch_one_slot}
 
 -- a command that isn't complete is the one that was asked for
 pub command_asked : (groups : List Group) (ran : List ℕ) (place : ℕ) → is_one_of ran place ≡ false
-    → command_of groups (is_one_of ran) place ≡ option_map (λ (asked : Asked). asked.command) (asked_at groups place)
+    → outstanding_command groups (is_one_of ran) place ≡ option_map (λ (asked : Asked). asked.command) (asked_at groups place)
 command_asked groups ran place not = rw not (either (slice_get (members_of groups) place) refl) where
   either : (o : Option Member) → slice_get (members_of groups) place ≡ o
       → option_map (λ (m : Member). m.command) o ≡ option_map (λ (asked : Asked). asked.command) (asked_at groups place)
@@ -26,7 +26,7 @@ command_asked groups ran place not = rw not (either (slice_get (members_of group
 
 -- whether two commands that aren't complete touch one slot
 pub touch_is : (groups : List Group) (ran : List ℕ) (one other : ℕ) (a b : Option Command)
-    → a ≡ command_of groups (is_one_of ran) one → b ≡ command_of groups (is_one_of ran) other
+    → a ≡ outstanding_command groups (is_one_of ran) one → b ≡ outstanding_command groups (is_one_of ran) other
     → is_one_of ran one ≡ false → is_one_of ran other ≡ false
     → option_map_or (λ (x : Command). option_map_or (λ (y : Command). do_share x.kind y.kind) b false) a false ≡ touch_one_slot groups one other
 touch_is groups ran one other a b first second here there =

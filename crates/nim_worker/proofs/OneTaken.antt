@@ -13,7 +13,7 @@ use Rattle.nim_command.specs.declared.command.Kind.{Kind}
 use Rattle.nim_command.specs.Slots.{does_touch, is_among, reads_of, writes_of}
 use Rattle.nim_command.specs.Waits.{Group, members_of, waits_of}
 use Rattle.nim_order.specs.Progress.{is_one_of}
-use Rattle.nim_queue.specs.Stands.{command_of, is_released}
+use Rattle.nim_queue.specs.Stands.{outstanding_command, is_released}
 use Rattle.nim_plan.specs.Installed.{Has}
 use Rattle.nim_store.specs.Stored.{Stored, slot_at}
 use Rattle.nim_history.specs.History.{Asked, WorkerState, asked_at, has_frame}
@@ -23,7 +23,7 @@ use Rattle.nim_worker.specs.Admitted.{IsAdmitted}
 use Rattle.nim_worker.specs.Beginning.{IsBegun, MayBeBegun}
 use Rattle.nim_worker.specs.Chains.{AreWorks, IsApart, do_touch}
 use Rattle.nim_worker.specs.Stands.{HasState, IsBeginning, begun_at, begun_of, tickets_of}
-use Rattle.nim_worker.specs.Taken.{do_meet, do_share, have_one_frame, is_taken, touch_one_slot}
+use Rattle.nim_worker.specs.Taken.{do_meet, do_share, have_one_frame, is_taken_behind, touch_one_slot}
 use Rattle.nim_worker.specs.Works.{Begun, IsWork, begun_as}
 use Rattle.nim_worker.proofs.Chains.{more_works}
 use Rattle.nim_worker.proofs.Meeting.{command_asked}
@@ -137,8 +137,8 @@ pub maybe_taken : (old new : WorkerCore) (works more : List Work) (state : Worke
     → new ≡ record old { store = new.store } → new.store.shapes ≡ old.store.shapes → is_released state.session.groups (is_one_of state.ran) ticket ≡ true
     → IfSome (asked_at state.session.groups ticket) (λ asked. true ≡ has_frame state asked)
     → list_any (λ earlier. do_meet state.session.groups earlier ticket) (tickets_of works) ≡ false
-    → MayBeBegun old.store works ticket new.store more (command_of state.session.groups (is_one_of state.ran) ticket)
-    → (tickets_of more ≡ (if is_taken state (tickets_of works) ticket then tickets_of works ++ ticket ∷ [] else tickets_of works)) × IsBeginning new more state
+    → MayBeBegun old.store works ticket new.store more (outstanding_command state.session.groups (is_one_of state.ran) ticket)
+    → (tickets_of more ≡ (if is_taken_behind state (tickets_of works) ticket then tickets_of works ++ ticket ∷ [] else tickets_of works)) × IsBeginning new more state
 maybe_taken old new works more state ticket begins same shapes released framed none b =
     either (asked_at state.session.groups ticket) refl framed
     (subst (MayBeBegun old.store works ticket new.store more) (command_asked state.session.groups state.ran ticket waiting) b) where
@@ -147,7 +147,7 @@ maybe_taken old new works more state ticket begins same shapes released framed n
 
       either : (o : Option Asked) → asked_at state.session.groups ticket ≡ o → IfSome o (λ asked. true ≡ has_frame state asked)
           → MayBeBegun old.store works ticket new.store more (option_map (λ (asked : Asked). asked.command) o)
-          → (tickets_of more ≡ (if is_taken state (tickets_of works) ticket then tickets_of works ++ ticket ∷ [] else tickets_of works))
+          → (tickets_of more ≡ (if is_taken_behind state (tickets_of works) ticket then tickets_of works ++ ticket ∷ [] else tickets_of works))
           × IsBeginning new more state
       either None missing framed b = (
         ap tickets_of b.1

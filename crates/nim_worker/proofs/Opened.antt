@@ -14,12 +14,12 @@ use Rattle.nim_order.specs.Progress.{is_one_of}
 use Rattle.nim_order.proofs.Items.{get_front}
 use Rattle.nim_order.proofs.Orders.{one_more}
 use Rattle.nim_queue.specs.Stands as queue
-use Rattle.nim_history.specs.History.{Asked, asked_at, is_of_group, left_of}
+use Rattle.nim_history.specs.History.{Asked, asked_at, is_of_group, left_in_group}
 use Rattle.nim_history.proofs.Left.{asked_is, left_before, left_less, left_of_next, left_same}
 use Rattle.nim_worker.specs.declared.admitted.Admitted.{Admitted}
 use Rattle.nim_worker.specs.declared.admitted.OpenGroup.{OpenGroup}
 use Rattle.nim_worker.specs.declared.head.GroupHead.{GroupHead}
-use Rattle.nim_worker.specs.Admitted.{Closes, CountsDown, IsAdmitted, IsGroupOf, Opens, ended_at, head_at, head_of, is_told, one_less, open_of, open_with, while_left}
+use Rattle.nim_worker.specs.Admitted.{Closes, CountsDown, IsAdmitted, IsGroupOf, Opens, ended_at, head_at, group_head, is_told, one_less, open_of, open_with, while_left}
 
 -- The command of a ticket isn't complete: its group is in the table, and so many are left of it once this one is complete too.
 record IsOpen (groups : List Group) (ran : List ℕ) (ticket number : ℕ) : Type 0 where
@@ -31,9 +31,9 @@ record IsOpen (groups : List Group) (ran : List ℕ) (ticket number : ℕ) : Typ
   there : slice_get groups number ≡ Some group
   asked : asked_at groups ticket ≡ Some (record { number = number; group = group; command = command })
   of : is_of_group groups number ticket ≡ true
-  left : left_of groups number ran ≡ suc (left_of groups number (ran ++ ticket ∷ []))
+  left : left_in_group groups number ran ≡ suc (left_in_group groups number (ran ++ ticket ∷ []))
 
-is_open : (groups : List Group) (ran : List ℕ) (ticket number : ℕ) → queue.group_of groups (is_one_of ran) ticket ≡ Some number
+is_open : (groups : List Group) (ran : List ℕ) (ticket number : ℕ) → queue.outstanding_group groups (is_one_of ran) ticket ≡ Some number
     → IsOpen groups ran ticket number
 is_open groups ran ticket number = either (is_one_of ran ticket) refl (slice_get (members_of groups) ticket) refl where
   either : (b : Bool) → is_one_of ran ticket ≡ b → (o : Option Member) → slice_get (members_of groups) ticket ≡ o
@@ -63,53 +63,53 @@ is_open groups ran ticket number = either (is_one_of ran ticket) refl (slice_get
 
 -- what the table has at its group
 abbrev entry_of : Group → ℕ → OpenGroup
-entry_of group left = record { head = head_of group; told = is_told group.source; left = left }
+entry_of group left = record { head = group_head group; told = is_told group.source; left = left }
 
 entry_there : (groups : List Group) (ran : List ℕ) (ticket number : ℕ) (entry : IsOpen groups ran ticket number)
-    → open_of groups ran number ≡ Some (entry_of entry.group (suc (left_of groups number (ran ++ ticket ∷ []))))
+    → open_of groups ran number ≡ Some (entry_of entry.group (suc (left_in_group groups number (ran ++ ticket ∷ []))))
 entry_there groups ran ticket number entry =
-    ap (λ (o : Option Group). option_and_then (λ (group : Group). open_with group (left_of groups number ran)) o) entry.there
+    ap (λ (o : Option Group). option_and_then (λ (group : Group). open_with group (left_in_group groups number ran)) o) entry.there
     ∙ ap (open_with entry.group) entry.left
 
 -- the head of the group of a command that isn't complete
 pub head_there : (admitted : Admitted) (groups : List Group) (ran : List ℕ) (ticket number : ℕ) → IsAdmitted admitted groups ran
-    → queue.group_of groups (is_one_of ran) ticket ≡ Some number
+    → queue.outstanding_group groups (is_one_of ran) ticket ≡ Some number
     → option_map (λ (group : OpenGroup). group.head) (get nat_cmp admitted.unfinished number) ≡ head_at groups ran ticket
 head_there admitted groups ran ticket number is known =
     let entry : IsOpen groups ran ticket number = is_open groups ran ticket number known in
     ap (option_map (λ (group : OpenGroup). group.head)) (is.table number ∙ entry_there groups ran ticket number entry)
-    ∙ sym (ap₂ (λ (b : Bool) (o : Option Asked). if b then None else option_map (λ (asked : Asked). head_of asked.group) o) entry.waiting entry.asked)
+    ∙ sym (ap₂ (λ (b : Bool) (o : Option Asked). if b then None else option_map (λ (asked : Asked). group_head asked.group) o) entry.waiting entry.asked)
 
 -- the group that is counted down
 counted_is : (admitted : Admitted) (groups : List Group) (ran : List ℕ) (ticket number : ℕ) (entry : IsOpen groups ran ticket number)
     → IsAdmitted admitted groups ran
-    → option_map one_less (get nat_cmp admitted.unfinished number) ≡ Some (entry_of entry.group (left_of groups number (ran ++ ticket ∷ [])))
+    → option_map one_less (get nat_cmp admitted.unfinished number) ≡ Some (entry_of entry.group (left_in_group groups number (ran ++ ticket ∷ [])))
 counted_is admitted groups ran ticket number entry is =
-    let left : ℕ = left_of groups number (ran ++ ticket ∷ []) in
+    let left : ℕ = left_in_group groups number (ran ++ ticket ∷ []) in
     let less : suc left - 1 ≡ left = omega arith in
     ap (option_map one_less) (is.table number ∙ entry_there groups ran ticket number entry) ∙ ap (λ (n : ℕ). Some (entry_of entry.group n)) less
 
 -- what is known of a command that has become complete
 pub ended_is : (admitted : Admitted) (groups : List Group) (ran : List ℕ) (ticket number : ℕ) (command : Command) (group : OpenGroup) (through : Bool)
     → IsAdmitted admitted groups ran
-    → queue.group_of groups (is_one_of ran) ticket ≡ Some number → queue.command_of groups (is_one_of ran) ticket ≡ Some command
+    → queue.outstanding_group groups (is_one_of ran) ticket ≡ Some number → queue.outstanding_command groups (is_one_of ran) ticket ≡ Some command
     → option_map one_less (get nat_cmp admitted.unfinished number) ≡ Some group → through ≡ (group.told && (group.left == 0))
     → Some (record { command = command; head = group.head; through = through }) ≡ ended_at groups ran ticket
 ended_is admitted groups ran ticket number command group through is known gave counted tells =
     let entry : IsOpen groups ran ticket number = is_open groups ran ticket number known in
-    let left : ℕ = left_of groups number (ran ++ ticket ∷ []) in
-    let here : queue.command_of groups (is_one_of ran) ticket ≡ Some entry.command =
+    let left : ℕ = left_in_group groups number (ran ++ ticket ∷ []) in
+    let here : queue.outstanding_command groups (is_one_of ran) ticket ≡ Some entry.command =
     ap₂ (λ (b : Bool) (o : Option Member). if b then None else option_map (λ (m : Member). m.command) o) entry.waiting entry.member in
     let same_command : command ≡ entry.command = same_Some command entry.command (sym gave ∙ here) in
     let same : group ≡ entry_of entry.group left =
     same_Some group (entry_of entry.group left) (sym counted ∙ counted_is admitted groups ran ticket number entry is) in
     ap₂ (λ (c : Command) (g : OpenGroup). Some (record { command = c; head = g.head; through = through })) same_command same
-    ∙ ap (λ (b : Bool). Some (record { command = entry.command; head = head_of entry.group; through = b }))
+    ∙ ap (λ (b : Bool). Some (record { command = entry.command; head = group_head entry.group; through = b }))
     (tells ∙ ap (λ (g : OpenGroup). g.told && (g.left == 0)) same)
     ∙ sym (ap (option_map (λ (asked : Asked). record {
       command = asked.command;
-      head = head_of asked.group;
-      through = is_told asked.group.source && (left_of groups asked.number (ran ++ ticket ∷ []) == 0);
+      head = group_head asked.group;
+      through = is_told asked.group.source && (left_in_group groups asked.number (ran ++ ticket ∷ []) == 0);
     })) entry.asked)
 
 -- it can't be that its group isn't there
@@ -119,7 +119,7 @@ not_none f (x ∷ xs) zero below is = none-some (f x) (sym is)
 not_none f (x ∷ xs) (suc k) below is = not_none f xs k (omega (arith, below)) is
 
 -- a command that isn't complete is there, and so is its group
-pub is_there : {Y : Type 0} (of : Member → Y) (groups : List Group) (ran : List ℕ) (ticket : ℕ) (A : Type 0) → ticket < queue.count_of groups
+pub is_there : {Y : Type 0} (of : Member → Y) (groups : List Group) (ran : List ℕ) (ticket : ℕ) (A : Type 0) → ticket < queue.command_count groups
     → is_one_of ran ticket ≡ false
     → (if is_one_of ran ticket then None else option_map of (slice_get (members_of groups) ticket)) ≡ None → A
 is_there of groups ran ticket A below waiting none =
@@ -127,7 +127,7 @@ is_there of groups ran ticket A below waiting none =
     (sym (cond-false (is_one_of ran ticket) None (option_map of (slice_get (members_of groups) ticket)) waiting) ∙ none))
 
 pub is_counted : (admitted : Admitted) (groups : List Group) (ran : List ℕ) (ticket number : ℕ) (A : Type 0) → IsAdmitted admitted groups ran
-    → queue.group_of groups (is_one_of ran) ticket ≡ Some number → option_map one_less (get nat_cmp admitted.unfinished number) ≡ None → A
+    → queue.outstanding_group groups (is_one_of ran) ticket ≡ Some number → option_map one_less (get nat_cmp admitted.unfinished number) ≡ None → A
 is_counted admitted groups ran ticket number A is known none =
     let entry : IsOpen groups ran ticket number = is_open groups ran ticket number known in
     absurd (none-some _ (sym none ∙ counted_is admitted groups ran ticket number entry is))
@@ -143,7 +143,7 @@ table_down : (old new : BTreeMap ℕ OpenGroup) (groups : List Group) (ran : Lis
     → IsOpen groups ran ticket number → CountsDown old number new → (other : ℕ) → get nat_cmp new other ≡ open_of groups (ran ++ ticket ∷ []) other
 table_down old new groups ran ticket number table entry down other = down other ∙ either (other == number) refl where
   left : ℕ
-  left = left_of groups number (ran ++ ticket ∷ [])
+  left = left_in_group groups number (ran ++ ticket ∷ [])
 
   of_it : option_and_then (λ (group : OpenGroup). while_left (one_less group)) (get nat_cmp old number) ≡ open_of groups (ran ++ ticket ∷ []) number
   of_it =
@@ -165,24 +165,24 @@ table_down old new groups ran ticket number table entry down other = down other 
 
 -- a command is complete
 pub completed_stands : (old new : Admitted) (groups : List Group) (ran : List ℕ) (ticket number : ℕ) → IsAdmitted old groups ran
-    → queue.group_of groups (is_one_of ran) ticket ≡ Some number → queue.Stands new.queue groups (queue.done_with groups (is_one_of ran) ticket)
+    → queue.outstanding_group groups (is_one_of ran) ticket ≡ Some number → queue.StandsForGroups new.queue groups (queue.done_with groups (is_one_of ran) ticket)
     → new.given ≡ old.given
     → CountsDown old.unfinished number new.unfinished → IsAdmitted new groups (ran ++ ticket ∷ [])
 completed_stands old new groups ran ticket number is known stands given down =
     let entry : IsOpen groups ran ticket number = is_open groups ran ticket number known in
     let done : queue.done_with groups (is_one_of ran) ticket ≡ is_one_of (ran ++ ticket ∷ []) =
-    cond-true (nat_lt ticket (queue.count_of groups)) (λ place. is_one_of ran place || (ticket == place)) (is_one_of ran)
-    (lt-ltb ticket (queue.count_of groups) entry.within)
+    cond-true (nat_lt ticket (queue.command_count groups)) (λ place. is_one_of ran place || (ticket == place)) (is_one_of ran)
+    (lt-ltb ticket (queue.command_count groups) entry.within)
     ∙ fun_ext (λ place. sym (one_more ran ticket place)) in
     record {
-      queue = subst (queue.Stands new.queue groups) done stands;
+      queue = subst (queue.StandsForGroups new.queue groups) done stands;
       given = given ∙ is.given;
       table = table_down old.unfinished new.unfinished groups ran ticket number is.table entry down;
     }
 
 -- a group that isn't there has no entry
 none_yet : (groups : List Group) (ran : List ℕ) (number : ℕ) → length groups ≤ number → open_of groups ran number ≡ None
-none_yet groups ran number past = ap (option_and_then (λ (group : Group). open_with group (left_of groups number ran))) (slice_get_past groups number past)
+none_yet groups ran number past = ap (option_and_then (λ (group : Group). open_with group (left_in_group groups number ran))) (slice_get_past groups number past)
 
 -- the entry of a group that comes
 next_entry : (next : Group) (left : ℕ) (before : Option OpenGroup) → before ≡ None
@@ -196,7 +196,7 @@ last_there (y ∷ xs) x = last_there xs x
 
 table_up : (old new : BTreeMap ℕ OpenGroup) (groups : List Group) (ran : List ℕ) (next : Group) (left : ℕ)
     → ((n : ℕ) → get nat_cmp old n ≡ open_of groups ran n)
-    → ((place : ℕ) → queue.count_of groups ≤ place → is_one_of ran place ≡ false) → left ≡ length next.commands
+    → ((place : ℕ) → queue.command_count groups ≤ place → is_one_of ran place ≡ false) → left ≡ length next.commands
     → Opens old (length groups) (entry_of next left) new → (other : ℕ) → get nat_cmp new other ≡ open_of (groups ++ next ∷ []) ran other
 table_up old new groups ran next left table later many opens other = opens other ∙ either (cases_eq other (length groups)) where
   longer : List Group
@@ -206,7 +206,7 @@ table_up old new groups ran next left table later many opens other = opens other
   of_next =
       next_entry next left (get nat_cmp old (length groups)) (table (length groups) ∙ none_yet groups ran (length groups) (omega arith))
       ∙ ap (open_with next) (many ∙ sym (left_of_next groups next ran later))
-      ∙ sym (ap (λ (o : Option Group). option_and_then (λ (group : Group). open_with group (left_of longer (length groups) ran)) o) (last_there groups next))
+      ∙ sym (ap (λ (o : Option Group). option_and_then (λ (group : Group). open_with group (left_in_group longer (length groups) ran)) o) (last_there groups next))
 
   of_front : other < length groups → get nat_cmp old other ≡ open_of longer ran other
   of_front within =
@@ -237,7 +237,7 @@ pub admitted_ok : {T E : Type 0} (r : Result T E) (old between new : Admitted) (
     (commands : List Command)
     (left : ℕ) (next : Group) → IsAdmitted old groups ran → IsGroupOf head told commands next → left ≡ length commands
     → Opens old.unfinished old.given (record { head = head; told = told; left = left }) between.unfinished
-    → between.given ≡ old.given → OnOk r (queue.Stands new.queue (groups ++ next ∷ []) (is_one_of ran)) → OnOk r (new.given ≡ between.given + 1)
+    → between.given ≡ old.given → OnOk r (queue.StandsForGroups new.queue (groups ++ next ∷ []) (is_one_of ran)) → OnOk r (new.given ≡ between.given + 1)
     → OnOk r (new.unfinished ≡ between.unfinished) → OnOk r (IsAdmitted new (groups ++ next ∷ []) ran)
 admitted_ok (Err e) old between new groups ran head told commands left next is group many opens same stands given table = tt
 admitted_ok (Ok x) old between new groups ran head told commands left next is group many opens same stands given table =
@@ -267,7 +267,7 @@ table_back old between new groups ran group table opens closes other = closes ot
 
 pub admitted_err : {T E : Type 0} (r : Result T E) (old between new : Admitted) (groups : List Group) (ran : List ℕ) (group : OpenGroup)
     → IsAdmitted old groups ran
-    → Opens old.unfinished old.given group between.unfinished → between.given ≡ old.given → OnErr r (queue.Stands new.queue groups (is_one_of ran))
+    → Opens old.unfinished old.given group between.unfinished → between.given ≡ old.given → OnErr r (queue.StandsForGroups new.queue groups (is_one_of ran))
     → OnErr r (new.given ≡ between.given) → OnErr r (Closes between.unfinished between.given new.unfinished) → OnErr r (IsAdmitted new groups ran)
 admitted_err (Ok x) old between new groups ran group is opens same stands given closes = tt
 admitted_err (Err e) old between new groups ran group is opens same stands given closes = record {

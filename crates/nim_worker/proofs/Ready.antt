@@ -6,7 +6,7 @@ use Rattle.std.specs.Option.{option_map_or}
 use Rattle.std.proofs.lemmas.Bool.{and_parts, eqb-false, eqb-true}
 use Rattle.nim_command.specs.Waits.{members_of}
 use Rattle.nim_order.specs.Progress.{is_one_of}
-use Rattle.nim_queue.specs.Stands.{count_of, first_that, is_after, is_released, ready_of}
+use Rattle.nim_queue.specs.Stands.{command_count, first_to_pass, is_after, is_released, ready_of}
 use Rattle.nim_history.specs.History.{Asked, WorkerState, asked_at, has_frame}
 use Rattle.nim_history.proofs.Left.{asked_is}
 use Rattle.nim_worker.specs.declared.worker.WorkerCore.{WorkerCore}
@@ -41,13 +41,13 @@ walked_past state after core walked none = none_released state (sym (walk_ends s
 -- ---- a released command
 
 -- the first that passes a test passes it, and is one of those that were looked at
-first_passes : (test : ℕ → Bool) (from count ticket : ℕ) → first_that test (range_with_len from count) ≡ Some ticket
+first_passes : (test : ℕ → Bool) (from count ticket : ℕ) → first_to_pass test (range_with_len from count) ≡ Some ticket
     → (test ticket ≡ true) × (from ≤ ticket) × (ticket < from + count)
 first_passes test from zero ticket is = absurd cc
 first_passes test from (suc count) ticket is = either (test from) refl (first_passes test (from + 1) count ticket) is where
   either : (b : Bool) → test from ≡ b
-      → (first_that test (range_with_len (from + 1) count) ≡ Some ticket → (test ticket ≡ true) × (from + 1 ≤ ticket) × (ticket < from + 1 + count))
-      → (if b then Some from else first_that test (range_with_len (from + 1) count)) ≡ Some ticket
+      → (first_to_pass test (range_with_len (from + 1) count) ≡ Some ticket → (test ticket ≡ true) × (from + 1 ≤ ticket) × (ticket < from + 1 + count))
+      → (if b then Some from else first_to_pass test (range_with_len (from + 1) count)) ≡ Some ticket
       → (test ticket ≡ true) × (from ≤ ticket) × (ticket < from + suc count)
   either true does more is =
       let same : from ≡ ticket = cc in
@@ -71,7 +71,7 @@ pub next_is : (state : WorkerState) (after : Option ℕ) (ticket : ℕ) → read
     → IsNext state ticket
 next_is state after ticket ready =
     let groups = state.session.groups in
-    let first = first_passes (λ (t : ℕ). is_after after t && is_released groups (is_one_of state.ran) t) 0 (count_of groups) ticket ready in
+    let first = first_passes (λ (t : ℕ). is_after after t && is_released groups (is_one_of state.ran) t) 0 (command_count groups) ticket ready in
     let released = (and_parts (is_after after ticket) (is_released groups (is_one_of state.ran) ticket) first.0).1 in
     let within : ticket < length (members_of groups) = omega (arith, first.2) in
     let member = there (members_of groups) ticket within in

@@ -17,7 +17,7 @@ use Rattle.nim_store.specs.declared.key.Key.{Key}
 use Rattle.nim_history.specs.History.{MayComplete, WorkerState, asked_at, has_frame}
 use Rattle.nim_history.specs.InTurn.{HaveOtherFrames, MayAllComplete}
 use Rattle.nim_history.proofs.InTurn.{commands_in_turn}
-use Rattle.nim_worker.specs.Taken.{do_meet, have_one_frame, is_key, is_taken, may_complete, taken_from, taken_of, touch_one_slot}
+use Rattle.nim_worker.specs.Taken.{do_meet, have_one_frame, is_key, is_taken_behind, may_complete, taken_from, taken_of, touch_one_slot}
 
 -- the places that a command waits for are before it
 before_it : (p : ℕ → Bool) (n from count : ℕ) → from + count ≤ n
@@ -100,7 +100,7 @@ pub record MayBeTaken (state : WorkerState) (taken : List ℕ) : Type 0 where
   pub each : All (MayComplete state) taken
 
 taken_more : (state : WorkerState) (taken : List ℕ) (n : ℕ) → n < length (members_of state.session.groups) → All (λ p. p < n) taken
-    → is_taken state taken n ≡ true
+    → is_taken_behind state taken n ≡ true
     → MayBeTaken state taken → MayBeTaken state (taken ++ n ∷ [])
 taken_more state taken n within below is may =
     let groups : List Group = state.session.groups in
@@ -119,16 +119,16 @@ taken_all : (state : WorkerState) (most : ℕ) (taken : List ℕ) (from count : 
     → MayBeTaken state (taken_from state most taken (range_with_len from count))
 taken_all state most taken from zero all below may = may
 taken_all state most taken from (suc count) all below may =
-    either (nat_lt (length taken) most && is_taken state taken from) refl (λ ts. taken_all state most ts (from + 1) count (omega (arith, all))) where
+    either (nat_lt (length taken) most && is_taken_behind state taken from) refl (λ ts. taken_all state most ts (from + 1) count (omega (arith, all))) where
       wider : All (λ p. p < from + 1) taken
       wider = All-weaker (λ p. p < from) (λ p. p < from + 1) (λ p less. omega (arith, less)) taken below
 
-      either : (b : Bool) → (nat_lt (length taken) most && is_taken state taken from) ≡ b
+      either : (b : Bool) → (nat_lt (length taken) most && is_taken_behind state taken from) ≡ b
           → ((ts : List ℕ) → All (λ p. p < from + 1) ts → MayBeTaken state ts → MayBeTaken state (taken_from state most ts (range_with_len (from + 1) count)))
           → MayBeTaken state (if b then taken_from state most (taken ++ from ∷ []) (range_with_len (from + 1) count)
           else taken_from state most taken (range_with_len (from + 1) count))
       either true is go_on =
-          let parts = and_parts (nat_lt (length taken) most) (is_taken state taken from) is in
+          let parts = and_parts (nat_lt (length taken) most) (is_taken_behind state taken from) is in
           go_on (taken ++ from ∷ []) (All-push (λ p. p < from + 1) taken from wider (omega arith))
           (taken_more state taken from (omega (arith, all)) below parts.1 may)
       either false is go_on = go_on taken wider may
@@ -143,7 +143,7 @@ may_all state most =
 never_none : (state : WorkerState) (most : ℕ) (taken : List ℕ) (t : ℕ) (xs : List ℕ) → taken_from state most (t ∷ taken) xs ≡ [] → ⊥
 never_none state most taken t [] is = absurd cc
 never_none state most taken t (x ∷ xs) is =
-    either (nat_lt (length (t ∷ taken)) most && is_taken state (t ∷ taken) x) (λ ts. never_none state most ts t xs) is where
+    either (nat_lt (length (t ∷ taken)) most && is_taken_behind state (t ∷ taken) x) (λ ts. never_none state most ts t xs) is where
       either : (b : Bool) → ((ts : List ℕ) → taken_from state most (t ∷ ts) xs ≡ [] → ⊥)
           → (if b then taken_from state most (t ∷ (taken ++ x ∷ [])) xs else taken_from state most (t ∷ taken) xs) ≡ [] → ⊥
       either true never is = never (taken ++ x ∷ []) is
@@ -154,22 +154,22 @@ none_taken : (state : WorkerState) (most from count place : ℕ) → 1 ≤ most 
     → may_complete state place ≡ true → ⊥
 none_taken state most from zero place least none above below may = omega (arith, above, below)
 none_taken state most from (suc count) place least none above below may =
-    either (is_taken state [] from) refl (λ rest up. none_taken state most (from + 1) count place least rest up (omega (arith, below)) may) none where
+    either (is_taken_behind state [] from) refl (λ rest up. none_taken state most (from + 1) count place least rest up (omega (arith, below)) may) none where
       room : nat_lt 0 most ≡ true
       room = lt-ltb 0 most (omega (arith, least))
 
-      here : (from ≡ place) → is_taken state [] from ≡ true
+      here : (from ≡ place) → is_taken_behind state [] from ≡ true
       here same = and_from (may_complete state from) true (ap (may_complete state) same ∙ may) refl
 
-      either : (b : Bool) → is_taken state [] from ≡ b → (taken_from state most [] (range_with_len (from + 1) count) ≡ [] → from + 1 ≤ place → ⊥)
-          → (if nat_lt 0 most && is_taken state [] from then taken_from state most (from ∷ []) (range_with_len (from + 1) count)
+      either : (b : Bool) → is_taken_behind state [] from ≡ b → (taken_from state most [] (range_with_len (from + 1) count) ≡ [] → from + 1 ≤ place → ⊥)
+          → (if nat_lt 0 most && is_taken_behind state [] from then taken_from state most (from ∷ []) (range_with_len (from + 1) count)
           else taken_from state most [] (range_with_len (from + 1) count)) ≡ []
           → ⊥
       either true is never none = never_none state most [] from (range_with_len (from + 1) count)
           (sym (ap₂ (λ (a : Bool) (b : Bool). if a && b then taken_from state most (from ∷ []) (range_with_len (from + 1) count)
           else taken_from state most [] (range_with_len (from + 1) count)) room is) ∙ none)
       either false is never none =
-          let other : from ≢ place = λ same. both_ways (is_taken state [] from) is (here same) in
+          let other : from ≢ place = λ same. both_ways (is_taken_behind state [] from) is (here same) in
           never
           (sym (ap₂ (λ (a : Bool) (b : Bool). if a && b then taken_from state most (from ∷ []) (range_with_len (from + 1) count)
           else taken_from state most [] (range_with_len (from + 1) count)) room is) ∙ none)

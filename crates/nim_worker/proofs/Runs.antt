@@ -16,14 +16,14 @@ use Rattle.nim_history.specs.Kept.{content_seen}
 use Rattle.nim_worker.specs.declared.batch.Work.{Work}
 use Rattle.nim_worker.specs.declared.worker.WorkerCore.{WorkerCore}
 use Rattle.nim_worker.specs.Chains.{AreWorks, HaveRead}
-use Rattle.nim_worker.specs.Runs.{RunRead, all_read_by, read_by, run_read, run_read_at, runs_read}
+use Rattle.nim_worker.specs.Runs.{RunRead, all_read_by, reads_of_work, run_read, run_read_at, runs_read}
 use Rattle.nim_worker.specs.Stands.{IsBeginning, begun_of, tickets_of}
 use Rattle.nim_worker.specs.Works.{Begun, begun_as, position_of, reads_taken}
 use Rattle.nim_worker.proofs.Chains.{works_read}
 
 -- a work has read what its command reads
 work_reads : (before : Slot → Option Held) (kind : Kind) (work : Work) → work.position ≡ position_of kind
-    → work.inputs.value.contents.items ≡ map (content_seen before) (reads_taken kind) → read_by work ≡ run_read before kind
+    → work.inputs.value.contents.items ≡ map (content_seen before) (reads_taken kind) → reads_of_work work ≡ run_read before kind
 work_reads before (Run position func params reads writes) work is contents =
     ap (λ (o : Option ℕ). option_map_or (λ (at : ℕ). (at, work.inputs.value.contents.items) ∷ []) o []) is
     ∙ ap (λ (read : List (Object × ℕ)). (position, read) ∷ []) (contents ∙ either (has_counts func (length params) (length reads) (length writes))) where

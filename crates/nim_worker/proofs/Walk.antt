@@ -7,12 +7,12 @@ use Rattle.std.proofs.lemmas.Bool.{lt-ltb, ltb-true}
 use Rattle.std.proofs.lemmas.List.{length-map}
 use Rattle.nim_command.specs.Waits.{members_of}
 use Rattle.nim_order.specs.Progress.{is_one_of}
-use Rattle.nim_queue.specs.Stands.{first_that, is_after, is_released, ready_of}
+use Rattle.nim_queue.specs.Stands.{first_to_pass, is_after, is_released, ready_of}
 use Rattle.nim_history.specs.History.{WorkerState, asked_at, has_frame}
 use Rattle.nim_worker.specs.declared.batch.Work.{Work}
 use Rattle.nim_worker.specs.declared.worker.WorkerCore.{WorkerCore}
 use Rattle.nim_worker.specs.Stands.{IsBeginning, tickets_of}
-use Rattle.nim_worker.specs.Taken.{do_meet, is_taken, taken_from, taken_of}
+use Rattle.nim_worker.specs.Taken.{do_meet, is_taken_behind, taken_from, taken_of}
 
 -- all places, in order
 abbrev pub places_of : WorkerState → List ℕ
@@ -44,42 +44,42 @@ walk_begins state most core begins = record {
 pub taken_full : (state : WorkerState) (most : ℕ) (taken xs : List ℕ) → nat_lt (length taken) most ≡ false → taken_from state most taken xs ≡ taken
 taken_full state most taken [] full = refl
 taken_full state most taken (x ∷ xs) full =
-    ap (λ (b : Bool). if b && is_taken state taken x then taken_from state most (taken ++ x ∷ []) xs else taken_from state most taken xs) full
+    ap (λ (b : Bool). if b && is_taken_behind state taken x then taken_from state most (taken ++ x ∷ []) xs else taken_from state most taken xs) full
     ∙ taken_full state most taken xs full
 
 -- one that isn't released isn't taken
 passed_over : (state : WorkerState) (most : ℕ) (taken : List ℕ) (x : ℕ) (xs : List ℕ) → released state x ≡ false
     → taken_from state most taken (x ∷ xs) ≡ taken_from state most taken xs
 passed_over state most taken x xs is = either (nat_lt (length taken) most) where
-  none : is_taken state taken x ≡ false
+  none : is_taken_behind state taken x ≡ false
   none =
       ap (λ (b : Bool). (b && option_map_or (has_frame state) (asked_at state.session.groups x) false)
       && not (list_any (λ earlier. do_meet state.session.groups earlier x) taken)) is
 
-  either : (b : Bool) → (if b && is_taken state taken x then taken_from state most (taken ++ x ∷ []) xs else taken_from state most taken xs)
+  either : (b : Bool) → (if b && is_taken_behind state taken x then taken_from state most (taken ++ x ∷ []) xs else taken_from state most taken xs)
       ≡ taken_from state most taken xs
   either true = ap (λ (b : Bool). if b then taken_from state most (taken ++ x ∷ []) xs else taken_from state most taken xs) none
   either false = refl
 
 none_more : (state : WorkerState) (most : ℕ) (after : Option ℕ) (taken xs : List ℕ)
-    → first_that (λ ticket. is_after after ticket && released state ticket) xs ≡ None
+    → first_to_pass (λ ticket. is_after after ticket && released state ticket) xs ≡ None
     → taken_from state most taken (filter (is_after after) xs) ≡ taken
 none_more state most after taken [] none = refl
 none_more state most after taken (x ∷ xs) none = either (is_after after x) (released state x) refl (none_more state most after taken xs) none where
   either : (later free : Bool) → released state x ≡ free
-      → (first_that (λ ticket. is_after after ticket && released state ticket) xs ≡ None → taken_from state most taken (filter (is_after after) xs) ≡ taken)
-      → (if later && free then Some x else first_that (λ ticket. is_after after ticket && released state ticket) xs) ≡ None
+      → (first_to_pass (λ ticket. is_after after ticket && released state ticket) xs ≡ None → taken_from state most taken (filter (is_after after) xs) ≡ taken)
+      → (if later && free then Some x else first_to_pass (λ ticket. is_after after ticket && released state ticket) xs) ≡ None
       → taken_from state most taken (if later then x ∷ filter (is_after after) xs else filter (is_after after) xs) ≡ taken
   either true true is more none = absurd cc
   either true false is more none = passed_over state most taken x (filter (is_after after) xs) is ∙ more none
   either false free is more none = more none
 
 -- the first that passes a test is none before the first place
-not_before : (test : ℕ → Bool) (from count ticket : ℕ) → first_that test (range_with_len from count) ≡ Some ticket → from ≤ ticket
+not_before : (test : ℕ → Bool) (from count ticket : ℕ) → first_to_pass test (range_with_len from count) ≡ Some ticket → from ≤ ticket
 not_before test from zero ticket is = absurd cc
 not_before test from (suc count) ticket is = either (test from) (not_before test (from + 1) count ticket) is where
-  either : (b : Bool) → (first_that test (range_with_len (from + 1) count) ≡ Some ticket → from + 1 ≤ ticket)
-      → (if b then Some from else first_that test (range_with_len (from + 1) count)) ≡ Some ticket → from ≤ ticket
+  either : (b : Bool) → (first_to_pass test (range_with_len (from + 1) count) ≡ Some ticket → from + 1 ≤ ticket)
+      → (if b then Some from else first_to_pass test (range_with_len (from + 1) count)) ≡ Some ticket → from ≤ ticket
   either true more is = let same : from ≡ ticket = cc in omega (arith, same)
   either false more is = omega (arith, more is)
 
@@ -102,7 +102,7 @@ not_after ticket place below = grind (arith, below)
 
 -- those between the given place and the first released one behind it are passed over
 next_one : (state : WorkerState) (most : ℕ) (after : Option ℕ) (taken : List ℕ) (ticket from count : ℕ)
-    → first_that (λ t. is_after after t && released state t) (range_with_len from count) ≡ Some ticket
+    → first_to_pass (λ t. is_after after t && released state t) (range_with_len from count) ≡ Some ticket
     → taken_from state most taken (filter (is_after after) (range_with_len from count))
     ≡ taken_from state most taken (ticket ∷ filter (is_after (Some ticket)) (range_with_len from count))
 next_one state most after taken ticket from zero is = absurd cc
@@ -116,10 +116,10 @@ next_one state most after taken ticket from (suc count) is =
           ap (λ (b : Bool). if b then from ∷ filter (is_after (Some ticket)) rest else filter (is_after (Some ticket)) rest) (not_after ticket from below)
 
       Next : Type 0
-      Next = first_that (λ t. is_after after t && released state t) rest ≡ Some ticket
+      Next = first_to_pass (λ t. is_after after t && released state t) rest ≡ Some ticket
           → taken_from state most taken (filter (is_after after) rest) ≡ taken_from state most taken (ticket ∷ filter (is_after (Some ticket)) rest)
 
-      go_on : Next → first_that (λ t. is_after after t && released state t) rest ≡ Some ticket
+      go_on : Next → first_to_pass (λ t. is_after after t && released state t) rest ≡ Some ticket
           → taken_from state most taken (filter (is_after after) rest) ≡ taken_from state most taken (ticket ∷ filter (is_after (Some ticket)) (from ∷ rest))
       go_on next is =
           let below = not_before (λ t. is_after after t && released state t) (from + 1) count ticket is in
@@ -127,7 +127,7 @@ next_one state most after taken ticket from (suc count) is =
           ∙ ap (λ (xs : List ℕ). taken_from state most taken (ticket ∷ xs)) (sym (drop_one (omega (arith, below))))
 
       either : (later free : Bool) → is_after after from ≡ later → released state from ≡ free → Next
-          → (if later && free then Some from else first_that (λ t. is_after after t && released state t) rest) ≡ Some ticket
+          → (if later && free then Some from else first_to_pass (λ t. is_after after t && released state t) rest) ≡ Some ticket
           → taken_from state most taken (if later then from ∷ filter (is_after after) rest else filter (is_after after) rest)
           ≡ taken_from state most taken (ticket ∷ filter (is_after (Some ticket)) (from ∷ rest))
       either true true later free next is =
@@ -144,7 +144,7 @@ next_one state most after taken ticket from (suc count) is =
 pub walked_on : (state : WorkerState) (most : ℕ) (after : Option ℕ) (ticket : ℕ) (core new : WorkerCore) (works more : List Work)
     → IsWalked state most after core works
     → length works < most → ready_of state.session.groups (is_one_of state.ran) after ≡ Some ticket → IsBeginning new more state
-    → tickets_of more ≡ (if is_taken state (tickets_of works) ticket then tickets_of works ++ ticket ∷ [] else tickets_of works)
+    → tickets_of more ≡ (if is_taken_behind state (tickets_of works) ticket then tickets_of works ++ ticket ∷ [] else tickets_of works)
     → IsWalked state most (Some ticket) new more
 walked_on state most after ticket core new works more walked room ready begins taken = record {
   begins = begins;
@@ -153,15 +153,15 @@ walked_on state most after ticket core new works more walked room ready begins t
       let open_to : nat_lt (length (tickets_of works)) most ≡ true =
       lt-ltb (length (tickets_of works)) most (omega (arith, room, length-map works (λ (w : Work). w.ticket))) in
       ap (λ (ts : List ℕ). taken_from state most ts rest) taken
-      ∙ either rest (is_taken state (tickets_of works) ticket) refl
-      ∙ ap (λ (b : Bool). if b && is_taken state (tickets_of works) ticket then taken_from state most (tickets_of works ++ ticket ∷ []) rest
+      ∙ either rest (is_taken_behind state (tickets_of works) ticket) refl
+      ∙ ap (λ (b : Bool). if b && is_taken_behind state (tickets_of works) ticket then taken_from state most (tickets_of works ++ ticket ∷ []) rest
       else taken_from state most (tickets_of works) rest) (sym open_to)
       ∙ sym (next_one state most after (tickets_of works) ticket 0 (length (members_of state.session.groups)) ready)
       ∙ walked.left;
 } where
-  either : (rest : List ℕ) (b : Bool) → is_taken state (tickets_of works) ticket ≡ b
-      → taken_from state most (if is_taken state (tickets_of works) ticket then tickets_of works ++ ticket ∷ [] else tickets_of works) rest
-      ≡ (if is_taken state (tickets_of works) ticket then taken_from state most (tickets_of works ++ ticket ∷ []) rest
+  either : (rest : List ℕ) (b : Bool) → is_taken_behind state (tickets_of works) ticket ≡ b
+      → taken_from state most (if is_taken_behind state (tickets_of works) ticket then tickets_of works ++ ticket ∷ [] else tickets_of works) rest
+      ≡ (if is_taken_behind state (tickets_of works) ticket then taken_from state most (tickets_of works ++ ticket ∷ []) rest
       else taken_from state most (tickets_of works) rest)
   either rest true is = rw is refl
   either rest false is = rw is refl

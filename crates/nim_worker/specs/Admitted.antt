@@ -7,7 +7,7 @@ use Rattle.nim_command.specs.declared.command.Command.{Command}
 use Rattle.nim_command.specs.Waits.{Group, Source, FromInstance}
 use Rattle.nim_order.specs.Progress.{is_one_of}
 use Rattle.nim_queue.specs.Stands as queue
-use Rattle.nim_history.specs.History.{Asked, asked_at, left_of}
+use Rattle.nim_history.specs.History.{Asked, asked_at, left_in_group}
 use Rattle.nim_history.specs.Kept.{is_single}
 use Rattle.nim_worker.specs.declared.admitted.Admitted.{Admitted}
 use Rattle.nim_worker.specs.declared.admitted.Ended.{Ended}
@@ -20,35 +20,35 @@ is_told (FromInstance base) = true
 is_told _ = false
 
 -- what is known of a group
-abbrev pub head_of : Group → GroupHead
-head_of group = record { epoch = group.epoch; instance = group.instance; single = is_single group.source }
+abbrev pub group_head : Group → GroupHead
+group_head group = record { epoch = group.epoch; instance = group.instance; single = is_single group.source }
 
 -- a group of which so many commands aren't complete, while there are some
 abbrev pub open_with : Group → ℕ → Option OpenGroup
 open_with group zero = None
-open_with group (suc more) = Some (record { head = head_of group; told = is_told group.source; left = suc more })
+open_with group (suc more) = Some (record { head = group_head group; told = is_told group.source; left = suc more })
 
 -- the group of a number, while commands of it aren't complete
 abbrev pub open_of : List Group → List ℕ → ℕ → Option OpenGroup
 open_of groups ran number =
-    option_and_then (λ (group : Group). open_with group (left_of groups number ran)) (slice_get groups number)
+    option_and_then (λ (group : Group). open_with group (left_in_group groups number ran)) (slice_get groups number)
 
 -- These groups were asked for, and their commands at these places are complete.
 pub record IsAdmitted (admitted : Admitted) (groups : List Group) (ran : List ℕ) : Type 0 where
-  pub queue : queue.Stands admitted.queue groups (is_one_of ran)
+  pub queue : queue.StandsForGroups admitted.queue groups (is_one_of ran)
   pub given : admitted.given ≡ length groups
   pub table : (number : ℕ) → get nat_cmp admitted.unfinished number ≡ open_of groups ran number
 
 -- a group is of these commands, with what is known of it
 pub record IsGroupOf (known : GroupHead) (tells : Bool) (asked : List Command) (group : Group) : Type 0 where
-  pub head : known ≡ head_of group
+  pub head : known ≡ group_head group
   pub told : tells ≡ is_told group.source
   pub commands : group.commands ≡ asked
 
 -- the head of the group that a command is of, while it isn't complete
 abbrev pub head_at : List Group → List ℕ → ℕ → Option GroupHead
 head_at groups ran place =
-    if is_one_of ran place then None else option_map (λ (asked : Asked). head_of asked.group) (asked_at groups place)
+    if is_one_of ran place then None else option_map (λ (asked : Asked). group_head asked.group) (asked_at groups place)
 
 -- a command that has become complete, and whether it is to be told that its group is
 abbrev pub ended_at : List Group → List ℕ → ℕ → Option Ended
@@ -56,8 +56,8 @@ ended_at groups ran place =
     option_map
     (λ (asked : Asked). record {
       command = asked.command;
-      head = head_of asked.group;
-      through = is_told asked.group.source && (left_of groups asked.number (ran ++ place ∷ []) == 0);
+      head = group_head asked.group;
+      through = is_told asked.group.source && (left_in_group groups asked.number (ran ++ place ∷ []) == 0);
     })
     (asked_at groups place)
 

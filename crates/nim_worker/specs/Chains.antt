@@ -3,11 +3,11 @@ use Rattle.std.specs.Prelude.{◌≡◌, Bool, true, false, List, [], ◌∷◌,
 use Rattle.std.specs.List.{list_any}
 use Rattle.nim_base.specs.declared.number.Shape.{Shape}
 use Rattle.nim_base.specs.declared.number.Slot.{Slot}
-use Rattle.nim_base.specs.Functions.{reads_of}
+use Rattle.nim_base.specs.Functions.{read_values}
 use Rattle.nim_command.specs.declared.command.Kind.{Kind}
 use Rattle.nim_command.specs.Slots.{does_touch}
 use Rattle.nim_store.specs.declared.held.Held.{Held}
-use Rattle.nim_history.specs.Kept.{content_seen, seen}
+use Rattle.nim_history.specs.Kept.{content_seen, held_or_empty}
 use Rattle.nim_worker.specs.declared.batch.Work.{Work}
 use Rattle.nim_worker.specs.Works.{Begun, IsWork, KeepsWork, reads_taken}
 
@@ -36,8 +36,8 @@ KeepWorks _ _ = ⊥
 -- a work's inputs have what its command reads of these slots
 pub record HasRead (before : Slot → Option Held) (kind : Kind) (work : Work) : Type 0 where
   pub contents : work.inputs.value.contents.items ≡ map (content_seen before) (reads_taken kind)
-  pub values : reads_of work.inputs.value.values.items work.inputs.value.places.items
-      ≡ map (λ slot. (seen before slot).value) (reads_taken kind)
+  pub values : read_values work.inputs.value.values.items work.inputs.value.places.items
+      ≡ map (λ slot. (held_or_empty before slot).value) (reads_taken kind)
 
 -- the same of each of these works
 abbrev pub HaveRead : (Slot → Option Held) → List Begun → List Work → Type 0

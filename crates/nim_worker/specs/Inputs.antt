@@ -5,12 +5,12 @@ use Rattle.std.specs.declared.alloc.Global.{Global}
 use Rattle.nim_base.specs.declared.number.Object.{Object}
 use Rattle.nim_base.specs.declared.number.Shape.{Shape}
 use Rattle.nim_base.specs.declared.number.Slot.{Slot}
-use Rattle.nim_base.specs.Functions.{reads_of}
+use Rattle.nim_base.specs.Functions.{read_values}
 use Rattle.nim_base.specs.Value.{Grid, empty_grid}
 use Rattle.nim_command.specs.Holds.{put_at}
 use Rattle.nim_command.specs.Slots.{is_among, object_of}
 use Rattle.nim_store.specs.declared.held.Held.{Held}
-use Rattle.nim_history.specs.Kept.{content_seen, fitting_shape, seen}
+use Rattle.nim_history.specs.Kept.{content_seen, fitting_shape, held_or_empty}
 use Rattle.nim_worker.specs.declared.inputs.Inputs.{Inputs}
 use Rattle.nim_worker.specs.declared.inputs.Taken.{Taken}
 
@@ -66,6 +66,6 @@ pub record AreInputs (all : List Shape) (numbers : List ℤ) (reads writes : Lis
   pub params : inputs.params.items ≡ numbers
   pub back : given_back inputs.taken.items inputs.values.items now ≡ before
   pub among : AreAmong reads inputs.taken.items
-  pub values : reads_of inputs.values.items inputs.places.items ≡ map (λ slot. (seen before slot).value) reads
+  pub values : read_values inputs.values.items inputs.places.items ≡ map (λ slot. (held_or_empty before slot).value) reads
   pub contents : inputs.contents.items ≡ map (content_seen before) reads
   pub shapes : inputs.shapes.items ≡ map (fitting_shape all) writes

@@ -5,7 +5,7 @@ use Rattle.nim_history.specs.History.{Happening}
 use Rattle.nim_worker.specs.declared.batch.Batch.{Batch}
 use Rattle.nim_worker.specs.declared.worker.WorkerCore.{WorkerCore}
 use Rattle.nim_worker.specs.Chains.{KeepWorks}
-use Rattle.nim_worker.specs.Stands.{Stands, completions_of}
+use Rattle.nim_worker.specs.Stands.{CoreStands, completions_of}
 
 -- a batch whose works were lent, and each of them left as it was or performed
 pub record IsLent (old new : Batch) : Type 0 where
@@ -17,5 +17,5 @@ pub record IsLent (old new : Batch) : Type 0 where
 -- Such a batch is out still, and completes what it did.
 abbrev pub LentBatchesStand : Type 0
 LentBatchesStand =
-    (core : WorkerCore) (old new : Batch) (happened : List Happening) → IsLent old new → Stands core (Some old) happened
-    → Stands core (Some new) happened × (completions_of core new ≡ completions_of core old)
+    (core : WorkerCore) (old new : Batch) (happened : List Happening) → IsLent old new → CoreStands core (Some old) happened
+    → CoreStands core (Some new) happened × (completions_of core new ≡ completions_of core old)

@@ -1,6 +1,6 @@
 -- When what a work reads is what its task reads.
 use Rattle.std.specs.Prelude.{◌≡◌, ℕ, Some, IsSomeAnd, slice_get}
-use Rattle.nim_base.specs.Functions.{reads_of}
+use Rattle.nim_base.specs.Functions.{read_values}
 use Rattle.nim_job.specs.declared.job.Job.{Job}
 use Rattle.nim_job.specs.Serial.{tasks_of}
 use Rattle.nim_plan.specs.Legal.{reads_at}
@@ -12,4 +12,4 @@ abbrev pub ReadsRight : Job → Work → Type 0
 ReadsRight job work = (position : ℕ) → work.position ≡ Some position
     → IsSomeAnd (slice_get (tasks_of job) position)
     (λ task. (work.inputs.value.contents.items ≡ reads_at job position task)
-    × (reads_of work.inputs.value.values.items work.inputs.value.places.items ≡ values_read job position task))
+    × (read_values work.inputs.value.values.items work.inputs.value.places.items ≡ values_read job position task))

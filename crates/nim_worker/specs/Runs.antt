@@ -30,9 +30,9 @@ abbrev pub runs_read : WorkerState → List ℕ → List RunRead
 runs_read state places = flat_map (run_read_at state) places
 
 -- what a work has read
-abbrev pub read_by : Work → List RunRead
-read_by work = option_map_or (λ (position : ℕ). (position, work.inputs.value.contents.items) ∷ []) work.position []
+abbrev pub reads_of_work : Work → List RunRead
+reads_of_work work = option_map_or (λ (position : ℕ). (position, work.inputs.value.contents.items) ∷ []) work.position []
 
 -- what works have read, in order
 abbrev pub all_read_by : List Work → List RunRead
-all_read_by works = flat_map read_by works
+all_read_by works = flat_map reads_of_work works

@@ -88,15 +88,15 @@ MayBeOut core None state = (core.stale ≡ false) × IsAtRest core state
 MayBeOut core (Some batch) state = IsOut core core.stale batch state
 
 -- The core has come to what a worker has come to, with this batch out. A core that has failed has come to nothing.
-pub record StandsAt (core : WorkerCore) (batch : Option Batch) (state : WorkerState) : Type 0 where
+pub record CoreStandsAt (core : WorkerCore) (batch : Option Batch) (state : WorkerState) : Type 0 where
   pub has : HasState core state
   pub busy : core.busy ≡ is_some batch
   pub out : MayBeOut core batch state
 
 -- All this has happened at the core, and this batch is out.
-pub record Stands (core : WorkerCore) (batch : Option Batch) (happened : List Happening) : Type 0 where
+pub record CoreStands (core : WorkerCore) (batch : Option Batch) (happened : List Happening) : Type 0 where
   pub history : IsHistory happened
-  pub at : StandsAt core batch (state_of happened)
+  pub at : CoreStandsAt core batch (state_of happened)
 
 -- what happens when a batch is finished: nothing where it was begun before the last Reset
 abbrev pub completions_of : WorkerCore → Batch → List Happening

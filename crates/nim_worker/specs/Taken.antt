@@ -49,15 +49,15 @@ abbrev pub has_released : WorkerState → Bool
 has_released state = list_any (may_complete state) (range_with_len 0 (length (members_of state.session.groups)))
 
 -- whether it is taken behind the commands at these places
-abbrev pub is_taken : WorkerState → List ℕ → ℕ → Bool
-is_taken state taken place =
+abbrev pub is_taken_behind : WorkerState → List ℕ → ℕ → Bool
+is_taken_behind state taken place =
     may_complete state place && not (list_any (λ earlier. do_meet state.session.groups earlier place) taken)
 
 -- those that are taken of some places behind those that are taken already, at most so many in all
 abbrev pub taken_from : WorkerState → ℕ → List ℕ → List ℕ → List ℕ
 taken_from state most taken [] = taken
 taken_from state most taken (place ∷ places) =
-    if nat_lt (length taken) most && is_taken state taken place then taken_from state most (taken ++ place ∷ []) places
+    if nat_lt (length taken) most && is_taken_behind state taken place then taken_from state most (taken ++ place ∷ []) places
     else taken_from state most taken places
 
 -- The places of the commands that a batch takes: in the order given each that may be completed and that meets none of

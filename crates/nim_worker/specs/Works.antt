@@ -5,7 +5,7 @@ use Rattle.nim_base.specs.declared.number.Shape.{Shape}
 use Rattle.nim_base.specs.declared.number.Slot.{Slot}
 use Rattle.nim_base.specs.declared.task.Func.{Func}
 use Rattle.nim_base.specs.Apply.{apply_of, has_counts}
-use Rattle.nim_base.specs.Functions.{reads_of}
+use Rattle.nim_base.specs.Functions.{read_values}
 use Rattle.nim_base.specs.Value.{Grid}
 use Rattle.nim_command.specs.declared.command.Kind.{Kind}
 use Rattle.nim_command.specs.declared.command.Kind.TheVariants.{Run}
@@ -60,8 +60,8 @@ AreInputsOf shapes kind before now inputs =
     AreInputs shapes (params_taken kind) (reads_taken kind) (writes_taken kind) before now inputs
 
 -- the results of a command that was performed
-abbrev pub results_of : List Shape → Kind → (Slot → Option Held) → Option (List Grid)
-results_of shapes kind before =
+abbrev pub results_performed : List Shape → Kind → (Slot → Option Held) → Option (List Grid)
+results_performed shapes kind before =
     option_map (λ (func : Func). results_for shapes func (params_taken kind) (reads_taken kind) (writes_taken kind)
     before) (func_taken kind)
 
@@ -74,7 +74,7 @@ abbrev pub results_from : Work → Option (List Grid)
 results_from work =
     option_map
     (λ (func : Func).
-    apply_of func work.inputs.value.params.items (reads_of work.inputs.value.values.items
+    apply_of func work.inputs.value.params.items (read_values work.inputs.value.values.items
     work.inputs.value.places.items) work.inputs.value.shapes.items)
     work.func
 
@@ -96,7 +96,7 @@ pub record IsWork (shapes : List Shape) (before now : Slot → Option Held) (beg
   pub position : work.position ≡ position_of begun.kind
   pub func : work.func ≡ func_taken begun.kind
   pub inputs : AreInputsOf shapes begun.kind before now work.inputs.value
-  pub results : IfSome (results_in work) (λ results. results_of shapes begun.kind before ≡ Some results)
+  pub results : IfSome (results_in work) (λ results. results_performed shapes begun.kind before ≡ Some results)
 
 -- whatever a work is the work of, it stays
 abbrev pub KeepsWork : Work → Work → Type 0

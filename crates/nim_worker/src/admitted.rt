@@ -4,7 +4,7 @@ ghost use Rattle.std.specs.Option.{option_copied, option_map};
 ghost use Rattle.std.specs.Ordering.{nat_cmp};
 ghost use Rattle.nim_command.specs.Waits.{Group as group_type};
 ghost use Rattle.nim_order.specs.Progress.{is_one_of};
-ghost use Rattle.nim_queue.specs.Stands.{Stands as QueueStands, command_of, count_of, is_after, ready_of};
+ghost use Rattle.nim_queue.specs.Stands.{StandsForGroups as QueueStands, outstanding_command, command_count, is_after, ready_of};
 ghost use Rattle.nim_worker.specs.Admitted.{Closes, CountsDown, IsAdmitted, KeepsTable, Opens, IsGroupOf, ended_at, head_at, one_less};
 
 use crate::head::GroupHead;
@@ -126,7 +126,7 @@ impl Admitted {
     /// The command of a ticket, while it isn't complete; takes no memory.
     pub(crate) fn command(&self, ticket: u64) -> Option<&Command>
         ensures { (groups : List group_type) (ran : List ℕ) → IsAdmitted self.now groups ran
-            → option_copied result ≡ command_of groups (is_one_of ran) ticket }
+            → option_copied result ≡ outstanding_command groups (is_one_of ran) ticket }
     {
         self.queue.command(ticket)
     }
@@ -145,10 +145,10 @@ impl Admitted {
     /// The command of a ticket is complete; gives it where it wasn't.
     pub(crate) fn complete(&mut self, ticket: u64) -> Option<Ended>
         ensures ended { (groups : List group_type) (ran : List ℕ) → IsAdmitted self.old groups ran
-            → ticket < count_of groups → is_one_of ran ticket ≡ false
+            → ticket < command_count groups → is_one_of ran ticket ≡ false
             → result ≡ ended_at groups ran ticket }
         ensures stands { (groups : List group_type) (ran : List ℕ) → IsAdmitted self.old groups ran
-            → ticket < count_of groups → is_one_of ran ticket ≡ false
+            → ticket < command_count groups → is_one_of ran ticket ≡ false
             → IsAdmitted self.new groups (ran ++ ticket ∷ []) }
     {
         let (Some(number), Some(command)) = (self.queue.group(ticket), self.queue.complete(ticket))

@@ -4,7 +4,7 @@ ghost use Rattle.nim_job.specs.declared.job.Job.{Job as job_type};
 ghost use Rattle.nim_job.specs.Whole.{is_whole};
 ghost use Rattle.nim_history.specs.History.{Happening, MayComplete, WorkerState, asked_at, has_frame, state_of};
 ghost use Rattle.nim_history.specs.Truth.{IsHandedTruth};
-ghost use Rattle.nim_queue.specs.Stands.{command_of, is_after, is_released, ready_of};
+ghost use Rattle.nim_queue.specs.Stands.{outstanding_command, is_after, is_released, ready_of};
 ghost use Rattle.nim_order.specs.Progress.{is_one_of};
 ghost use Rattle.nim_command.specs.Waits.{Group as group_type};
 ghost use Rattle.nim_worker.specs.Admitted.{IsAdmitted};
@@ -12,8 +12,8 @@ ghost use Rattle.nim_worker.specs.Beginning.{MayBeBegun};
 ghost use Rattle.nim_worker.specs.Inputs.{AreIdle};
 ghost use Rattle.nim_worker.specs.Right.{ReadsRight};
 ghost use Rattle.nim_worker.specs.Runs.{all_read_by, runs_read};
-ghost use Rattle.nim_worker.specs.Stands.{HasRoom, HasState, IsBeginning, Stands, tickets_of};
-ghost use Rattle.nim_worker.specs.Taken.{has_released, is_taken, taken_of};
+ghost use Rattle.nim_worker.specs.Stands.{HasRoom, HasState, IsBeginning, CoreStands, tickets_of};
+ghost use Rattle.nim_worker.specs.Taken.{has_released, is_taken_behind, taken_of};
 
 use crate::admitted::Admitted;
 use crate::inputs::Inputs;
@@ -31,18 +31,18 @@ impl WorkerCore {
         requires least { 1 ≤ most }
         requires most { most ≤ 16 }
         requires free { self.old.busy ≡ false }
-        ensures stands { (history : List Happening) → Stands self.old None history
-            → Stands self.new (Some result) history }
-        ensures taken { (history : List Happening) → Stands self.old None history
+        ensures stands { (history : List Happening) → CoreStands self.old None history
+            → CoreStands self.new (Some result) history }
+        ensures taken { (history : List Happening) → CoreStands self.old None history
             → tickets_of result.works.items ≡ taken_of (state_of history) most }
-        ensures empty { (history : List Happening) → Stands self.old None history → result.works.items ≡ []
+        ensures empty { (history : List Happening) → CoreStands self.old None history → result.works.items ≡ []
             → (place : ℕ) → MayComplete (state_of history) place → ⊥ }
         ensures epoch { result.epoch ≡ self.old.epoch }
         ensures stale { self.new.stale ≡ self.old.stale }
         ensures reads { (job : job_type) (history : List Happening) → IsTrue (is_whole job) → IsHandedTruth job history
-            → Stands self.old None history
+            → CoreStands self.old None history
             → All (ReadsRight job) result.works.items }
-        ensures runs { (history : List Happening) → Stands self.old None history
+        ensures runs { (history : List Happening) → CoreStands self.old None history
             → all_read_by result.works.items ≡ runs_read (state_of history) (tickets_of result.works.items) }
         ensures worker { self.new.worker ≡ self.old.worker }
         ensures failed { self.old.failed ≡ true → result.works.items ≡ [] }
@@ -60,7 +60,7 @@ impl WorkerCore {
 
     /// Whether a batch that is begun now would take a command.
     pub fn is_ready(&self) -> bool
-        ensures { (history : List Happening) → Stands self.now None history → result ≡ has_released (state_of history) }
+        ensures { (history : List Happening) → CoreStands self.now None history → result ≡ has_released (state_of history) }
     {
         let mut after = None;
         while let Some(ticket) = self.admitted.ready(after) {
@@ -154,7 +154,7 @@ impl WorkerCore {
         ensures taken { (state : WorkerState) → IsBeginning self.old works.old.items state
             → is_released state.session.groups (is_one_of state.ran) ticket ≡ true
             → tickets_of works.new.items
-            ≡ (if is_taken state (tickets_of works.old.items) ticket then tickets_of works.old.items ++ ticket ∷ []
+            ≡ (if is_taken_behind state (tickets_of works.old.items) ticket then tickets_of works.old.items ++ ticket ∷ []
             else tickets_of works.old.items) }
         ensures idle { AreIdle spare.new.items }
         ensures count { vec_len works.new + vec_len spare.new ≡ vec_len works.old + vec_len spare.old }
@@ -199,7 +199,7 @@ fn begin_work(
     requires idle { AreIdle spare.old.items }
     ensures work { (groups : List group_type) (ran : List ℕ) → IsAdmitted admitted.now groups ran
         → MayBeBegun store.old works.old.items ticket store.new works.new.items
-        (command_of groups (is_one_of ran) ticket) }
+        (outstanding_command groups (is_one_of ran) ticket) }
     ensures shapes { store.new.shapes ≡ store.old.shapes }
     ensures idle { AreIdle spare.new.items }
     ensures count { vec_len works.new + vec_len spare.new ≡ vec_len works.old + vec_len spare.old }

@@ -12,11 +12,11 @@ ghost use Rattle.nim_history.specs.History as history;
 ghost use Rattle.nim_history.specs.History.{Asked, Happening, WorkerState, completed, state_of};
 ghost use Rattle.nim_history.specs.Truth.{IsGoodOut, IsHandedTruth};
 ghost use Rattle.nim_worker.specs.declared.batch.Work.{Work as work_type};
-ghost use Rattle.nim_worker.specs.Admitted.{head_of};
+ghost use Rattle.nim_worker.specs.Admitted.{group_head};
 ghost use Rattle.nim_worker.specs.Chains.{AreWorks};
 ghost use Rattle.nim_worker.specs.Finishing.{HasLeft, through_of};
 ghost use Rattle.nim_worker.specs.Inputs.{AreIdle, IsIdle};
-ghost use Rattle.nim_worker.specs.Stands.{Gave, HasState, IsAtWork, Stands, after_completions, completions_of, outs_at, tickets_of};
+ghost use Rattle.nim_worker.specs.Stands.{Gave, HasState, IsAtWork, CoreStands, after_completions, completions_of, outs_at, tickets_of};
 ghost use Rattle.nim_worker.specs.Works.{Begun as begun_type};
 
 use crate::admitted::Ended;
@@ -38,13 +38,13 @@ impl WorkerCore {
     /// batch begun before the last Reset is dropped. Once memory was refused the core has failed, and each later call
     /// answers so.
     pub fn finish(&mut self, batch: Batch) -> Result<Vec<Out>, NoMemory>
-        ensures stands { (history : List Happening) → Stands self.old (Some batch) history
-            → OnOk result (Stands self.new None (history ++ completions_of self.old batch)) }
-        ensures outs { (history : List Happening) → Stands self.old (Some batch) history
+        ensures stands { (history : List Happening) → CoreStands self.old (Some batch) history
+            → OnOk result (CoreStands self.new None (history ++ completions_of self.old batch)) }
+        ensures outs { (history : List Happening) → CoreStands self.old (Some batch) history
             → IfOk result (λ outs. Gave (state_of history) outs.items
             (state_of (history ++ completions_of self.old batch))) }
         ensures good { (job : job_type) (history : List Happening) → IsTrue (is_whole job) → IsHandedTruth job history
-            → Stands self.old (Some batch) history
+            → CoreStands self.old (Some batch) history
             → IfOk result (λ outs. All (IsGoodOut job) outs.items) }
         ensures worker { self.new.worker ≡ self.old.worker }
         ensures failed { OnErr result (self.new.failed ≡ true) }
@@ -60,9 +60,9 @@ impl WorkerCore {
 
     /// All but the mark of a failure.
     fn end(&mut self, batch: Batch) -> Result<Vec<Out>, NoMemory>
-        ensures stands { (history : List Happening) → Stands self.old (Some batch) history
-            → OnOk result (Stands self.new None (history ++ completions_of self.old batch)) }
-        ensures outs { (history : List Happening) → Stands self.old (Some batch) history
+        ensures stands { (history : List Happening) → CoreStands self.old (Some batch) history
+            → OnOk result (CoreStands self.new None (history ++ completions_of self.old batch)) }
+        ensures outs { (history : List Happening) → CoreStands self.old (Some batch) history
             → IfOk result (λ outs. Gave (state_of history) outs.items
             (state_of (history ++ completions_of self.old batch))) }
         ensures worker { self.new.worker ≡ self.old.worker }
@@ -145,7 +145,7 @@ impl WorkerCore {
         ensures rest { self.new ≡ record self.old { store = self.new.store; inbox = self.new.inbox } }
         ensures left { (state : WorkerState) (asked : Asked) (begun : begun_type) (more : List begun_type)
             (works : List work_type)
-            → self.old.inbox ≡ state.inbox → ended.command ≡ asked.command → ended.head ≡ head_of asked.group
+            → self.old.inbox ≡ state.inbox → ended.command ≡ asked.command → ended.head ≡ group_head asked.group
             → begun.kind ≡ asked.command.kind
             → AreWorks self.old.store.shapes state.slots (slot_at self.old.store) (begun ∷ more) (work ∷ works)
             → OnOk result (HasLeft self.old.store.shapes state asked more works outs.old.items ended.through self.new

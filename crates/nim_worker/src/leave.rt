@@ -9,7 +9,7 @@ ghost use Rattle.nim_store.specs.Stored.{slot_at};
 ghost use Rattle.nim_message.specs.declared.report.FromWorker.TheVariants.{Ran};
 ghost use Rattle.nim_history.specs.declared.out.Out.TheVariants.{Report};
 ghost use Rattle.nim_history.specs.Kept as spec;
-ghost use Rattle.nim_history.specs.Kept.{fitting_shape, own_outs, seen};
+ghost use Rattle.nim_history.specs.Kept.{fitting_shape, own_outs, held_or_empty};
 ghost use Rattle.nim_worker.specs.Leaves.{IsHeadOf, left_with, told_with};
 
 use crate::head::GroupHead;
@@ -90,7 +90,7 @@ pub(crate) fn set(store: &mut Store, slot: Slot, held: Option<Held>) -> Result<(
 
 // A version of the slot's object.
 fn held_at(slot: Slot, version: Version, value: Value) -> Held
-    ensures { result ≡ spec.held_at slot version value }
+    ensures { result ≡ spec.held_version slot version value }
 {
     Held {
         object: object_of(slot),
@@ -109,7 +109,7 @@ fn create(
 ) -> Result<(), NoMemory>
     ensures slots { OnOk result (slot_at store.new
         ≡ spec.put_shaped store.old.shapes slot
-        (spec.held_at slot 0 (created (fitting_shape store.old.shapes slot) iota number)) (slot_at store.old)) }
+        (spec.held_version slot 0 (created (fitting_shape store.old.shapes slot) iota number)) (slot_at store.old)) }
     ensures shapes { store.new.shapes ≡ store.old.shapes }
 {
     let Some(shape) = shape_of(store, slot) else {
@@ -131,7 +131,7 @@ fn receive(
     frame: Option<Value>,
 ) -> Result<(), NoMemory>
     ensures slots { OnOk result (slot_at store.new
-        ≡ option_map_or (λ (value : Grid). put_at slot (Some (spec.held_at slot version value)) (slot_at store.old))
+        ≡ option_map_or (λ (value : Grid). put_at slot (Some (spec.held_version slot version value)) (slot_at store.old))
         frame
         (slot_at store.old)) }
     ensures shapes { store.new.shapes ≡ store.old.shapes }
@@ -205,7 +205,7 @@ fn ran(head: GroupHead, position: Position, contents: Vec<(Object, Version)>) ->
 
 // What a slot has, copied; an empty one is seen without rows.
 fn copied(alloc: Global, store: &Store, slot: Slot) -> Result<Held, NoMemory>
-    ensures { IfOk result (λ held. held ≡ seen (slot_at store.now) slot) }
+    ensures { IfOk result (λ held. held ≡ held_or_empty (slot_at store.now) slot) }
 {
     match store.held(slot) {
         Some(held) => held.copy(),

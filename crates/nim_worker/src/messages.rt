@@ -4,7 +4,7 @@ ghost use Rattle.nim_history.specs.InTurn.{is_reset};
 ghost use Rattle.nim_worker.specs.declared.batch.Batch.{Batch as batch_type};
 ghost use Rattle.nim_worker.specs.Messages.{IsInstantiated, IsKept, IsReset};
 ghost use Rattle.nim_worker.specs.Stands as spec;
-ghost use Rattle.nim_worker.specs.Stands.{Stands, StandsAt};
+ghost use Rattle.nim_worker.specs.Stands.{CoreStands, CoreStandsAt};
 
 use crate::WorkerCore;
 use crate::admitted::Admitted;
@@ -19,10 +19,10 @@ impl WorkerCore {
     /// Takes an order. One that comes before the first Reset, or names another epoch than the last, is dropped, and
     /// takes no memory. A core that has failed takes none.
     pub fn on_message(&mut self, order: ToWorker) -> Result<(), NoMemory>
-        ensures stands { (history : List Happening) (out : Option batch_type) → Stands self.old out history
-            → OnOk result (Stands self.new out (history ++ Ordered order ∷ [])) }
-        ensures err { (history : List Happening) (out : Option batch_type) → Stands self.old out history
-            → OnErr result (Stands self.new out history) }
+        ensures stands { (history : List Happening) (out : Option batch_type) → CoreStands self.old out history
+            → OnOk result (CoreStands self.new out (history ++ Ordered order ∷ [])) }
+        ensures err { (history : List Happening) (out : Option batch_type) → CoreStands self.old out history
+            → OnErr result (CoreStands self.new out history) }
         ensures dropped { spec.is_passed self.old order ≡ true → self.old.failed ≡ false → IsOk result }
         ensures stale { self.new.stale ≡ (if is_ok result && is_reset order then self.old.busy else self.old.stale) }
         ensures busy { self.new.busy ≡ self.old.busy }
@@ -42,10 +42,10 @@ impl WorkerCore {
     /// Takes a frame of data. One of an epoch before the last Reset's is dropped, and takes no memory. A core that has
     /// failed takes none.
     pub fn on_data(&mut self, frame: Data) -> Result<(), NoMemory>
-        ensures stands { (history : List Happening) (out : Option batch_type) → Stands self.old out history
-            → OnOk result (Stands self.new out (history ++ Framed frame ∷ [])) }
-        ensures err { (history : List Happening) (out : Option batch_type) → Stands self.old out history
-            → OnErr result (Stands self.new out history) }
+        ensures stands { (history : List Happening) (out : Option batch_type) → CoreStands self.old out history
+            → OnOk result (CoreStands self.new out (history ++ Framed frame ∷ [])) }
+        ensures err { (history : List Happening) (out : Option batch_type) → CoreStands self.old out history
+            → OnErr result (CoreStands self.new out history) }
         ensures dropped { nat_lt frame.epoch self.old.epoch ≡ true → self.old.failed ≡ false → IsOk result }
         ensures stale { self.new.stale ≡ self.old.stale }
         ensures busy { self.new.busy ≡ self.old.busy }
@@ -86,10 +86,10 @@ impl WorkerCore {
     /// Takes an order that isn't passed over.
     fn take(&mut self, order: ToWorker) -> Result<(), NoMemory>
         requires { spec.is_passed self.old order ≡ false }
-        ensures at { (state : WorkerState) (out : Option batch_type) → StandsAt self.old out state
-            → OnOk result (StandsAt self.new out (ordered state order)) }
-        ensures err { (state : WorkerState) (out : Option batch_type) → StandsAt self.old out state
-            → OnErr result (StandsAt self.new out state) }
+        ensures at { (state : WorkerState) (out : Option batch_type) → CoreStandsAt self.old out state
+            → OnOk result (CoreStandsAt self.new out (ordered state order)) }
+        ensures err { (state : WorkerState) (out : Option batch_type) → CoreStandsAt self.old out state
+            → OnErr result (CoreStandsAt self.new out state) }
         ensures stale { self.new.stale ≡ (if is_ok result && is_reset order then self.old.busy else self.old.stale) }
         ensures busy { self.new.busy ≡ self.old.busy }
         ensures worker { self.new.worker ≡ self.old.worker }

@@ -12,7 +12,7 @@ ghost use Rattle.nim_command.specs.Slots.{is_among};
 ghost use Rattle.nim_store.specs.declared.held.Held.{Held as held_in};
 ghost use Rattle.nim_store.specs.Stored.{slot_at};
 ghost use Rattle.nim_history.specs.Kept as kept_spec;
-ghost use Rattle.nim_history.specs.Kept.{content_seen, seen};
+ghost use Rattle.nim_history.specs.Kept.{content_seen, held_or_empty};
 ghost use Rattle.nim_worker.specs.Inputs as spec;
 ghost use Rattle.nim_worker.specs.Inputs.{AreAmong, AreInputs, AreSeen, Continues, IsIdle, given_back, is_from};
 ghost use Rattle.nim_worker.specs.Works.{AreInputsOf, func_taken};
@@ -127,7 +127,7 @@ fn take_read(
     ensures shapes { store.new.shapes ≡ store.old.shapes }
     ensures place { result.0 < length values.new.items }
     ensures value { slice_index_or values.new.items result.0 empty_grid
-        ≡ (seen (given_back taken.old.items values.old.items (slot_at store.old)) slot).value }
+        ≡ (held_or_empty (given_back taken.old.items values.old.items (slot_at store.old)) slot).value }
     ensures content { result.1 ≡ content_seen (given_back taken.old.items values.old.items (slot_at store.old)) slot }
 {
     let place = place_of(taken.as_slice(), slot);

@@ -1,5 +1,5 @@
 ghost use Rattle.std.specs.Prelude.{◌≡◌, None, []};
-ghost use Rattle.nim_worker.specs.Stands.{Stands};
+ghost use Rattle.nim_worker.specs.Stands.{CoreStands};
 
 use crate::admitted::Admitted;
 use crate::room::Room;
@@ -9,7 +9,7 @@ use nim_store::{Inbox, Store};
 use std::alloc::Global;
 
 /// A worker without its links: it takes orders and frames of data, completes the commands that it is asked for, and
-/// gives reports and frames. What has happened at it, and which batch is out, is `Stands` of `specs/Stands.antt`.
+/// gives reports and frames. What has happened at it, and which batch is out, is `CoreStands` of `specs/Stands.antt`.
 #[derive(Drop)]
 pub struct WorkerCore {
     pub(crate) alloc: Global,
@@ -32,7 +32,7 @@ pub struct WorkerCore {
 impl WorkerCore {
     /// Nothing has happened at it; takes no memory.
     pub fn new(alloc: Global, worker: Worker) -> WorkerCore
-        ensures stands { Stands result None [] }
+        ensures stands { CoreStands result None [] }
         ensures worker { result.worker ≡ worker }
     {
         WorkerCore {

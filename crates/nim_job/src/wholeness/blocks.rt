@@ -1,7 +1,7 @@
 ghost use Rattle.std.specs.Prelude.{◌≡◌, ◌<◌, ◌==◌, map, nat_le, true, IsTrue};
 ghost use Rattle.std.specs.List.{list_all, list_any, sum_by};
 ghost use Rattle.nim_job.specs.Tasks.{object_meant, task_count};
-ghost use Rattle.nim_job.specs.Whole.{are_distinct, are_vars, has_distinct, is_block, is_param, is_place, is_ref, is_stage};
+ghost use Rattle.nim_job.specs.Whole.{are_distinct, are_vars, has_distinct, is_whole_block, is_param, is_place, is_ref, is_stage};
 
 use crate::layout::{object, task_count};
 use crate::{Block, Place, Ref, Stage, Var};
@@ -143,7 +143,7 @@ fn are_few_tasks(vars: &[Var], stages: &[Stage]) -> bool
 /// Whether each block is whole.
 pub(super) fn are_blocks(vars: &[Var], blocks: &[Block]) -> bool
     requires { IsTrue (are_vars vars.now) }
-    ensures { result ≡ list_all (is_block vars.now) blocks.now }
+    ensures { result ≡ list_all (is_whole_block vars.now) blocks.now }
 {
     for block in blocks {
         if block.args > 8

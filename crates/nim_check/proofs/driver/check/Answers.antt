@@ -2,13 +2,13 @@ use Rattle.std.proofs.Common.{◌≡◌, ◌∙◌, ◌≤◌, true, length, map
 use Rattle.std.specs.List.{list_all}
 use Rattle.std.proofs.lemmas.List.{length-map}
 use Rattle.nim_job.specs.declared.job.Job.{Job}
-use Rattle.nim_job.specs.Whole.{are_vars, is_block}
+use Rattle.nim_job.specs.Whole.{are_vars, is_whole_block}
 use Rattle.nim_check.specs.Body.{body_of}
 use Rattle.nim_check.specs.Made.{block_of, var_names, var_of}
 use Rattle.std.proofs.lemmas.Grind.{common_steps}
 use Rattle.nim_lex.specs.Refusals.{Tells}
 use Rattle.nim_check.specs.Faults.{told}
-use Rattle.nim_check.specs.Refusals.{first_refusal, refusal_of}
+use Rattle.nim_check.specs.Refusals.{first_refusal, tree_refusal}
 use Rattle.nim_check.specs.Sites.{block_sites, no_past, past_of, statement_sites, steps_sites, var_sites}
 use Rattle.nim_check.proofs.Checked.{Ties, body_whole, job_whole, names_for}
 use Rattle.nim_check.proofs.Places.{length_names}
@@ -21,7 +21,7 @@ returns-in_err-job_vars-clause-answers c =
     let one = told c.in_err-job_vars.field-0.0 in
     let steps : first_refusal (steps_sites tree.steps) ≡ None = first_of (search rules, grind (arith, common_steps)) in
     let here : Tells (first_refusal (var_sites [] tree.vars)) one = first_of (search rules, grind (arith, common_steps)) in
-    let whole : Tells (refusal_of tree) one = rw (kinds tree) (refused_second _ _ _ one steps here) in
+    let whole : Tells (tree_refusal tree) one = rw (kinds tree) (refused_second _ _ _ one steps here) in
     first_of (search rules, grind (arith, common_steps))
 
 pub returns-in_err-job_blocks-clause-answers : goal.returns-in_err-job_blocks-clause-answers
@@ -31,7 +31,7 @@ returns-in_err-job_blocks-clause-answers c =
     let steps : first_refusal (steps_sites tree.steps) ≡ None = first_of (search rules, grind (arith, common_steps)) in
     let vars : first_refusal (var_sites [] tree.vars) ≡ None = first_of (search rules, grind (arith, common_steps)) in
     let here : Tells (first_refusal (block_sites tree.vars [] tree.blocks)) one = first_of (search rules, grind (arith, common_steps)) in
-    let whole : Tells (refusal_of tree) one = rw (kinds tree) (refused_third _ _ _ _ one steps vars here) in
+    let whole : Tells (tree_refusal tree) one = rw (kinds tree) (refused_third _ _ _ _ one steps vars here) in
     first_of (search rules, grind (arith, common_steps))
 
 pub returns-in_err-scalars-clause-answers : goal.returns-in_err-scalars-clause-answers
@@ -42,7 +42,7 @@ returns-in_err-scalars-clause-answers c =
     let vars : first_refusal (var_sites [] tree.vars) ≡ None = first_of (search rules, grind (arith, common_steps)) in
     let blocks : first_refusal (block_sites tree.vars [] tree.blocks) ≡ None = first_of (search rules, grind (arith, common_steps)) in
     let here : Tells (first_refusal (statement_sites tree no_past tree.statements)) one = first_of (search rules, grind (arith, common_steps)) in
-    let whole : Tells (refusal_of tree) one = rw (kinds tree) (refused_fourth _ _ _ _ one steps vars blocks here) in
+    let whole : Tells (tree_refusal tree) one = rw (kinds tree) (refused_fourth _ _ _ _ one steps vars blocks here) in
     first_of (search rules, grind (arith, common_steps))
 
 pub returns-clause-answers : goal.returns-clause-answers
@@ -65,7 +65,7 @@ returns-clause-checked c =
     let vars : are_vars c.in_ok-job_vars.job_vars ≡ true = c.in_ok-job_vars.ensures.whole in
     let blocks : c.in_ok-job_blocks.job_blocks ≡ map (block_of (var_names tree.vars)) tree.blocks = first_of (cc, search rules, grind (arith, common_steps)) in
     let number : length c.in_ok-job_blocks.job_blocks ≤ 32 = c.in_ok-job_blocks.ensures.number in
-    let each : list_all (is_block c.in_ok-job_vars.job_vars) c.in_ok-job_blocks.job_blocks ≡ true = first_of (cc, search rules, grind (arith, common_steps)) in
+    let each : list_all (is_whole_block c.in_ok-job_vars.job_vars) c.in_ok-job_blocks.job_blocks ≡ true = first_of (cc, search rules, grind (arith, common_steps)) in
     let statements : first_refusal (statement_sites tree no_past tree.statements) ≡ None = first_of (cc, search rules, grind (arith, common_steps)) in
     let body : c.in_ok-body.body ≡ body_of (names_for tree (past_of no_past tree.statements).scalars) tree.statements =
     first_of (cc, search rules, grind (arith, common_steps)) in

@@ -1,7 +1,7 @@
 use Rattle.std.proofs.Common.{◌≡◌, ◌+◌, ◌∙◌, List, map, drop, ap, subst, true, arith}
 use Rattle.nim_base.specs.declared.task.Task.{Task}
-use Rattle.nim_job.specs.Tasks.{task_of}
-use Rattle.nim_job.specs.Whole.{is_task}
+use Rattle.nim_job.specs.Tasks.{task_with_args}
+use Rattle.nim_job.specs.Whole.{is_whole_task}
 use Rattle.nim_control.proofs.Alone.{stay_on}
 use Rattle.nim_control.proofs.Instances.{AreOnTheWay, to_run_still, way_ends, way_goes, writes_first}
 use Rattle.nim_control.proofs.Tasks.{all_awaited, run_awaited, task_fits, task_next, tasks_past}
@@ -9,22 +9,22 @@ use Rattle.nim_control.proofs.instance.give_tasks.Goals as goal
 
 pub owner-requires : goal.owner-requires
 owner-requires c =
-    let fits : is_task c.args.sites.now.versions.objects (task_of c.args.args.now c.form-item.result) ≡ true =
+    let fits : is_whole_task c.args.sites.now.versions.objects (task_with_args c.args.args.now c.form-item.result) ≡ true =
     task_fits c.args.sites.now.versions.objects c.args.args.now c.args.forms.now c.loop-form.form-index c.form-item.result c.requires.fit
     c.loop-form-test.true c.form-item.is in
     writes_first c.loop-form.sites.versions.objects c.in_ok-task.task
-    (ap (λ n. is_task n c.in_ok-task.task) c.loop-form.invariant.stay.objects ∙ ap (is_task c.args.sites.now.versions.objects) c.in_ok-task.ensures ∙ fits)
+    (ap (λ n. is_whole_task n c.in_ok-task.task) c.loop-form.invariant.stay.objects ∙ ap (is_whole_task c.args.sites.now.versions.objects) c.in_ok-task.ensures ∙ fits)
 
 pub give_task-requires : goal.give_task-requires
 give_task-requires c =
-    let fits : is_task c.args.sites.now.versions.objects (task_of c.args.args.now c.form-item.result) ≡ true =
+    let fits : is_whole_task c.args.sites.now.versions.objects (task_with_args c.args.args.now c.form-item.result) ≡ true =
     task_fits c.args.sites.now.versions.objects c.args.args.now c.args.forms.now c.loop-form.form-index c.form-item.result c.requires.fit
     c.loop-form-test.true c.form-item.is in
-    ap (λ n. is_task n c.in_ok-task.task) c.loop-form.invariant.stay.objects ∙ ap (is_task c.args.sites.now.versions.objects) c.in_ok-task.ensures ∙ fits
+    ap (λ n. is_whole_task n c.in_ok-task.task) c.loop-form.invariant.stay.objects ∙ ap (is_whole_task c.args.sites.now.versions.objects) c.in_ok-task.ensures ∙ fits
 
 pub loop-form-preserved : goal.loop-form-preserved
 loop-form-preserved c =
-    let tasks : List Task = map (task_of c.args.args.now) c.args.forms.now in
+    let tasks : List Task = map (task_with_args c.args.args.now) c.args.forms.now in
     let stay = c.loop-form.invariant.stay in
     let next = task_next c.args.args.now c.args.forms.now c.loop-form.form-index c.form-item.result c.in_ok-task.task c.loop-form-test.true c.form-item.is
     c.in_ok-task.ensures in
@@ -45,8 +45,8 @@ loop-form-preserved c =
 
 pub returns-clause-given : goal.returns-clause-given
 returns-clause-given c = λ d is.
-    way_ends d (map (task_of c.args.args.now) c.args.forms.now) c.args.orders.now.items c.loop-form.orders.items c.args.sites.now c.loop-form.sites
-    c.loop-form.number (drop c.loop-form.form-index (map (task_of c.args.args.now) c.args.forms.now))
+    way_ends d (map (task_with_args c.args.args.now) c.args.forms.now) c.args.orders.now.items c.loop-form.orders.items c.args.sites.now c.loop-form.sites
+    c.loop-form.number (drop c.loop-form.form-index (map (task_with_args c.args.args.now) c.args.forms.now))
     (tasks_past c.args.args.now c.args.forms.now c.loop-form.form-index (omega (arith, c.loop-form-test.false))) (c.loop-form.invariant.way d is)
 
 pub returns-clause-flight : goal.returns-clause-flight

@@ -1,6 +1,6 @@
 -- the tasks so far
 use Rattle.std.proofs.Common.{◌≡◌, [], drop, map, take}
-use Rattle.nim_job.specs.Tasks.{task_of}
+use Rattle.nim_job.specs.Tasks.{task_with_args}
 use Rattle.nim_course.specs.Controller.{Controller}
 use Rattle.nim_control.specs.Given.{IsToRun}
 use Rattle.nim_control.specs.Sites.{SitesStay}
@@ -11,12 +11,12 @@ abbrev pub invariant-loop-form : goal.invariant-loop-form
 invariant-loop-form l = record {
   number : l.number ≡ l.form-index;
   way : (c : Controller) → IsToRun c l.instance l.initial.sites
-      → AreOnTheWay c (map (task_of l.args) l.forms) l.initial.orders.items l.initial.sites l.number (drop l.form-index (map (task_of l.args) l.forms))
+      → AreOnTheWay c (map (task_with_args l.args) l.forms) l.initial.orders.items l.initial.sites l.number (drop l.form-index (map (task_with_args l.args) l.forms))
       l.orders.items l.sites;
   flight : l.flight ≡ record {
     instance = l.instance.instance;
     base = l.instance.base;
-    runs = runs_at l.initial.sites (take l.form-index (map (task_of l.args) l.forms));
+    runs = runs_at l.initial.sites (take l.form-index (map (task_with_args l.args) l.forms));
     through = [];
   };
   stay : SitesStay l.initial.sites l.sites;

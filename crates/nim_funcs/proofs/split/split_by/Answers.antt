@@ -2,17 +2,17 @@ use Rattle.std.proofs.Common.{rules}
 use mir.Syntax.{w64}
 use mir.Val.{SFits}
 use Rattle.std.proofs.lemmas.Int.{to_z-of_z}
-use Rattle.nim_base.specs.Functions.{param_of}
+use Rattle.nim_base.specs.Functions.{param_at}
 use Rattle.nim_funcs.proofs.split.split_by.Goals as goal
 
 pub returns-clause-below : goal.returns-clause-below
 returns-clause-below c =
-    let first : SFits w64 (param_of c.args.params.now 0) = search rules in
-    let second : SFits w64 (param_of c.args.params.now 1) = search rules in
+    let first : SFits w64 (param_at c.args.params.now 0) = search rules in
+    let second : SFits w64 (param_at c.args.params.now 1) = search rules in
     simp to_z-of_z at c.split.ensures.below
 
 pub returns-clause-rest : goal.returns-clause-rest
 returns-clause-rest c =
-    let first : SFits w64 (param_of c.args.params.now 0) = search rules in
-    let second : SFits w64 (param_of c.args.params.now 1) = search rules in
+    let first : SFits w64 (param_at c.args.params.now 0) = search rules in
+    let second : SFits w64 (param_at c.args.params.now 1) = search rules in
     simp to_z-of_z at c.split.ensures.rest

@@ -4,7 +4,7 @@ use Rattle.nim_base.specs.declared.number.Object.{Object}
 use Rattle.nim_base.specs.declared.number.Worker.{Worker}
 use Rattle.nim_patch.specs.Given.{PatchRunsExtend}
 use Rattle.nim_patch.specs.Mends.{AreSourced, Mends}
-use Rattle.nim_patch.specs.Patches.{copies_of, fails, flags_of}
+use Rattle.nim_patch.specs.Patches.{patch_copies, fails, flags_of}
 use Rattle.nim_patch.specs.declared.patch.PatchCopy.{PatchCopy}
 use Rattle.nim_place.specs.Versions.{Versions}
 use Rattle.nim_patch.proofs.Flags.{flag_read}
@@ -15,11 +15,11 @@ use Rattle.nim_patch.proofs.patch.build_patch.Goals as goal
 
 -- at the end of the loop there are all copies
 all_copied : (versions : Versions) (preconditions all : List (Worker × Object)) (at : ℕ) (copies result : List PatchCopy) → all ≡ preconditions
-    → copies ++ copies_of versions (drop at all) ≡ copies_of versions all → length all ≤ at → result ≡ copies → copies_of versions preconditions ≡ result
+    → copies ++ patch_copies versions (drop at all) ≡ patch_copies versions all → length all ≤ at → result ≡ copies → patch_copies versions preconditions ≡ result
 all_copied versions preconditions all at copies result same so_far end is =
-    ap (λ (l : List (Worker × Object)). copies_of versions l) (sym same)
+    ap (λ (l : List (Worker × Object)). patch_copies versions l) (sym same)
     ∙ sym so_far
-    ∙ ap (λ (l : List (Worker × Object)). copies ++ copies_of versions l) (drop_all at all end)
+    ∙ ap (λ (l : List (Worker × Object)). copies ++ patch_copies versions l) (drop_all at all end)
     ∙ append-nil copies
     ∙ sym is
 

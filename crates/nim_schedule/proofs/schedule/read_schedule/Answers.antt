@@ -4,7 +4,7 @@ use Rattle.std.specs.List.{flat_map, position_or_len}
 use Rattle.std.proofs.lemmas.List.{length-drop, take_rest}
 use Rattle.std.proofs.lemmas.List.Sums.{prefix_len-le-length}
 use Rattle.nim_lex.specs.Bytes.{is_newline}
-use Rattle.nim_lex.specs.Source.{Line, cut, line_at, numbered}
+use Rattle.nim_lex.specs.Source.{Line, cut, line_at, numbered_lines}
 use Rattle.nim_lex.proofs.SourceSteps.{step_line}
 use Rattle.nim_schedule.specs.Lines.{line_rule, lines_in}
 use Rattle.nim_schedule.specs.Schedule.{first_refusal}
@@ -20,7 +20,7 @@ returns-in-Some-clause-answers c =
     let text : take (length bytes - i) (drop i bytes) ≡ drop i bytes = take_rest bytes i in
     let is_len : len ≡ position_or_len is_newline (drop i bytes) = (rw text at c.line_len-len.ensures) in
     let line : Line = line_at number i (take len (drop i bytes)) in
-    let rest = numbered (number + 1) (i + (len + 1)) (cut (drop (i + (len + 1)) bytes)) in
+    let rest = numbered_lines (number + 1) (i + (len + 1)) (cut (drop (i + (len + 1)) bytes)) in
     let short : nat_lt 16777216 (length bytes) ≡ false = search rules in
     let broken : line_rule line.bytes ≡ Some c.in-Some.rule = sym (rw text at c.in_ok-rule.ensures.rule) ∙ c.in-Some.is in
     rw short (sym c.loop-at.invariant.refusal ∙ ap first_refusal (step_line number i len bytes c.loop-at-test.true is_len)
@@ -35,7 +35,7 @@ loop-at-preserved c =
     let text : take (length bytes - i) (drop i bytes) ≡ drop i bytes = take_rest bytes i in
     let is_len : len ≡ position_or_len is_newline (drop i bytes) = (rw text at c.line_len-len.ensures) in
     let line : Line = line_at number i (take len (drop i bytes)) in
-    let rest = numbered (number + 1) (i + (len + 1)) (cut (drop (i + (len + 1)) bytes)) in
+    let rest = numbered_lines (number + 1) (i + (len + 1)) (cut (drop (i + (len + 1)) bytes)) in
     let sound : line_rule line.bytes ≡ None = sym (rw text at c.in_ok-rule.ensures.rule) ∙ c.in_default.is in
     let step = step_line number i len bytes c.loop-at-test.true is_len in
     let added : c.read_line.new.lines.items ≡ c.loop-at.lines.items ++ lines_in line.bytes = (rw text at c.in_ok-rule.ensures.lines) c.in_default.is in

@@ -1,7 +1,7 @@
 use Rattle.std.proofs.Common.{◌≡◌, None, Some, true, refl, rules}
 use Rattle.nim_course.specs.declared.outcome.Outcome.TheVariants as came
 use Rattle.nim_lockstep.specs.Law.{HasFollowed}
-use Rattle.nim_top.specs.Answer.{came_to, has_run, is_told, status_of}
+use Rattle.nim_top.specs.Answer.{came_to, has_run, is_summary_told, status_of}
 use Rattle.nim_top.specs.Parts.{SumsUpState}
 use Rattle.nim_top.proofs.Followed.{finishes_done, finishes_limit, finishes_stalled}
 use Rattle.nim_top.proofs.Left.{came_done, left_run}
@@ -59,7 +59,7 @@ returns-clause-summary g c =
     let run = c.in-Ok.ensures.run in
     let sound = run.1.1.0 in
     let replayed = c.match-end.replayed in
-    let state : SumsUpState (is_told c.args.is_asked replayed.outcome) replayed.summary run.0 =
+    let state : SumsUpState (is_summary_told c.args.is_asked replayed.outcome) replayed.summary run.0 =
     elim c.match-end.branch [
       | in-Done w ↦ rw (w.replayed-is) (w.done-replayed.ensures.summary run.0 sound.stands)
       | in-Limit w ↦ rw (w.replayed-is, w.without_summary-replayed.ensures) refl

@@ -2,7 +2,7 @@ use Rattle.std.proofs.Common.{Bool, ap, refl, subst, sym}
 use Rattle.std.specs.Prelude.{Err}
 use Rattle.nim_job.specs.Serial.{serial_of}
 use Rattle.nim_top.specs.Answer.{status_of}
-use Rattle.nim_top.specs.Parts.{IsPlanOf, Reads, SumsUp}
+use Rattle.nim_top.specs.Parts.{IsPlanOf, ReadsPlan, SumsUp}
 use Rattle.nim_top.specs.Texts.{AreOf}
 use Rattle.nim_top.specs.Words.{texts_of}
 use Rattle.nim_top.specs.declared.verb.Verb.TheVariants.{Replay}
@@ -43,5 +43,5 @@ returns-clause-ends g c =
     (ends_refused Replay words told (g.L.Files.told c.load.new.files)
     (g.L.Files.faults c.args.files.now) (g.L.Files.faults c.load.new.files) (g.K.Sink.written c.args.out.now) (g.K.Sink.faults c.args.out.now)
     c.in-Err-read.fault c.refused.result c.in-Ok.ensures.accepted c.in-Ok.ensures.quiet
-    (texts_more told Replay words (AreOf c.in-Ok.inputs) (λ t. Reads t (Err c.in-Err-read.fault)) c.in-Err-read.ensures.reads
+    (texts_more told Replay words (AreOf c.in-Ok.inputs) (λ t. ReadsPlan t (Err c.in-Err-read.fault)) c.in-Err-read.ensures.reads
     c.in-Ok.ensures.inputs) c.refused.ensures)

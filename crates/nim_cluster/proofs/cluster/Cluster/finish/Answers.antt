@@ -1,7 +1,7 @@
 use Rattle.std.proofs.Common.{arith, refl, subst}
 use Rattle.std.specs.Vec.{with_item}
 use Rattle.nim_lockstep.specs.Cluster.{ClusterState}
-use Rattle.nim_cluster.specs.Stands.{Stands}
+use Rattle.nim_cluster.specs.Stands.{ClusterStands}
 use Rattle.nim_cluster.proofs.Answered.{when_ok}
 use Rattle.nim_cluster.proofs.Events.{finished_nobody, finishing}
 use Rattle.nim_cluster.proofs.Nodes.{got}
@@ -22,4 +22,4 @@ returns-clause-stands c = λ s stands enabled.
     (got old.nodes.items c.args.worker kept (omega (arith, c.if-index-len.false, c.len.ensures, old.nodes.ok.0)) c.index_mut.ensures.value) refl
     (λ node b is out. c.in_ok-outs.ensures c.args.worker node b is out) in
     when_ok c.send.result (c.send.ensures.stands finished.between finished.stands) (λ ok after.
-    subst (λ (t : ClusterState). Stands c.send.new.self t) finished.sent after)
+    subst (λ (t : ClusterState). ClusterStands c.send.new.self t) finished.sent after)

@@ -3,14 +3,14 @@ use Rattle.std.specs.Prelude.{OnOk}
 use Rattle.std.specs.Vec.{with_item}
 use Rattle.nim_lockstep.specs.Cluster.{Node}
 use Rattle.nim_lockstep.specs.Events.{at_node}
-use Rattle.nim_cluster.specs.Stands.{Stands}
+use Rattle.nim_cluster.specs.Stands.{ClusterStands}
 use Rattle.nim_cluster.proofs.Nodes.{stands_at, unchanged}
 use Rattle.nim_cluster.proofs.cluster.Cluster.put_order.Goals as goal
 
 pub returns-clause-stands : goal.returns-clause-stands
 returns-clause-stands c = λ s stands.
     let old = c.args.self.now in
-    subst (λ (n : ℕ). OnOk c.put_order.result (Stands (record old { nodes = with_item old.nodes c.from-index.result c.put_order.new.self })
+    subst (λ (n : ℕ). OnOk c.put_order.result (ClusterStands (record old { nodes = with_item old.nodes c.from-index.result c.put_order.new.self })
     (at_node (λ (node : Node). record node { orders = node.orders ++ c.args.order ∷ [] }) n s))) c.from-index.ensures
     (stands_at c.put_order.result old (with_item old.nodes c.from-index.result c.put_order.new.self) s c.from-index.result c.index_mut.result.now
     c.put_order.new.self

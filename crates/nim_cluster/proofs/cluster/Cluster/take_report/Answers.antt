@@ -6,7 +6,7 @@ use Rattle.nim_course.specs.Controller.{Controller}
 use Rattle.nim_course.specs.Reports.{after_report}
 use Rattle.nim_lockstep.specs.Events.{passed}
 use Rattle.nim_cluster.specs.declared.node.Node.{Node}
-use Rattle.nim_cluster.specs.Stands.{Stands, frames_in}
+use Rattle.nim_cluster.specs.Stands.{ClusterStands, queued_frames}
 use Rattle.nim_cluster.proofs.Events.{reported, reported_nobody, unreported}
 use Rattle.nim_cluster.proofs.Links.{reported_node, same_node}
 use Rattle.nim_cluster.proofs.Nodes.{got, same_got}
@@ -22,7 +22,7 @@ returns-clause-stands c = λ s stands.
     let same = same_got old.nodes.items c.args.worker c.index.result.now kept below c.index.ensures c.index_mut.ensures.value in
     let control : c.on_report.new.self ≡ after_report old.control kept.core.worker c.in-Some.report =
     c.on_report.ensures ∙ ap (λ (w : Worker). after_report old.control w c.in-Some.report) (c.worker-from.ensures ∙ ap (λ (n : Node). n.core.worker) same) in
-    subst (λ (k : Controller). Stands (record old { nodes = with_item old.nodes c.args.worker new; control = k }) (passed s (Report c.args.worker)))
+    subst (λ (k : Controller). ClusterStands (record old { nodes = with_item old.nodes c.args.worker new; control = k }) (passed s (Report c.args.worker)))
     (sym control)
     (reported old (with_item old.nodes c.args.worker new) s c.args.worker kept new c.in-Some.report new.reports.items stands at c.in-Some.ensures.took refl
     (λ node is. reported_node c.args.worker kept new node is c.take_report.ensures.rest))
@@ -41,7 +41,7 @@ returns-in_default-clause-stands c = λ s stands.
       batch = ap (λ (n : Node). n.batch) rest;
       orders = ap (λ (n : Node). n.orders.items) rest;
       reports = c.in_default.ensures.took.1 ∙ sym c.in_default.ensures.took.0;
-      frames = ap (λ (n : Node). frames_in n.frames.items) rest;
+      frames = ap (λ (n : Node). queued_frames n.frames.items) rest;
       waits = ap (λ (n : Node). n.frames_wait) rest;
     }))
 

@@ -9,7 +9,7 @@ pub returns-then-not-busy : goal.returns-then-not-busy
 returns-then-not-busy c = λ number node is may.
     let old = c.args.self.now in
     let none = none_out (worker_of number) old.core.stale old.batch node.batch is.batch (begin_none c.args.most node may) in
-    let stands = subst (λ (out : Option Batch). worker.Stands old.core out node.happened) none is.core in
+    let stands = subst (λ (out : Option Batch). worker.CoreStands old.core out node.happened) none is.core in
     begun_node number c.args.most old _ c.begin.result node is none
     (record {
       stands = c.begin.ensures.stands node.happened stands;

@@ -2,7 +2,7 @@ use Rattle.std.proofs.Common.{◌≡◌, ◌∙◌, ◌<◌, [], Global, List, S
 use Rattle.std.specs.declared.collections.VecDeque.{VecDeque}
 use Rattle.std.specs.Vec.{with_item}
 use Rattle.nim_message.specs.declared.frame.Data.{Data}
-use Rattle.nim_cluster.specs.Stands.{frames_in}
+use Rattle.nim_cluster.specs.Stands.{queued_frames}
 use Rattle.nim_cluster.proofs.Answered.{when_ok}
 use Rattle.nim_cluster.proofs.Links.{framed_node, frames_are, same_frames, unframed_node}
 use Rattle.nim_cluster.proofs.Nodes.{empty_of, got}
@@ -20,7 +20,7 @@ returns-in-Some c = λ number node is.
     c.in-Some.frame
     c.index_mut.result.now c.pop_front.new.self is at c.in-Some.ensures.items refl
     (record { stands = stands; stale = c.on_data.ensures.stale; worker = c.on_data.ensures.worker }) refl refl refl
-    (λ no other. ap (λ (queues : List (VecDeque Data Global)). get_or (frames_in queues) other []) (sym c.as_slice.ensures.value)
+    (λ no other. ap (λ (queues : List (VecDeque Data Global)). get_or (queued_frames queues) other []) (sym c.as_slice.ensures.value)
     ∙ c.any_frames-self.ensures no other))
 
 pub returns-in-None : goal.returns-in-None

@@ -2,8 +2,8 @@ use Rattle.std.proofs.Common.{◌≡◌, ◌∙◌, ℕ, ℤ, List, [], map, ap,
 use Rattle.std.specs.Prelude.{slice_index_or}
 use Rattle.std.specs.List.{list_all}
 use Rattle.nim_base.specs.declared.task.TaskForm.{TaskForm}
-use Rattle.nim_job.specs.Tasks.{block_forms_of, task_of}
-use Rattle.nim_job.specs.Whole.{is_task}
+use Rattle.nim_job.specs.Tasks.{block_forms_of, task_with_args}
+use Rattle.nim_job.specs.Whole.{is_whole_task}
 use Rattle.nim_course.specs.declared.pending.Pending.{Pending}
 use Rattle.nim_control.specs.contracts.controller.ControllerCore.{the_view}
 use Rattle.nim_control.proofs.Forms.{forms_at, forms_fit}
@@ -22,7 +22,7 @@ give_block-requires-clause-fit c =
     let is = c.forms_of-forms.ensures ∙ ap (λ (all : List (List TaskForm)). slice_index_or all c.in-Block.block []) c.as_slice.ensures.value in
     let forms = forms_fit c.self.inside.job c.self.inside.forms.items c.in-Block.block c.as_slice-in-Block.result.now c.forms_of-forms.result.now
     c.self.invariant.1.whole c.self.invariant.0.0 is in
-    ap (λ (n : ℕ). list_all (is_task n) (map (task_of c.as_slice-in-Block.result.now) c.forms_of-forms.result.now)) c.self.invariant.1.objects ∙ forms.fit
+    ap (λ (n : ℕ). list_all (is_whole_task n) (map (task_with_args c.as_slice-in-Block.result.now) c.forms_of-forms.result.now)) c.self.invariant.1.objects ∙ forms.fit
 
 pub returns-in_ok-push_open-clause-orders : goal.returns-in_ok-push_open-clause-orders
 returns-in_ok-push_open-clause-orders c = λ waits.

@@ -1,7 +1,7 @@
 use Rattle.std.proofs.Common.{◌∙◌, nat_eq, refl, subst, sym, inl, inr}
 use Rattle.std.specs.HashMap.{get}
 use Rattle.nim_command.specs.Waits.{Member}
-use Rattle.nim_queue.specs.Stands.{Keeps}
+use Rattle.nim_queue.specs.Stands.{KeepsGroups}
 use Rattle.nim_queue.specs.declared.waiting.Waiting.{Waiting}
 use Rattle.nim_queue.proofs.Completing.{completed, nothing_kept, option_cases, stands_still}
 use Rattle.nim_queue.proofs.Looking.{told_of}
@@ -15,7 +15,7 @@ returns-clause-stands c groups done stands =
     let free = c.free.ensures.released old.given (opened stands).released in
     elim (option_cases (get nat_eq old.waiting c.args.ticket)) [
       | inl none ↦
-          closed (subst (Keeps new groups) (sym (nothing_kept old groups done c.args.ticket (opened stands) none))
+          closed (subst (KeepsGroups new groups) (sym (nothing_kept old groups done c.args.ticket (opened stands) none))
           (stands_still old new groups done (opened stands) (c.free.ensures.absent none) (λ t s. refl) (λ t s now. refl) free (opened stands).brief refl refl
           refl))
       | inr some ↦ closed (completed old new groups done c.args.ticket some.0 (opened stands) some.1 (c.free.ensures.gone some.0 some.1) free (λ s. refl) refl

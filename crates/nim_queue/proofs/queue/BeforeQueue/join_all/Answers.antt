@@ -1,6 +1,6 @@
 use Rattle.std.proofs.Common.{◌≡◌, ◌∙◌, ◌∷◌, [], ◌++◌, List, length, ap, sym, arith, rules, subst}
 use Rattle.std.proofs.lemmas.List.{append-nil, append_assoc, length-append}
-use Rattle.nim_queue.specs.Midway.{HasRoom, IsMidway}
+use Rattle.nim_queue.specs.Midway.{HasRoomForArrived, IsMidway}
 use Rattle.nim_queue.specs.declared.arrivals.Arrival.{Arrival}
 use Rattle.nim_queue.proofs.Linking.{nil_of}
 use Rattle.nim_queue.proofs.Taking.{begun_midway, stepped}
@@ -23,7 +23,7 @@ loop-arrival-preserved c =
     record {
       midway = λ groups done any room stands.
           stepped c.args.self.now c.loop-arrival.self c.join.new.self past rest a groups done any
-          (subst (HasRoom c.args.self.now) (sym whole) room) stands (c.loop-arrival.invariant.midway groups done any room stands) c.join.ensures.waiting
+          (subst (HasRoomForArrived c.args.self.now) (sym whole) room) stands (c.loop-arrival.invariant.midway groups done any room stands) c.join.ensures.waiting
           c.join.ensures.slots
           c.join.ensures.released c.join.ensures.capacity c.join.ensures.spare c.join.ensures.given c.join.ensures.groups;
       given = omega (arith, c.join.ensures.given, c.loop-arrival.invariant.given, length-append past (a ∷ []));

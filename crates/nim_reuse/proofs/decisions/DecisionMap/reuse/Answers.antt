@@ -4,7 +4,7 @@ use Rattle.nim_place.specs.Directed.{Directed}
 use Rattle.nim_reuse.specs.declared.decided.Decided.TheVariants.{Installed, Open}
 use Rattle.nim_reuse.specs.declared.reused.Reused.{Reused}
 use Rattle.nim_reuse.specs.Decisions.{Decisions}
-use Rattle.nim_reuse.specs.Reuse.{awaited_of, decisions_at, decisions_by, key_at, orders_at, orders_by, patched_by, reused_at, template_at}
+use Rattle.nim_reuse.specs.Reuse.{awaited_of, decisions_at, decisions_by, patch_key_at, orders_at, orders_by, patched_by, reused_at, template_at}
 use Rattle.nim_reuse.proofs.Steps.{set_again}
 use Rattle.nim_reuse.proofs.decisions.DecisionMap.reuse.Goals as goal
 
@@ -15,7 +15,7 @@ template_is c = rw (c.in_ok-ready.ensures, c.objects.ensures, c.take-decided.ens
 pub returns-clause-orders : goal.returns-clause-orders
 returns-clause-orders c =
     let same : orders_by (length c.args.live.now) c.args.at.now c.args.args.now c.is_new-is_new.result
-    (patched_by (key_at c.take-decided.new.self c.args.at.now.block) c.args.map.now c.take-decided.new.self.patches c.in_ok-ready.ready)
+    (patched_by (patch_key_at c.take-decided.new.self c.args.at.now.block) c.args.map.now c.take-decided.new.self.patches c.in_ok-ready.ready)
     c.args.map.now c.in_ok-ready.ready
     ≡ orders_at c.args.place.now c.args.live.now c.args.at.now c.args.args.now c.args.map.now c.args.self.now =
     rw (c.is_new-is_new.ensures, c.take-decided.ensures.left, template_is c, c.take-decided.ensures.decided) refl in
@@ -27,7 +27,7 @@ returns-clause-reused c =
       awaited = awaited_of (length c.args.live.now) c.in_ok-ready.ready;
       is_new = c.is_new-is_new.result;
       patched =
-          patched_by (key_at c.take-decided.new.self c.args.at.now.block) c.args.map.now c.take-decided.new.self.patches c.in_ok-ready.ready;
+          patched_by (patch_key_at c.take-decided.new.self c.args.at.now.block) c.args.map.now c.take-decided.new.self.patches c.in_ok-ready.ready;
     } in
     let same : given ≡ reused_at c.args.place.now c.args.live.now c.args.at.now c.args.map.now c.args.self.now =
     rw (c.is_new-is_new.ensures, c.take-decided.ensures.left, template_is c, c.take-decided.ensures.decided) refl in
@@ -38,7 +38,7 @@ returns-clause-decisions c =
     let block : ℕ = c.args.at.now.block in
     let template : WorkerTemplate = template_at c.args.place.now c.args.live.now c.args.at.now c.args.map.now c.args.self.now in
     let same : decisions_by block
-    (patched_by (key_at c.take-decided.new.self block) c.args.map.now c.take-decided.new.self.patches c.in_ok-ready.ready)
+    (patched_by (patch_key_at c.take-decided.new.self block) c.args.map.now c.take-decided.new.self.patches c.in_ok-ready.ready)
     c.args.map.now c.in_ok-ready.ready c.take-decided.new.self
     ≡ decisions_at c.args.place.now c.args.live.now c.args.at.now c.args.map.now c.args.self.now =
     rw (c.take-decided.ensures.left, template_is c, set_again c.args.self.now.blocks block Open (Installed template)) refl in

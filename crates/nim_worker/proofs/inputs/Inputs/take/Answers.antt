@@ -2,7 +2,7 @@ use Rattle.std.proofs.Common.{get_or, ap, arith, ◌∙◌, Option}
 use Rattle.nim_base.specs.declared.number.Slot.{Slot}
 use Rattle.nim_store.specs.declared.held.Held.{Held}
 use Rattle.nim_store.specs.Stored.{slot_at}
-use Rattle.nim_history.specs.Kept.{content_seen, seen}
+use Rattle.nim_history.specs.Kept.{content_seen, held_or_empty}
 use Rattle.nim_worker.proofs.GivenBack.{among_at, fits_more, pushed_map, reads_of-push}
 use Rattle.nim_worker.proofs.inputs.Inputs.take.Goals as goal
 
@@ -20,8 +20,8 @@ loop-slot-preserved c =
       params = inv.params;
       values = rw c.push_reserved.ensures.items
           (reads_of-push _ _ _ _ read.more inv.fit
-          ∙ pushed_map (λ (slot : Slot). (seen before slot).value) c.args.reads.now c.loop-slot.slot-index first _ _ c.loop-slot-test.true inv.values
-          (read.value ∙ ap (λ (f : Slot → Option Held). (seen f slot).value) inv.back));
+          ∙ pushed_map (λ (slot : Slot). (held_or_empty before slot).value) c.args.reads.now c.loop-slot.slot-index first _ _ c.loop-slot-test.true inv.values
+          (read.value ∙ ap (λ (f : Slot → Option Held). (held_or_empty f slot).value) inv.back));
       contents = rw c.push_reserved-in-loop-slot.ensures.items
           (pushed_map (content_seen before) c.args.reads.now c.loop-slot.slot-index first _ _ c.loop-slot-test.true inv.contents
           (read.content ∙ ap (λ (f : Slot → Option Held). content_seen f slot) inv.back));

@@ -2,14 +2,14 @@ use Rattle.std.proofs.Common.{◌≡◌, ◌∙◌, true, List, [], Option, None
 use Rattle.nim_history.specs.History.{Happening, state_of}
 use Rattle.nim_worker.specs.declared.room.Room.{Room}
 use Rattle.nim_worker.specs.declared.worker.WorkerCore.{WorkerCore}
-use Rattle.nim_worker.specs.Stands.{IsBeginning, Stands, tickets_of}
+use Rattle.nim_worker.specs.Stands.{IsBeginning, CoreStands, tickets_of}
 use Rattle.nim_worker.proofs.Begun.{begins_none, none_begun, reads_begun, stands_begun}
 use Rattle.nim_worker.proofs.Released.{none_may}
 use Rattle.nim_worker.proofs.Runs.{works_run}
 use Rattle.nim_worker.proofs.worker.WorkerCore.begin.Goals as goal
 
 -- no work is out of a core whose room was taken
-room_taken : (core : WorkerCore) (room : Option Room) (history : List Happening) → Stands core None history
+room_taken : (core : WorkerCore) (room : Option Room) (history : List Happening) → CoreStands core None history
     → IsBeginning (record core { room = room; busy = true }) [] (state_of history)
 room_taken core room history stands =
     let has = stands.at.has in

@@ -8,10 +8,10 @@ use Rattle.nim_store.specs.declared.key.Key.{Key}
 use Rattle.nim_store.specs.Keys.{key_cmp}
 use Rattle.nim_store.specs.Stored.{slot_at}
 use Rattle.nim_history.specs.declared.out.Out.{Out}
-use Rattle.nim_history.specs.History.{key_received, value_for}
+use Rattle.nim_history.specs.History.{key_received, value_received}
 use Rattle.nim_history.specs.Kept.{kept_by, own_outs}
 use Rattle.nim_worker.specs.declared.head.GroupHead.{GroupHead}
-use Rattle.nim_worker.specs.Admitted.{head_of}
+use Rattle.nim_worker.specs.Admitted.{group_head}
 use Rattle.nim_worker.specs.Chains.{AreWorks}
 use Rattle.nim_worker.specs.Finishing.{through_of}
 use Rattle.nim_worker.specs.Leaves.{IsHeadOf}
@@ -25,7 +25,7 @@ returns-clause-left c = λ state asked begun more works same_inbox same_command 
     record { epoch = at_epoch; instance = at_instance; single = ap (λ (h : GroupHead). h.single) same_head } in
     let all = c.args.self.now.store.shapes in
     let is : begun.kind ≡ c.args.ended.command.kind = same_kind ∙ ap (λ (k : Command). k.kind) (sym same_command) in
-    let frame : c.take_frame-frame.result ≡ value_for state asked =
+    let frame : c.take_frame-frame.result ≡ value_received state asked =
     c.take_frame-frame.ensures.value asked.group at_epoch at_instance
     ∙ ap₂ (λ (inbox : map.FinMap key_cmp Grid) (k : Command). option_and_then (λ (key : Key). map.get inbox key) (key_received asked.group k.id k.kind))
     same_inbox same_command in
@@ -42,5 +42,5 @@ returns-clause-left c = λ state asked begun more works same_inbox same_command 
       given = c.in_ok-tell_through.ensures
           ∙ ap₂ (λ (outs : List Out) (h : GroupHead). outs ++ through_of h c.args.ended.through)
           (c.in_ok-give.ensures ∙ ap (λ (out : List Out). c.args.outs.now.items ++ out) told) same_head
-          ∙ append_assoc c.args.outs.now.items (own_outs asked.group asked.command.kind state.slots) (through_of (head_of asked.group) c.args.ended.through);
+          ∙ append_assoc c.args.outs.now.items (own_outs asked.group asked.command.kind state.slots) (through_of (group_head asked.group) c.args.ended.through);
     }

@@ -4,17 +4,17 @@ use Rattle.std.specs.List.{range_with_len}
 use Rattle.std.specs.Vec.{vec_len}
 use Rattle.std.proofs.lemmas.Bool.{and_parts, lt-ltb}
 use Rattle.nim_order.specs.Progress.{is_one_of}
-use Rattle.nim_queue.specs.Stands.{count_of, first_that, is_after, is_released, ready_of}
+use Rattle.nim_queue.specs.Stands.{command_count, first_to_pass, is_after, is_released, ready_of}
 use Rattle.nim_worker.specs.declared.batch.Work.{Work}
 use Rattle.nim_worker.specs.declared.worker.WorkerCore.{WorkerCore}
 use Rattle.nim_worker.proofs.Walk.{IsWalked, walk_begins, walk_ends, walked_on}
 use Rattle.nim_worker.proofs.worker.WorkerCore.take_ready.Goals as goal
 
 -- the first that passes a test passes it
-passes : (test : ℕ → Bool) (xs : List ℕ) (n : ℕ) → first_that test xs ≡ Some n → test n ≡ true
+passes : (test : ℕ → Bool) (xs : List ℕ) (n : ℕ) → first_to_pass test xs ≡ Some n → test n ≡ true
 passes test [] n is = absurd cc
 passes test (x ∷ xs) n is = either (test x) refl (passes test xs n) is where
-  either : (b : Bool) → test x ≡ b → (first_that test xs ≡ Some n → test n ≡ true) → (if b then Some x else first_that test xs) ≡ Some n → test n ≡ true
+  either : (b : Bool) → test x ≡ b → (first_to_pass test xs ≡ Some n → test n ≡ true) → (if b then Some x else first_to_pass test xs) ≡ Some n → test n ≡ true
   either true does more is = let same : x ≡ n = cc in ap test (sym same) ∙ does
   either false not more is = more is
 
@@ -50,7 +50,7 @@ loop-ticket-preserved c =
           ∙ c.in-Some.is in
           let released : is_released groups (is_one_of state.ran) c.in-Some.ticket ≡ true =
           (and_parts (is_after c.loop-ticket.after c.in-Some.ticket) (is_released groups (is_one_of state.ran) c.in-Some.ticket)
-          (passes (λ (ticket : ℕ). is_after c.loop-ticket.after ticket && is_released groups (is_one_of state.ran) ticket) (range_with_len 0 (count_of groups))
+          (passes (λ (ticket : ℕ). is_after c.loop-ticket.after ticket && is_released groups (is_one_of state.ran) ticket) (range_with_len 0 (command_count groups))
           c.in-Some.ticket ready)).1 in
           walked_on state c.args.most c.loop-ticket.after c.in-Some.ticket c.loop-ticket.self c.take_one.new.self c.loop-ticket.works.items
           c.take_one.new.works.items
