@@ -75,7 +75,8 @@ natural-read n fits = natural-digits (decimal n) n (decimal_nonempty n fits) (di
 natural-word : (n : ℕ) → n < 2 ^ 64 → IsWord (decimal n)
 natural-word n fits = digits-word (decimal n) (digits_decimal own n fits)
 
-number-digits : (digits : List ℕ) (n : ℕ) → 0 < length digits → all_ascii_digits digits ≡ true → digits_from 0 digits ≡ n → signed_number_of digits ≡ Some (pos n)
+number-digits : (digits : List ℕ) (n : ℕ) → 0 < length digits → all_ascii_digits digits ≡ true → digits_from 0 digits ≡ n
+    → signed_number_of digits ≡ Some (pos n)
 number-digits [] n some are is = absurd (omega arith)
 number-digits (digit ∷ digits) n some are is =
     let range : IsInRange 48 57 digit = digit_at (digit ∷ digits) 0 (own.to (digit ∷ digits) are) (omega arith) in
@@ -105,7 +106,8 @@ numbers-read (cell ∷ row) small = rw (number-read cell (All-head IsSmall cell 
 numbers-words : (row : List ℤ) → All IsSmall row → All IsWord (map signed_decimal row)
 numbers-words row small = All-map IsWord signed_decimal row (All-weaker IsSmall (λ cell. IsWord (signed_decimal cell)) number-word row small)
 
-row-read : (row : List ℤ) (width : ℕ) → 1 ≤ width → length row ≡ width → All IsSmall row → number_row width (join_with_byte 32 (map signed_decimal row)) ≡ Some row
+row-read : (row : List ℤ) (width : ℕ) → 1 ≤ width → length row ≡ width → All IsSmall row
+    → number_row width (join_with_byte 32 (map signed_decimal row)) ≡ Some row
 row-read row width wide whole small =
     let some : 0 < length (map signed_decimal row) = omega (arith, length-map row signed_decimal) in
     let even : (length row == width) ≡ true = eq-eqb (length row) width whole in

@@ -36,7 +36,8 @@ pub fn value_text(
 
 fn push_rows(text: &mut Vec<u8>, cells: &[i64], rows: u32, width: u32) -> Result<(), NoMemory>
     requires { rows * width ≤ length cells.now }
-    ensures written { OnOk result (text.new.items ≡ text.old.items ++ flat_map row_text (rows_of rows width cells.now)) }
+    ensures written { OnOk result
+        (text.new.items ≡ text.old.items ++ flat_map row_text (rows_of rows width cells.now)) }
     ensures fit { OnOk result (All (All (FitsSigned w64)) (rows_of rows width cells.now)) }
 {
     let mut rest = cells;

@@ -25,13 +25,13 @@ use Rattle.nim_parse.specs.declared.sections.Statement.TheVariants.{Do, Let, Get
 use Rattle.nim_parse.specs.declared.sections.Sections.{Sections}
 use Rattle.nim_parse.specs.Nesting.{may_stand, nested, open_after}
 use Rattle.nim_check.specs.declared.body.Names.{Names}
-use Rattle.nim_check.specs.declared.past.Past.{Past}
+use Rattle.nim_check.specs.declared.scope.Scope.{Scope}
 use Rattle.nim_check.specs.Body.{Body, atom_of, bodies_of, body_of, cond_of, first_body, first_of, no_body, rest_of, with_line}
 use Rattle.nim_check.specs.Made.{block_names, block_of, var_names}
 use Rattle.nim_check.specs.Names.{Word, place_in}
 use Rattle.nim_check.specs.Refusals.{first_refusal}
 use Rattle.nim_check.specs.Rules.{has_block, has_variable, is_known, opens, read_by, rule_41, rule_44, rule_47, rule_52, rule_53, rule_54, rule_of}
-use Rattle.nim_check.specs.Sites.{at_statement, no_past, past_of, past_with, statement_sites}
+use Rattle.nim_check.specs.DriverPlaces.{at_statement, empty_scope, places_of_statements, scope_of, scope_with}
 use Rattle.nim_check.proofs.Counts.{Begins, known_atoms, known_cond, known_value, one_known, read_begins, set_begins, sets}
 use Rattle.nim_check.proofs.Scanned.{Fits, checkpoint_scan, do_scan, else_fits, else_scan, end_fits, get_scan, if_bodies, if_scan, let_scan, loop_scan, no_second, opened_fits, output_scan, put_fits, put_scan, scan_bodies, turns_scan, while_scan}
 
@@ -46,32 +46,32 @@ abbrev pub names_for : Sections → List Word → Names
 names_for tree all = record { vars = var_names tree.vars; blocks = block_names tree.blocks; scalars = all }
 
 -- what the rules leave of a statement
-record Sound (tree : Sections) (past : Past) (s : Statement) : Type 0 where
-  pub few : nat_lt 64 (length (past_with past s).scalars) ≡ false
+record Sound (tree : Sections) (scope : Scope) (s : Statement) : Type 0 where
+  pub few : nat_lt 64 (length (scope_with scope s).scalars) ≡ false
   pub named : has_variable (var_names tree.vars) s ≡ true
   pub called : has_block tree.blocks s ≡ true
-  pub set : list_all (is_known past.scalars) (read_by s) ≡ true
-  pub deep : (opens s && nat_le 16 past.depth) ≡ false
+  pub set : list_all (is_known scope.scalars) (read_by s) ≡ true
+  pub deep : (opens s && nat_le 16 scope.depth) ≡ false
 
 not_false : (b : Bool) → not b ≡ false → b ≡ true
 not_false true h = refl
 not_false false h = cc
 
-sound : (tree : Sections) (past : Past) (line : Line) → rule_of (at_statement tree past line) ≡ None → Sound tree past line.statement
+sound : (tree : Sections) (scope : Scope) (line : Line) → rule_of (at_statement tree scope line) ≡ None → Sound tree scope line.statement
 unfolding rule_of
-sound tree past line h =
-    let site = at_statement tree past line in
-    let a = later (rule_41 site) 41 _ h in
-    let b = later (rule_44 site) 44 _ a in
-    let d = later (rule_47 site) 47 _ b in
-    let e = later (rule_52 site) 52 _ d in
-    let f = later (rule_53 site) 53 _ e in
+sound tree scope line h =
+    let place = at_statement tree scope line in
+    let a = later (rule_41 place) 41 _ h in
+    let b = later (rule_44 place) 44 _ a in
+    let d = later (rule_47 place) 47 _ b in
+    let e = later (rule_52 place) 52 _ d in
+    let f = later (rule_53 place) 53 _ e in
     record {
-      few = passes (rule_44 site) 44 _ a;
-      named = not_false _ (passes (rule_47 site) 47 _ b);
-      called = not_false _ (passes (rule_52 site) 52 _ d);
-      set = not_false _ (passes (rule_53 site) 53 _ e);
-      deep = passes (rule_54 site) 54 _ f;
+      few = passes (rule_44 place) 44 _ a;
+      named = not_false _ (passes (rule_47 place) 47 _ b);
+      called = not_false _ (passes (rule_52 place) 52 _ d);
+      set = not_false _ (passes (rule_53 place) 53 _ e);
+      deep = passes (rule_54 place) 54 _ f;
     }
 
 shallow : (depth d n : ℕ) → depth ≡ n → d ≡ n → nat_le 16 depth ≡ false → nat_lt d 16 ≡ true
@@ -114,68 +114,70 @@ step_fits names (o ∷ os) End bs may f = end_fits o os bs f
 step_fits names os Checkpoint bs may f = put_fits stmt.Checkpoint os bs f
 step_fits names os (Output variable) bs may f = put_fits (stmt.Output (place_in names.vars variable)) os bs f
 
-step_scan : (tree : Sections) (job : Job) (all : List Word) (past : Past) (os : List Open) (s : Statement) (bs : List Body) → Ties tree job → Sound tree past s
-    → Begins (past_with past s).scalars all → past.depth ≡ length os → may_stand os s ≡ true → Fits (nested s os) bs
-    → scan_bodies job (with_line (names_for tree all) s bs) (length past.scalars) ≡ scan_bodies job bs (length (past_with past s).scalars)
-step_scan tree job all past os (Do block arguments) bs ties sound begins deep may f =
+step_scan : (tree : Sections) (job : Job) (all : List Word) (scope : Scope) (os : List Open) (s : Statement) (bs : List Body) → Ties tree job
+    → Sound tree scope s
+    → Begins (scope_with scope s).scalars all → scope.depth ≡ length os → may_stand os s ≡ true → Fits (nested s os) bs
+    → scan_bodies job (with_line (names_for tree all) s bs) (length scope.scalars) ≡ scan_bodies job bs (length (scope_with scope s).scalars)
+step_scan tree job all scope os (Do block arguments) bs ties sound begins deep may f =
     let names = names_for tree all in
     let p = place_in (block_names tree.blocks) block in
-    put_scan job (stmt.Do p (map (atom_of names) arguments)) os bs (length past.scalars) (length past.scalars) f
-    (λ d. do_scan job p (map (atom_of names) arguments) d (length past.scalars)
-    (and_from (is_call job p (length (map (atom_of names) arguments))) (list_all (is_atom (length past.scalars)) (map (atom_of names) arguments))
-    (called_there tree job names block arguments ties sound.called) (known_atoms names past.scalars arguments begins sound.set)))
-step_scan tree job all past os (Let name value) bs ties sound begins deep may f =
+    put_scan job (stmt.Do p (map (atom_of names) arguments)) os bs (length scope.scalars) (length scope.scalars) f
+    (λ d. do_scan job p (map (atom_of names) arguments) d (length scope.scalars)
+    (and_from (is_call job p (length (map (atom_of names) arguments))) (list_all (is_atom (length scope.scalars)) (map (atom_of names) arguments))
+    (called_there tree job names block arguments ties sound.called) (known_atoms names scope.scalars arguments begins sound.set)))
+step_scan tree job all scope os (Let name value) bs ties sound begins deep may f =
     let names = names_for tree all in
-    put_scan job (stmt.Let (place_in all name) (first_of names value) (rest_of names value)) os bs (length past.scalars)
-    (length (past_with past (Let name value)).scalars) f
-    (λ d. let_scan job (place_in all name) (first_of names value) (rest_of names value) d (length past.scalars)
-    (known_value names past.scalars value (read_begins past (Let name value) all begins) sound.set)
-    ∙ sets past.scalars all name begins sound.few)
-step_scan tree job all past os (Get name variable part row column) bs ties sound begins deep may f =
-    put_scan job (stmt.Get (place_in all name) (place_in (var_names tree.vars) variable) part row column) os bs (length past.scalars)
-    (length (past_with past (Get name variable part row column)).scalars) f
-    (λ d. get_scan job (place_in all name) (place_in (var_names tree.vars) variable) part row column d (length past.scalars)
+    put_scan job (stmt.Let (place_in all name) (first_of names value) (rest_of names value)) os bs (length scope.scalars)
+    (length (scope_with scope (Let name value)).scalars) f
+    (λ d. let_scan job (place_in all name) (first_of names value) (rest_of names value) d (length scope.scalars)
+    (known_value names scope.scalars value (read_begins scope (Let name value) all begins) sound.set)
+    ∙ sets scope.scalars all name begins sound.few)
+step_scan tree job all scope os (Get name variable part row column) bs ties sound begins deep may f =
+    put_scan job (stmt.Get (place_in all name) (place_in (var_names tree.vars) variable) part row column) os bs (length scope.scalars)
+    (length (scope_with scope (Get name variable part row column)).scalars) f
+    (λ d. get_scan job (place_in all name) (place_in (var_names tree.vars) variable) part row column d (length scope.scalars)
     (var_there tree job variable ties sound.named)
-    ∙ sets past.scalars all name begins sound.few)
-step_scan tree job all past os (Loop turns) bs ties sound begins deep may f =
+    ∙ sets scope.scalars all name begins sound.few)
+step_scan tree job all scope os (Loop turns) bs ties sound begins deep may f =
     let names = names_for tree all in
-    turns_scan job (λ (b : Body). stmt.Loop (atom_of names turns) b.first) os bs (length past.scalars) f
-    (λ b d there. loop_scan job (atom_of names turns) b.first d (length past.scalars) (one_known names past.scalars turns begins sound.set)
-    (shallow past.depth d (length os) deep there sound.deep))
-step_scan tree job all past os (While condition) bs ties sound begins deep may f =
+    turns_scan job (λ (b : Body). stmt.Loop (atom_of names turns) b.first) os bs (length scope.scalars) f
+    (λ b d there. loop_scan job (atom_of names turns) b.first d (length scope.scalars) (one_known names scope.scalars turns begins sound.set)
+    (shallow scope.depth d (length os) deep there sound.deep))
+step_scan tree job all scope os (While condition) bs ties sound begins deep may f =
     let names = names_for tree all in
-    turns_scan job (λ (b : Body). stmt.While (cond_of names condition) b.first) os bs (length past.scalars) f
-    (λ b d there. while_scan job (cond_of names condition) b.first d (length past.scalars) (known_cond names past.scalars condition begins sound.set)
-    (shallow past.depth d (length os) deep there sound.deep))
-step_scan tree job all past os (If condition) bs ties sound begins deep may f =
+    turns_scan job (λ (b : Body). stmt.While (cond_of names condition) b.first) os bs (length scope.scalars) f
+    (λ b d there. while_scan job (cond_of names condition) b.first d (length scope.scalars) (known_cond names scope.scalars condition begins sound.set)
+    (shallow scope.depth d (length os) deep there sound.deep))
+step_scan tree job all scope os (If condition) bs ties sound begins deep may f =
     let names = names_for tree all in
-    if_bodies job (λ (b : Body). stmt.If (cond_of names condition) b.first b.second) os bs (length past.scalars) f
-    (λ b d there. if_scan job (cond_of names condition) b.first b.second d (length past.scalars) (known_cond names past.scalars condition begins sound.set)
-    (shallow past.depth d (length os) deep there sound.deep))
-step_scan tree job all past [] Else bs ties sound begins deep may f = cc
-step_scan tree job all past (opening.Turns ∷ os) Else bs ties sound begins deep may f = cc
-step_scan tree job all past (opening.If ∷ os) Else bs ties sound begins deep may f = else_scan job os bs (length past.scalars) f
-step_scan tree job all past (opening.Else ∷ os) Else bs ties sound begins deep may f = cc
-step_scan tree job all past os End bs ties sound begins deep may f = refl
-step_scan tree job all past os Checkpoint bs ties sound begins deep may f =
-    put_scan job stmt.Checkpoint os bs (length past.scalars) (length past.scalars) f (λ d. checkpoint_scan job d (length past.scalars))
-step_scan tree job all past os (Output variable) bs ties sound begins deep may f =
-    put_scan job (stmt.Output (place_in (var_names tree.vars) variable)) os bs (length past.scalars) (length past.scalars) f
-    (λ d. output_scan job (place_in (var_names tree.vars) variable) d (length past.scalars) (var_there tree job variable ties sound.named))
+    if_bodies job (λ (b : Body). stmt.If (cond_of names condition) b.first b.second) os bs (length scope.scalars) f
+    (λ b d there. if_scan job (cond_of names condition) b.first b.second d (length scope.scalars) (known_cond names scope.scalars condition begins sound.set)
+    (shallow scope.depth d (length os) deep there sound.deep))
+step_scan tree job all scope [] Else bs ties sound begins deep may f = cc
+step_scan tree job all scope (opening.Turns ∷ os) Else bs ties sound begins deep may f = cc
+step_scan tree job all scope (opening.If ∷ os) Else bs ties sound begins deep may f = else_scan job os bs (length scope.scalars) f
+step_scan tree job all scope (opening.Else ∷ os) Else bs ties sound begins deep may f = cc
+step_scan tree job all scope os End bs ties sound begins deep may f = refl
+step_scan tree job all scope os Checkpoint bs ties sound begins deep may f =
+    put_scan job stmt.Checkpoint os bs (length scope.scalars) (length scope.scalars) f (λ d. checkpoint_scan job d (length scope.scalars))
+step_scan tree job all scope os (Output variable) bs ties sound begins deep may f =
+    put_scan job (stmt.Output (place_in (var_names tree.vars) variable)) os bs (length scope.scalars) (length scope.scalars) f
+    (λ d. output_scan job (place_in (var_names tree.vars) variable) d (length scope.scalars) (var_there tree job variable ties sound.named))
 
-step_depth : (past : Past) (s : Statement) (os : List Open) → past.depth ≡ length os → may_stand os s ≡ true → (past_with past s).depth ≡ length (nested s os)
-step_depth past (Do block arguments) os is may = is
-step_depth past (Let name value) os is may = is
-step_depth past (Get name variable part row column) os is may = is
-step_depth past (Loop turns) os is may = omega arith
-step_depth past (While condition) os is may = omega arith
-step_depth past (If condition) os is may = omega arith
-step_depth past Else [] is may = cc
-step_depth past Else (o ∷ os) is may = is
-step_depth past End [] is may = cc
-step_depth past End (o ∷ os) is may = omega arith
-step_depth past Checkpoint os is may = is
-step_depth past (Output variable) os is may = is
+step_depth : (scope : Scope) (s : Statement) (os : List Open) → scope.depth ≡ length os → may_stand os s ≡ true
+    → (scope_with scope s).depth ≡ length (nested s os)
+step_depth scope (Do block arguments) os is may = is
+step_depth scope (Let name value) os is may = is
+step_depth scope (Get name variable part row column) os is may = is
+step_depth scope (Loop turns) os is may = omega arith
+step_depth scope (While condition) os is may = omega arith
+step_depth scope (If condition) os is may = omega arith
+step_depth scope Else [] is may = cc
+step_depth scope Else (o ∷ os) is may = is
+step_depth scope End [] is may = cc
+step_depth scope End (o ∷ os) is may = omega arith
+step_depth scope Checkpoint os is may = is
+step_depth scope (Output variable) os is may = is
 
 -- ---- all lines
 
@@ -188,20 +190,20 @@ stands : (b : Bool) (rest : Option (List Open)) → cond b rest None ≡ Some []
 stands true rest h = (refl, h)
 stands false rest h = cc
 
-all_lines : (tree : Sections) (job : Job) (all : List Word) (lines : List Line) (past : Past) (os : List Open) → Ties tree job
-    → all ≡ (past_of past lines).scalars
-    → past.depth ≡ length os → first_refusal (statement_sites tree past lines) ≡ None → open_after os lines ≡ Some []
-    → Fits os (bodies_of (names_for tree all) lines) × (scan_bodies job (bodies_of (names_for tree all) lines) (length past.scalars) ≡ Some (length all))
-all_lines tree job all [] past os ties ends deep none nests =
+all_lines : (tree : Sections) (job : Job) (all : List Word) (lines : List Line) (scope : Scope) (os : List Open) → Ties tree job
+    → all ≡ (scope_of scope lines).scalars
+    → scope.depth ≡ length os → first_refusal (places_of_statements tree scope lines) ≡ None → open_after os lines ≡ Some []
+    → Fits os (bodies_of (names_for tree all) lines) × (scan_bodies job (bodies_of (names_for tree all) lines) (length scope.scalars) ≡ Some (length all))
+all_lines tree job all [] scope os ties ends deep none nests =
     let closed : os ≡ [] = cc in
     (subst (λ (o : List Open). Fits o (no_body ∷ [])) (sym closed) refl, ap (λ (l : List Word). Some (length l)) (sym ends))
-all_lines tree job all (line ∷ lines) past os ties ends deep none nests =
+all_lines tree job all (line ∷ lines) scope os ties ends deep none nests =
     let s = line.statement in
-    let first = no_rule line.line (rule_of (at_statement tree past line)) (first_refusal (statement_sites tree (past_with past s) lines)) none in
+    let first = no_rule line.line (rule_of (at_statement tree scope line)) (first_refusal (places_of_statements tree (scope_with scope s) lines)) none in
     let may = stands (may_stand os s) (open_after (nested s os) lines) nests in
-    let rest = all_lines tree job all lines (past_with past s) (nested s os) ties ends (step_depth past s os deep may.0) first.1 may.1 in (
+    let rest = all_lines tree job all lines (scope_with scope s) (nested s os) ties ends (step_depth scope s os deep may.0) first.1 may.1 in (
       step_fits (names_for tree all) os s (bodies_of (names_for tree all) lines) may.0 rest.0,
-      step_scan tree job all past os s (bodies_of (names_for tree all) lines) ties (sound tree past line first.0) (set_begins past line lines all ends) deep
+      step_scan tree job all scope os s (bodies_of (names_for tree all) lines) ties (sound tree scope line first.0) (set_begins scope line lines all ends) deep
           may.0 rest.0 ∙ rest.1,
     )
 
@@ -217,11 +219,12 @@ last job (b ∷ []) k f h =
 last job (b ∷ c ∷ bs) k f h = absurd f
 
 -- the statements of a tree that no rule refuses
-pub body_whole : (tree : Sections) (job : Job) → Ties tree job → job.body ≡ body_of (names_for tree (past_of no_past tree.statements).scalars) tree.statements
-    → open_after [] tree.statements ≡ Some [] → first_refusal (statement_sites tree no_past tree.statements) ≡ None → is_some (scalars_set job) ≡ true
+pub body_whole : (tree : Sections) (job : Job) → Ties tree job
+    → job.body ≡ body_of (names_for tree (scope_of empty_scope tree.statements).scalars) tree.statements
+    → open_after [] tree.statements ≡ Some [] → first_refusal (places_of_statements tree empty_scope tree.statements) ≡ None → is_some (scalars_set job) ≡ true
 body_whole tree job ties body nests none =
-    let all = (past_of no_past tree.statements).scalars in
-    let both = all_lines tree job all tree.statements no_past [] ties refl refl none nests in
+    let all = (scope_of empty_scope tree.statements).scalars in
+    let both = all_lines tree job all tree.statements empty_scope [] ties refl refl none nests in
     ap (λ (b : List Stmt). is_some (scan_all (map (scan_of job) b) 0 0)) body
     ∙ ap is_some (last job (bodies_of (names_for tree all) tree.statements) (length all) both.0 both.1)
 

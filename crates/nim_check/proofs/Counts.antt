@@ -17,11 +17,11 @@ use Rattle.nim_parse.specs.declared.sections.Line.{Line}
 use Rattle.nim_parse.specs.declared.sections.Statement.{Statement}
 use Rattle.nim_parse.specs.declared.sections.Statement.TheVariants.{Do, Let, Get, Loop, While, If, Else, End, Checkpoint, Output}
 use Rattle.nim_check.specs.declared.body.Names.{Names}
-use Rattle.nim_check.specs.declared.past.Past.{Past}
+use Rattle.nim_check.specs.declared.scope.Scope.{Scope}
 use Rattle.nim_check.specs.Body.{atom_of, cond_of, first_of, rest_of}
 use Rattle.nim_check.specs.Names.{Word, is_in, place_in}
 use Rattle.nim_check.specs.Rules.{condition_reads, is_known, value_reads}
-use Rattle.nim_check.specs.Sites.{past_of, past_with, with_scalar}
+use Rattle.nim_check.specs.DriverPlaces.{scope_of, scope_with, with_scalar}
 use Rattle.nim_check.proofs.Places.{lt_suc, lt_zero}
 
 -- more words behind change no place
@@ -67,31 +67,31 @@ with_begins xs w =
 begins_trans : (xs ys zs : List Word) → Begins xs ys → Begins ys zs → Begins xs zs
 begins_trans xs ys zs a b = record { more = a.more ++ b.more; is = b.is ∙ ap (λ (l : List Word). l ++ b.more) a.is ∙ append_assoc xs a.more b.more }
 
-pub one_begins : (past : Past) (stmt : Statement) → Begins past.scalars (past_with past stmt).scalars
-one_begins past (Do block arguments) = begins_self past.scalars
-one_begins past (Let name value) = with_begins past.scalars name
-one_begins past (Get name variable part row column) = with_begins past.scalars name
-one_begins past (Loop turns) = begins_self past.scalars
-one_begins past (While condition) = begins_self past.scalars
-one_begins past (If condition) = begins_self past.scalars
-one_begins past Else = begins_self past.scalars
-one_begins past End = begins_self past.scalars
-one_begins past Checkpoint = begins_self past.scalars
-one_begins past (Output variable) = begins_self past.scalars
+pub one_begins : (scope : Scope) (stmt : Statement) → Begins scope.scalars (scope_with scope stmt).scalars
+one_begins scope (Do block arguments) = begins_self scope.scalars
+one_begins scope (Let name value) = with_begins scope.scalars name
+one_begins scope (Get name variable part row column) = with_begins scope.scalars name
+one_begins scope (Loop turns) = begins_self scope.scalars
+one_begins scope (While condition) = begins_self scope.scalars
+one_begins scope (If condition) = begins_self scope.scalars
+one_begins scope Else = begins_self scope.scalars
+one_begins scope End = begins_self scope.scalars
+one_begins scope Checkpoint = begins_self scope.scalars
+one_begins scope (Output variable) = begins_self scope.scalars
 
-all_begins : (past : Past) (lines : List Line) → Begins past.scalars (past_of past lines).scalars
-all_begins past [] = begins_self past.scalars
-all_begins past (line ∷ lines) =
-    begins_trans past.scalars (past_with past line.statement).scalars (past_of (past_with past line.statement) lines).scalars
-    (one_begins past line.statement) (all_begins (past_with past line.statement) lines)
+all_begins : (scope : Scope) (lines : List Line) → Begins scope.scalars (scope_of scope lines).scalars
+all_begins scope [] = begins_self scope.scalars
+all_begins scope (line ∷ lines) =
+    begins_trans scope.scalars (scope_with scope line.statement).scalars (scope_of (scope_with scope line.statement) lines).scalars
+    (one_begins scope line.statement) (all_begins (scope_with scope line.statement) lines)
 
-pub set_begins : (past : Past) (line : Line) (lines : List Line) (all : List Word) → all ≡ (past_of past (line ∷ lines)).scalars
-    → Begins (past_with past line.statement).scalars all
-set_begins past line lines all is =
-    subst (λ (l : List Word). Begins (past_with past line.statement).scalars l) (sym is) (all_begins (past_with past line.statement) lines)
+pub set_begins : (scope : Scope) (line : Line) (lines : List Line) (all : List Word) → all ≡ (scope_of scope (line ∷ lines)).scalars
+    → Begins (scope_with scope line.statement).scalars all
+set_begins scope line lines all is =
+    subst (λ (l : List Word). Begins (scope_with scope line.statement).scalars l) (sym is) (all_begins (scope_with scope line.statement) lines)
 
-pub read_begins : (past : Past) (stmt : Statement) (all : List Word) → Begins (past_with past stmt).scalars all → Begins past.scalars all
-read_begins past stmt all b = begins_trans past.scalars (past_with past stmt).scalars all (one_begins past stmt) b
+pub read_begins : (scope : Scope) (stmt : Statement) (all : List Word) → Begins (scope_with scope stmt).scalars all → Begins scope.scalars all
+read_begins scope stmt all b = begins_trans scope.scalars (scope_with scope stmt).scalars all (one_begins scope stmt) b
 
 -- ---- what is read
 

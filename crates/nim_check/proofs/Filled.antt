@@ -13,12 +13,12 @@ use Rattle.nim_job.specs.declared.job.Var.{Var}
 use Rattle.nim_job.specs.Whole.{is_checked, is_filled, is_loaded, is_whole}
 use Rattle.nim_data.specs.declared.wanted.Wanted.{Wanted}
 use Rattle.nim_data.specs.Parts.{Part}
-use Rattle.nim_data.specs.Wanted.{first_fault, part_heading, header_rule, values_of}
+use Rattle.nim_data.specs.Wanted.{first_fault, part_header, header_rule, values_of}
 use Rattle.nim_check.specs.Loading.{with_values_loaded, given_by, holding, is_load, values_left, want, wanted, wanted_of, wants}
 use Rattle.nim_check.proofs.SameFrame.{same_checked}
 
 -- a part that no rule refuses
-fits_part : (w : Wanted) (part : Part) → header_rule w (part_heading part) ≡ None → is_loaded w.shape part.value ≡ true
+fits_part : (w : Wanted) (part : Part) → header_rule w (part_header part) ≡ None → is_loaded w.shape part.value ≡ true
 unfolding header_rule
 fits_part w part sound = grind (arith, nat_tests)
 
@@ -32,7 +32,7 @@ takes : (end : ℕ) (v : Var) (i n : ℕ) (ws : List Wanted) (parts : List Part)
 takes end v i zero ws parts sound = record { count = refl; whole = refl; later = sound }
 takes end v i (suc n) ws [] sound = absurd (let some : Some (record { line = end; rule = 73 }) ≡ None = sound in cc)
 takes end v i (suc n) ws (part ∷ parts) sound =
-    let now = no_rule part.line (header_rule (want v i) (part_heading part)) (first_fault end (wants v (i + 1) n ++ ws) parts) sound in
+    let now = no_rule part.line (header_rule (want v i) (part_header part)) (first_fault end (wants v (i + 1) n ++ ws) parts) sound in
     let rest = takes end v (i + 1) n ws parts now.1 in
     record {
       count = ap (λ (k : ℕ). suc k) rest.count;
@@ -79,6 +79,7 @@ all_filled end (v ∷ vars) parts sound =
 pub loaded_whole : (end : ℕ) (job : Job) (parts : List Part) → is_checked job ≡ true → first_fault end (wanted job.vars) parts ≡ None
     → is_whole (record job { vars = with_values_loaded job.vars (values_of parts) }) ≡ true
 loaded_whole end job parts checked sound =
-    and_from (is_checked (record job { vars = with_values_loaded job.vars (values_of parts) })) (list_all is_filled (with_values_loaded job.vars (values_of parts)))
+    and_from (is_checked (record job { vars = with_values_loaded job.vars (values_of parts) }))
+    (list_all is_filled (with_values_loaded job.vars (values_of parts)))
     (same_checked job (values_of parts) ∙ checked)
     (all_filled end job.vars parts sound)

@@ -7,7 +7,7 @@ use Rattle.nim_job.specs.declared.job.Var.{Var}
 use Rattle.nim_data.specs.declared.wanted.Wanted.{Wanted}
 use Rattle.nim_data.specs.Parts.{Part}
 use Rattle.nim_data.specs.Wanted.{first_fault, parts_in, refusal_by}
-use Rattle.nim_check.specs.Loading.{with_values_loaded, given_by, gifts, holding, holding_all, values_left, want, wants}
+use Rattle.nim_check.specs.Loading.{with_values_loaded, given_by, parts_by_var, holding, holding_all, values_left, want, wants}
 
 -- the parts of a variable that are still to be loaded, and the next of them
 pub wants_more : (v : Var) (i n : ℕ) → i < n → wants v i (n - i) ≡ want v i ∷ wants v (i + 1) (n - (i + 1))
@@ -21,9 +21,9 @@ holding_none [] = refl
 holding_none (v ∷ vars) = refl
 
 -- what each variable is given makes them the loaded ones
-pub holding_gifts : (vars : List Var) (values : List Grid) → holding_all vars (gifts vars values) ≡ with_values_loaded vars values
-holding_gifts [] values = refl
-holding_gifts (v ∷ vars) values = ap (λ (later : List Var). holding v (given_by v values) ∷ later) (holding_gifts vars (values_left v values))
+pub holding_parts_by_var : (vars : List Var) (values : List Grid) → holding_all vars (parts_by_var vars values) ≡ with_values_loaded vars values
+holding_parts_by_var [] values = refl
+holding_parts_by_var (v ∷ vars) values = ap (λ (later : List Var). holding v (given_by v values) ∷ later) (holding_parts_by_var vars (values_left v values))
 
 -- a file that no rule refuses has parts that none refuses
 pub parts_sound : (end : ℕ) (ws : List Wanted) (outcome : Result (List Part) Refusal) → refusal_by end ws outcome ≡ None

@@ -14,13 +14,13 @@ use Rattle.nim_base.specs.Text.{row_text, text_of}
 use Rattle.nim_base.specs.Value.{Grid}
 use Rattle.nim_lex.specs.Source.{cut, line_at, numbered_lines}
 use Rattle.nim_lex.proofs.SourceSteps.{cut_line, is_inner}
-use Rattle.nim_data.specs.declared.lines.Heading.{Heading}
-use Rattle.nim_data.specs.Lines.{heading, is_bare, is_short_name, row}
+use Rattle.nim_data.specs.declared.lines.Header.{Header}
+use Rattle.nim_data.specs.Lines.{header, is_bare, is_short_name, row}
 use Rattle.nim_data.specs.Parts.{Loaded, Part, part_begun, data_after, data_from, data_rule, lacks, parts_loaded}
 use Rattle.nim_data.proofs.Steps.{refused_later}
 use Rattle.nim_job.proofs.Lists.{list_all_weaker}
 use Rattle.nim_check.specs.Printing.{parts_text}
-use Rattle.nim_check.proofs.PrintedLines.{header_line, heading_read, name_plain, row_read, row_some}
+use Rattle.nim_check.proofs.PrintedLines.{header_line, header_read, name_plain, row_read, row_some}
 use Rattle.nim_check.proofs.PrintedWords.{IsPlain, cell_plain, decimal_plain, is_plain, not_bare}
 
 -- ---- lines
@@ -120,7 +120,7 @@ pub record IsPrintable (grid : Grid) : Type 0 where
   pub even : All (λ (cells : List ℤ). length cells ≡ grid.width) grid.rows
   pub small : All (All IsSmall) grid.rows
 
-header_taken : (st : Loaded) (text : List ℕ) (h : Heading) (number : ℕ) → lacks st.last ≡ false → is_bare text ≡ false → heading text ≡ Some h
+header_taken : (st : Loaded) (text : List ℕ) (h : Header) (number : ℕ) → lacks st.last ≡ false → is_bare text ≡ false → header text ≡ Some h
     → (data_rule st text ≡ None) × (data_after st number text ≡ record { parts = parts_loaded st; last = Some (part_begun number h) })
 unfolding data_rule data_after
 header_taken st text h number closed some read = (rw (some, closed, read) refl, rw (some, closed, read) refl)
@@ -139,7 +139,7 @@ part_read end n at st name part grid rest closed short p is =
     let rows = length grid.rows in
     let line : List ℕ = header_line name part rows grid.width in
     let after : List ℕ = flat_map row_text grid.rows ++ rest in
-    let h : Heading = record { name = name; part = part; rows = rows; width = grid.width } in
+    let h : Header = record { name = name; part = part; rows = rows; width = grid.width } in
     let few = is.few in
     let narrow = is.narrow in
     let begins : text_of name part grid ++ rest ≡ line ++ 10 ∷ after = simp append_assoc in
@@ -147,7 +147,7 @@ part_read end n at st name part grid rest closed short p is =
     (decimal_plain rows (omega arith)) (decimal_plain grid.width (omega arith)) in
     let lines : cut (text_of name part grid ++ rest) ≡ line ∷ cut after = ap cut begins ∙ cut_line line after inner in
     let some : is_bare line ≡ false = not_bare name (32 ∷ (decimal part ++ 32 ∷ (decimal rows ++ 32 ∷ (decimal grid.width ++ [])))) (name_plain name short) in
-    let taken = header_taken st line h n closed some (heading_read name part rows grid.width short p few is.wide narrow) in
+    let taken = header_taken st line h n closed some (header_read name part rows grid.width short p few is.wide narrow) in
     let more =
     rows_read end (n + 1) (at + length line + 1) (parts_loaded st) rows n name part grid.width [] grid.rows rest (omega arith) is.wide is.even is.small in (
       more.0,
@@ -195,6 +195,7 @@ values_read end n at st name k (grid ∷ values) rest closed short few are =
       closed = later_parts.closed;
       parts = later_parts.parts ∙ append_assoc (parts_loaded st) (part_at n name k grid ∷ []) later_parts.new;
       made = (refl, refl, refl, later_parts.made);
-      read = ap (λ (text : List ℕ). data_from end st (numbered_lines n at (cut text))) (append_assoc (text_of name k grid) (parts_text name (k + 1) values) rest)
+      read = ap (λ (text : List ℕ). data_from end st (numbered_lines n at (cut text)))
+          (append_assoc (text_of name k grid) (parts_text name (k + 1) values) rest)
           ∙ first.1 ∙ later_parts.read;
     }

@@ -21,7 +21,7 @@ use Rattle.nim_data.specs.Lines.{is_short_name}
 use Rattle.nim_data.specs.Parts.{Loaded, Part, data_from, data_of, lacks, none_loaded, parts_loaded}
 use Rattle.nim_lex.specs.Source.{line_count}
 use Rattle.nim_data.specs.declared.wanted.Wanted.{Wanted}
-use Rattle.nim_data.specs.Wanted.{first_fault, part_heading, header_rule, refusal_by, values_of}
+use Rattle.nim_data.specs.Wanted.{first_fault, part_header, header_rule, refusal_by, values_of}
 use Rattle.nim_check.specs.Loading.{data_refusal, with_values_loaded, loaded, want, wanted, wanted_of, wants}
 use Rattle.nim_check.specs.Names.{Word}
 use Rattle.nim_check.specs.Printing.{HasValues, IsCell, IsValue, has_name, parts_text, printed}
@@ -61,7 +61,7 @@ made_values name k [] (part ∷ parts) made = absurd made
 made_values name k (grid ∷ values) [] made = absurd made
 
 no_rule : (v : Var) (k : ℕ) (part : Part) (grid : Grid) → part.name ≡ v.name → part.part ≡ k → part.value ≡ grid → is_loaded v.shape grid ≡ true
-    → header_rule (want v k) (part_heading part) ≡ None
+    → header_rule (want v k) (part_header part) ≡ None
 unfolding header_rule
 no_rule v k part grid name number value fits =
     let parts = and_parts (grid.width == v.shape.width) (nat_le (length grid.rows) v.shape.rows) fits in
@@ -76,7 +76,7 @@ sound_parts : (end : ℕ) (v : Var) (k : ℕ) (values : List Grid) (parts : List
 sound_parts end v k [] [] ws more fit made = refl
 sound_parts end v k (grid ∷ values) (part ∷ parts) ws more fit made =
     let fits = and_parts (is_loaded v.shape grid) (list_all (is_loaded v.shape) values) fit in
-    let none : header_rule (want v k) (part_heading part) ≡ None = no_rule v k part grid made.0 made.1 made.2 fits.0 in
+    let none : header_rule (want v k) (part_header part) ≡ None = no_rule v k part grid made.0 made.1 made.2 fits.0 in
     rw none (sound_parts end v (k + 1) values parts ws more fits.1 made.3)
 sound_parts end v k [] (part ∷ parts) ws more fit made = absurd made
 sound_parts end v k (grid ∷ values) [] ws more fit made = absurd made
@@ -160,7 +160,8 @@ var_read end v (Loads values) vars short is full has later n at st closed =
       closed = r.closed;
       parts = r.parts ∙ ap (λ (before : List Part). before ++ r.new) first.parts ∙ append_assoc (parts_loaded st) first.new r.new;
       made = with_loaded v values vars first.new r.new count fits.1 first.made r.made;
-      read = ap (λ (text : List ℕ). data_from end st (numbered_lines n at (cut text))) (append_assoc (parts_text v.name 0 values) (printed vars) []) ∙ first.read
+      read = ap (λ (text : List ℕ). data_from end st (numbered_lines n at (cut text))) (append_assoc (parts_text v.name 0 values) (printed vars) [])
+          ∙ first.read
           ∙ r.read;
     }
 

@@ -24,7 +24,7 @@ use Rattle.nim_check.specs.Loading.{with_values_loaded, given_by, holding, value
 
 -- what doesn't read a variable's values
 abbrev Keeps : {A : Type 0} → (Var → A) → Type 0
-Keeps f = (v : Var) (gift : Option (List Grid)) → f (holding v gift) ≡ f v
+Keeps f = (v : Var) (var_parts : Option (List Grid)) → f (holding v var_parts) ≡ f v
 
 keeps_parts : Keeps (λ v. v.parts)
 keeps_parts v None = refl
@@ -49,7 +49,8 @@ same_sum f keeps (v ∷ vars) values =
     ∙ ap₂ (λ (n m : ℕ). n + m) (keeps v (given_by v values)) (same_sum f keeps vars (values_left v values))
     ∙ sym (sum_by-cons f v vars)
 
-same_sum_before : (f : Var → ℕ) → Keeps f → (vars : List Var) (values : List Grid) (k : ℕ) → sum_by f (take k (with_values_loaded vars values)) ≡ sum_by f (take k vars)
+same_sum_before : (f : Var → ℕ) → Keeps f → (vars : List Var) (values : List Grid) (k : ℕ)
+    → sum_by f (take k (with_values_loaded vars values)) ≡ sum_by f (take k vars)
 same_sum_before f keeps vars values zero = refl
 same_sum_before f keeps [] values (suc k) = refl
 same_sum_before f keeps (v ∷ vars) values (suc k) =
@@ -73,7 +74,8 @@ vars_by count objects cells all = nat_le count 32 && nat_le objects 512 && nat_l
 
 same_vars : (vars : List Var) (values : List Grid) → are_vars (with_values_loaded vars values) ≡ are_vars vars
 same_vars vars values =
-    ap (λ (n : ℕ). vars_by n (objects_of (with_values_loaded vars values)) (sum_by cells_in (with_values_loaded vars values)) (list_all is_var (with_values_loaded vars values)))
+    ap (λ (n : ℕ). vars_by n (objects_of (with_values_loaded vars values)) (sum_by cells_in (with_values_loaded vars values))
+    (list_all is_var (with_values_loaded vars values)))
     (same_length vars values)
     ∙ ap (λ (n : ℕ). vars_by (length vars) n (sum_by cells_in (with_values_loaded vars values)) (list_all is_var (with_values_loaded vars values)))
     (same_sum (λ (v : Var). v.parts) keeps_parts vars values)
@@ -101,7 +103,8 @@ stage_by is object turns args stage = has_counts stage.func (length stage.params
 
 same_stage : (vars : List Var) (values : List Grid) → is_stage (with_values_loaded vars values) ≡ is_stage vars
 same_stage vars values = fun_ext (λ args. fun_ext (λ stage.
-    ap (λ (is : Bool → Ref → Bool). stage_by is (object_meant (with_values_loaded vars values)) (task_count (with_values_loaded vars values)) args stage) (same_ref vars values)
+    ap (λ (is : Bool → Ref → Bool). stage_by is (object_meant (with_values_loaded vars values)) (task_count (with_values_loaded vars values)) args stage)
+    (same_ref vars values)
     ∙ ap (λ (object : ℕ → Ref → Object). stage_by (is_ref vars) object (task_count (with_values_loaded vars values)) args stage) (same_object vars values)
     ∙ ap (λ (turns : Stage → ℕ). stage_by (is_ref vars) (object_meant vars) turns args stage) (same_turns vars values)))
 
@@ -138,8 +141,10 @@ checked_by job are is scalars = is_between 1 1000000 job.steps && are && nat_le 
 
 pub same_checked : (job : Job) (values : List Grid) → is_checked (record job { vars = with_values_loaded job.vars values }) ≡ is_checked job
 same_checked job values =
-    ap (λ (are : Bool). checked_by job are (is_whole_block (with_values_loaded job.vars values)) (scalars_set (record job { vars = with_values_loaded job.vars values })))
+    ap (λ (are : Bool). checked_by job are (is_whole_block (with_values_loaded job.vars values))
+    (scalars_set (record job { vars = with_values_loaded job.vars values })))
     (same_vars job.vars values)
-    ∙ ap (λ (is : Block → Bool). checked_by job (are_vars job.vars) is (scalars_set (record job { vars = with_values_loaded job.vars values }))) (same_block job.vars values)
+    ∙ ap (λ (is : Block → Bool). checked_by job (are_vars job.vars) is (scalars_set (record job { vars = with_values_loaded job.vars values })))
+    (same_block job.vars values)
     ∙ ap (λ (scalars : Option ℕ). checked_by job (are_vars job.vars) (is_whole_block job.vars) scalars)
     (same_scalars job (with_values_loaded job.vars values) (same_length job.vars values))

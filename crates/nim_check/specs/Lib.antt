@@ -6,4 +6,4 @@ pub mod Names
 pub mod Printing
 pub mod Refusals
 pub mod Rules
-pub mod Sites
+pub mod DriverPlaces

@@ -63,13 +63,13 @@ loaded job bytes = record job { vars = with_values_loaded job.vars (values_in by
 
 -- ---- on the way
 
--- what each variable is given
-abbrev pub gifts : List Var → List Grid → List (Option (List Grid))
-gifts [] values = []
-gifts (v ∷ vars) values = given_by v values ∷ gifts vars (values_left v values)
+-- for each variable the parts that it is given
+abbrev pub parts_by_var : List Var → List Grid → List (Option (List Grid))
+parts_by_var [] values = []
+parts_by_var (v ∷ vars) values = given_by v values ∷ parts_by_var vars (values_left v values)
 
 -- variables with what they are given, as far as it goes
 abbrev pub holding_all : List Var → List (Option (List Grid)) → List Var
 holding_all [] given = []
 holding_all (v ∷ vars) [] = v ∷ vars
-holding_all (v ∷ vars) (gift ∷ given) = holding v gift ∷ holding_all vars given
+holding_all (v ∷ vars) (var_parts ∷ given) = holding v var_parts ∷ holding_all vars given

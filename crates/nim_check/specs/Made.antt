@@ -29,7 +29,7 @@ use Rattle.nim_parse.specs.declared.sections.Var.{Var}
 use Rattle.nim_check.specs.declared.body.Names.{Names}
 use Rattle.nim_check.specs.Body.{body_of}
 use Rattle.nim_check.specs.Names.{Word, func_of, place_in}
-use Rattle.nim_check.specs.Sites.{scalars_of}
+use Rattle.nim_check.specs.DriverPlaces.{scalars_of}
 
 -- the text of a name; a byte past 127, which no name of a driver has, is a question mark
 abbrev pub ascii_text : Word → Word

@@ -14,20 +14,20 @@ use Rattle.nim_check.specs.Faults.{FileRefusal}
 use Rattle.nim_check.specs.Loading.{data_refusal, loaded}
 use Rattle.nim_check.specs.Made.{job_of}
 use Rattle.nim_check.specs.Rules.{rule_of}
-use Rattle.nim_check.specs.Sites.{Site, site_line, sites_of}
+use Rattle.nim_check.specs.DriverPlaces.{DriverPlace, place_line, places_of_tree}
 
 -- the number of a line and the smallest rule that refuses it, if one does
-abbrev pub refused_at : Site → Option Refusal
-refused_at site = refused_line (site_line site) (rule_of site)
+abbrev pub refused_at : DriverPlace → Option Refusal
+refused_at place = refused_line (place_line place) (rule_of place)
 
 -- the first of some lines that a rule refuses, and the smallest that does
-abbrev pub first_refusal : List Site → Option Refusal
+abbrev pub first_refusal : List DriverPlace → Option Refusal
 first_refusal [] = None
-first_refusal (site ∷ sites) = option_or (refused_at site) (first_refusal sites)
+first_refusal (place ∷ places) = option_or (refused_at place) (first_refusal places)
 
 -- why a tree is refused, if it is
 abbrev pub tree_refusal : Sections → Option Refusal
-tree_refusal tree = first_refusal (sites_of tree)
+tree_refusal tree = first_refusal (places_of_tree tree)
 
 -- why the text or the grammar refuses a driver, if they do
 abbrev pub text_refusal : List ℕ → Option Refusal

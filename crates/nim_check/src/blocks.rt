@@ -9,7 +9,7 @@ ghost use Rattle.nim_check.specs.Faults.{told};
 ghost use Rattle.nim_check.specs.Refusals.{first_refusal};
 ghost use Rattle.nim_lex.specs.Refusals.{Answers};
 ghost use Rattle.nim_check.specs.Rules.{rule_of};
-ghost use Rattle.nim_check.specs.Sites.{at_block, block_site, block_sites};
+ghost use Rattle.nim_check.specs.DriverPlaces.{at_block, places_of_block, places_of_blocks};
 
 use crate::CheckFault;
 use crate::names::{has_reserved, has_twice, is_block, is_reserved, is_var, name};
@@ -38,7 +38,7 @@ pub fn make_blocks(
 ) -> Result<Seq<JobBlock>, CheckFault>
     requires vars { job_vars.now ≡ map var_of vars.now }
     requires whole { IsTrue (are_vars job_vars.now) }
-    ensures answers { Answers told (first_refusal (block_sites vars.now [] blocks.now)) result }
+    ensures answers { Answers told (first_refusal (places_of_blocks vars.now [] blocks.now)) result }
     ensures made { IfOk result (λ made. made ≡ map (block_of (var_names vars.now)) blocks.now) }
     ensures whole { IfOk result (λ made. list_all (is_whole_block job_vars.now) made ≡ true) }
     ensures number { IfOk result (λ made. length made ≤ 32) }
@@ -89,7 +89,7 @@ fn make_block(
 ) -> Result<JobBlock, CheckFault>
     requires vars { job_vars.now ≡ map var_of vars.now }
     requires whole { IsTrue (are_vars job_vars.now) }
-    ensures answers { Answers told (first_refusal (block_site vars.now before.now block.now)) result }
+    ensures answers { Answers told (first_refusal (places_of_block vars.now before.now block.now)) result }
     ensures made { IfOk result (λ made. made ≡ block_of (var_names vars.now) block.now) }
     ensures whole { IfOk result (λ made. is_whole_block job_vars.now made ≡ true) }
     ensures number { IfOk result (λ made. length before.now < 32) }

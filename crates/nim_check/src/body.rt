@@ -262,7 +262,8 @@ fn take_line(
     bodies: &mut Vec<Held>,
 ) -> Result<(), NoMemory>
     requires { AreFew names.now }
-    ensures { OnOk result (bodies_in bodies.new.items ≡ with_line names.now statement.now (bodies_in bodies.old.items)) }
+    ensures { OnOk result (bodies_in bodies.new.items ≡ with_line names.now statement.now
+        (bodies_in bodies.old.items)) }
 {
     match statement {
         Statement::Do { block, arguments } => {

@@ -5,7 +5,7 @@ ghost use Rattle.nim_check.specs.Made.{block_names, job_of, steps_of, var_names}
 ghost use Rattle.nim_check.specs.Faults.{TellsFile, told};
 ghost use Rattle.nim_check.specs.Refusals.{driver_refusal, first_refusal, job_from, tree_refusal, job_refusal, text_refusal};
 ghost use Rattle.nim_lex.specs.Refusals.{Answers};
-ghost use Rattle.nim_check.specs.Sites.{steps_sites};
+ghost use Rattle.nim_check.specs.DriverPlaces.{places_of_steps};
 
 use crate::blocks::make_blocks;
 use crate::body::{Names, make_body};
@@ -87,7 +87,7 @@ pub fn read_job(alloc: Global, driver: &[u8], data_file: &[u8]) -> Result<Job, R
 /// The most statements that a run counts, or the line that a rule refuses.
 #[tactic(auto, unfolding(crate::specs::Rules::rule_of))]
 fn steps_of(steps: Option<Steps>) -> Result<u32, CheckFault>
-    ensures answers { Answers told (first_refusal (steps_sites steps)) result }
+    ensures answers { Answers told (first_refusal (places_of_steps steps)) result }
     ensures steps { IfOk result (λ most. most ≡ steps_of steps) }
     ensures some { IfOk result (λ most. 1 ≤ most) }
     ensures few { IfOk result (λ most. most ≤ 1000000) }

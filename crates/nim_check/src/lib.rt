@@ -8,7 +8,7 @@ mod fault;
 mod laws;
 mod loading;
 mod names;
-mod past;
+mod scope;
 mod stages;
 mod statements;
 mod vars;

@@ -3,7 +3,7 @@ ghost use Rattle.std.specs.Vec.Iter.{into_iter_items};
 ghost use Rattle.nim_lex.specs.Refusals.{Answers};
 ghost use Rattle.nim_job.specs.Whole.{is_checked, is_whole};
 ghost use Rattle.nim_check.specs.Faults.{told};
-ghost use Rattle.nim_check.specs.Loading.{data_refusal, gifts, given_by, holding, holding_all, values_left, loaded, want, wanted, wants};
+ghost use Rattle.nim_check.specs.Loading.{data_refusal, parts_by_var, given_by, holding, holding_all, values_left, loaded, want, wanted, wants};
 
 use crate::CheckFault;
 use nim_base::{NoMemory, Seq, Value};
@@ -26,14 +26,14 @@ pub fn load(alloc: Global, job: &mut Job, bytes: &[u8]) -> Result<(), CheckFault
     ensures whole { OnOk result (IsTrue (is_whole job.new)) }
     ensures err { OnErr result (job.new ≡ job.old) }
 {
-    let given = gifts_in(alloc, job, bytes)?;
+    let given = read_parts(alloc, job, bytes)?;
     let vars = mem::replace(&mut job.vars, Seq::new(alloc));
     job.vars = loaded_vars(vars, given);
     Ok(())
 }
 
 /// What each variable of a job is given of a file.
-fn gifts_in(alloc: Global, job: &Job, bytes: &[u8]) -> Result<Seq<Option<Seq<Value>>>, CheckFault>
+fn read_parts(alloc: Global, job: &Job, bytes: &[u8]) -> Result<Seq<Option<Seq<Value>>>, CheckFault>
     requires checked { IsTrue (is_checked job.now) }
     ensures answers { Answers told (data_refusal job.now bytes.now) result }
     ensures given { IfOk result (λ given. record job.now { vars = holding_all job.now.vars given }
@@ -43,7 +43,7 @@ fn gifts_in(alloc: Global, job: &Job, bytes: &[u8]) -> Result<Seq<Option<Seq<Val
     let vars = job.vars.as_slice();
     let wanted = wanted_in(alloc, vars)?;
     match read_data(alloc, bytes, wanted.as_slice()) {
-        Ok(values) => Ok(gifts_of(alloc, vars, values)?),
+        Ok(values) => Ok(parts_by_var(alloc, vars, values)?),
         Err(DataFault::At(refusal)) => Err(CheckFault::At(refusal)),
         Err(DataFault::NoMemory) => Err(CheckFault::NoMemory),
     }
@@ -83,28 +83,28 @@ fn want(alloc: Global, v: &Var, part: u32) -> Result<Wanted, NoMemory>
 }
 
 /// What each variable is given of values.
-fn gifts_of(
+fn parts_by_var(
     alloc: Global,
     vars: &[Var],
     values: Seq<Value>,
 ) -> Result<Seq<Option<Seq<Value>>>, NoMemory>
-    ensures { IfOk result (λ given. given ≡ gifts vars.now values) }
+    ensures { IfOk result (λ given. given ≡ parts_by_var vars.now values) }
 {
     let mut values = values.into_vec().into_iter();
     let mut given = Seq::new(alloc);
     for v in vars {
-        given.push(take_gift(alloc, v, &mut values)?)?;
+        given.push(take_parts(alloc, v, &mut values)?)?;
     }
     Ok(given)
 }
 
 /// What a variable is given: the next values, if it is a loaded one.
-fn take_gift(
+fn take_parts(
     alloc: Global,
     v: &Var,
     values: &mut IntoIter<Value>,
 ) -> Result<Option<Seq<Value>>, NoMemory>
-    ensures gift { IfOk result (λ gift. gift ≡ given_by v.now (into_iter_items values.old)) }
+    ensures var_parts { IfOk result (λ var_parts. var_parts ≡ given_by v.now (into_iter_items values.old)) }
     ensures rest { OnOk result (into_iter_items values.new ≡ values_left v.now (into_iter_items values.old)) }
 {
     match v.init {
@@ -154,15 +154,15 @@ fn give_next(v: &mut Var, given: &mut IntoIter<Option<Seq<Value>>>)
     ensures { (vars : List Var) → holding_all (v.old ∷ vars) (into_iter_items given.old) ≡ v.new
         ∷ holding_all vars (into_iter_items given.new) }
 {
-    if let Some(gift) = given.next() {
-        give(v, gift);
+    if let Some(var_parts) = given.next() {
+        give(v, var_parts);
     }
 }
 
-fn give(v: &mut Var, gift: Option<Seq<Value>>)
-    ensures { v.new ≡ holding v.old gift }
+fn give(v: &mut Var, var_parts: Option<Seq<Value>>)
+    ensures { v.new ≡ holding v.old var_parts }
 {
-    if let Some(values) = gift {
+    if let Some(values) = var_parts {
         v.init = Init::Loaded(values);
     }
 }

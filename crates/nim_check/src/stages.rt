@@ -12,7 +12,7 @@ ghost use Rattle.nim_check.specs.Faults.{told};
 ghost use Rattle.nim_check.specs.Refusals.{first_refusal};
 ghost use Rattle.nim_lex.specs.Refusals.{Answers};
 ghost use Rattle.nim_check.specs.Rules.{is_known, is_own, refs_of, rule_of};
-ghost use Rattle.nim_check.specs.Sites.{at_stage, stage_sites};
+ghost use Rattle.nim_check.specs.DriverPlaces.{at_stage, places_of_stages};
 
 use crate::CheckFault;
 use crate::names::{func_of, is_in, is_var, place_in, var_place};
@@ -53,8 +53,9 @@ pub fn make_stages(
     requires vars { job_vars.now ≡ map var_of vars.now }
     requires whole { IsTrue (are_vars job_vars.now) }
     requires arguments { length block.now.arguments ≤ 8 }
-    ensures answers { Answers told (first_refusal (stage_sites vars.now block.now [] block.now.stages)) result }
-    ensures made { IfOk result (λ made. made ≡ map (stage_of (var_names vars.now) block.now.arguments) block.now.stages) }
+    ensures answers { Answers told (first_refusal (places_of_stages vars.now block.now [] block.now.stages)) result }
+    ensures made { IfOk result (λ made. made ≡ map (stage_of (var_names vars.now) block.now.arguments)
+        block.now.stages) }
     ensures whole { IfOk result (λ made. list_all (is_stage job_vars.now (length block.now.arguments)) made ≡ true) }
     ensures few { IfOk result (λ made. sum_by (task_count job_vars.now) made ≤ 1024) }
 {

@@ -1,4 +1,4 @@
-//! The statements, each looked at with what those before it did.
+//! The statements, each looked at with what is in scope.
 
 ghost use Rattle.std.specs.Prelude.{◌≡◌, ◌≤◌, length, nat_lt, IfOk, None};
 ghost use Rattle.std.specs.List.{list_all, list_any};
@@ -8,11 +8,11 @@ ghost use Rattle.nim_check.specs.Faults.{told};
 ghost use Rattle.nim_check.specs.Refusals.{first_refusal};
 ghost use Rattle.nim_lex.specs.Refusals.{Answers};
 ghost use Rattle.nim_check.specs.Rules.{condition_reads, has_block, has_variable, is_known, opens, read_by, rule_of, set_by, value_reads};
-ghost use Rattle.nim_check.specs.Sites.{at_statement, no_past, past_of, past_with, statement_sites, with_scalar};
+ghost use Rattle.nim_check.specs.DriverPlaces.{at_statement, empty_scope, places_of_statements, scope_of, scope_with, with_scalar};
 
 use crate::CheckFault;
 use crate::names::{block_place, is_in, is_reserved, is_var};
-use crate::past::Past;
+use crate::scope::Scope;
 use crate::stages::{are_known, is_known};
 use nim_base::Seq;
 use nim_lex::Refusal;
@@ -39,21 +39,22 @@ const TOO_DEEP: u8 = 54;
 
 /// The scalars that the statements set, in order, or the first line that a rule refuses.
 pub fn scalars_of(alloc: Global, sections: &Sections) -> Result<Seq<Seq<u8>>, CheckFault>
-    ensures answers { Answers told (first_refusal (statement_sites sections.now no_past sections.now.statements)) result }
-    ensures scalars { IfOk result (λ scalars. scalars ≡ (past_of no_past sections.now.statements).scalars) }
+    ensures answers { Answers told
+        (first_refusal (places_of_statements sections.now empty_scope sections.now.statements)) result }
+    ensures scalars { IfOk result (λ scalars. scalars ≡ (scope_of empty_scope sections.now.statements).scalars) }
     ensures few { IfOk result (λ scalars. length scalars ≤ 64) }
 {
-    let mut past = Past::new(alloc);
+    let mut scope = Scope::new(alloc);
     for (at, line) in sections.statements.as_slice().iter().enumerate() {
-        if let Some(rule) = statement_rule(sections, &past, line) {
+        if let Some(rule) = statement_rule(sections, &scope, line) {
             return Err(CheckFault::At(Refusal {
                 line: line.line,
                 rule,
             }));
         }
-        past.take(&line.statement)?;
+        scope.take(&line.statement)?;
     }
-    let Past { scalars, .. } = past;
+    let Scope { scalars, .. } = scope;
     Ok(scalars)
 }
 
@@ -79,13 +80,13 @@ fn is_one_too_many(scalars: &[Seq<u8>], name: &[u8]) -> bool
 }
 
 /// Whether there are more than 64 scalars behind a statement.
-fn sets_too_many(past: &Past, statement: &Statement) -> bool
-    ensures { result ≡ nat_lt 64 (length (past_with past.now statement.now).scalars) }
+fn sets_too_many(scope: &Scope, statement: &Statement) -> bool
+    ensures { result ≡ nat_lt 64 (length (scope_with scope.now statement.now).scalars) }
 {
     match statement {
-        Statement::Let { name, .. } => is_one_too_many(past.scalars.as_slice(), name.as_slice()),
-        Statement::Get { name, .. } => is_one_too_many(past.scalars.as_slice(), name.as_slice()),
-        _ => past.scalars.len() > 64,
+        Statement::Let { name, .. } => is_one_too_many(scope.scalars.as_slice(), name.as_slice()),
+        Statement::Get { name, .. } => is_one_too_many(scope.scalars.as_slice(), name.as_slice()),
+        _ => scope.scalars.len() > 64,
     }
 }
 
@@ -158,22 +159,22 @@ fn opens(statement: &Statement) -> bool
 
 /// The smallest rule that refuses a line.
 #[tactic(auto, unfolding(crate::specs::Rules::rule_of))]
-fn statement_rule(sections: &Sections, past: &Past, line: &Line) -> Option<u8>
-    ensures rule { result ≡ rule_of (at_statement sections.now past.now line.now) }
-    ensures few { result ≡ None → length (past_with past.now line.now.statement).scalars ≤ 64 }
+fn statement_rule(sections: &Sections, scope: &Scope, line: &Line) -> Option<u8>
+    ensures rule { result ≡ rule_of (at_statement sections.now scope.now line.now) }
+    ensures few { result ≡ None → length (scope_with scope.now line.now.statement).scalars ≤ 64 }
 {
     let statement = &line.statement;
     if sets_reserved(statement) {
         Some(RESERVED)
-    } else if sets_too_many(past, statement) {
+    } else if sets_too_many(scope, statement) {
         Some(TOO_MANY)
     } else if !has_variable(sections.vars.as_slice(), statement) {
         Some(NO_VARIABLE)
     } else if !has_block(sections.blocks.as_slice(), statement) {
         Some(NO_BLOCK)
-    } else if !reads_set(past.scalars.as_slice(), statement) {
+    } else if !reads_set(scope.scalars.as_slice(), statement) {
         Some(NOT_SET)
-    } else if opens(statement) && past.depth >= 16 {
+    } else if opens(statement) && scope.depth >= 16 {
         Some(TOO_DEEP)
     } else {
         None

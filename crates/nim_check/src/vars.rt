@@ -9,7 +9,7 @@ ghost use Rattle.nim_check.specs.Faults.{told};
 ghost use Rattle.nim_check.specs.Refusals.{first_refusal};
 ghost use Rattle.nim_lex.specs.Refusals.{Answers};
 ghost use Rattle.nim_check.specs.Rules.{are_few, rule_of};
-ghost use Rattle.nim_check.specs.Sites.{at_var, var_sites};
+ghost use Rattle.nim_check.specs.DriverPlaces.{at_var, places_of_vars};
 
 use crate::CheckFault;
 use crate::names::{is_reserved, is_var, name};
@@ -33,7 +33,7 @@ const TOO_MANY: u8 = 44;
 
 /// The variables of a job, or the first line that a rule refuses.
 pub fn make_vars(alloc: Global, vars: &[Var]) -> Result<Seq<JobVar>, CheckFault>
-    ensures answers { Answers told (first_refusal (var_sites [] vars.now)) result }
+    ensures answers { Answers told (first_refusal (places_of_vars [] vars.now)) result }
     ensures made { IfOk result (λ made. made ≡ map var_of vars.now) }
     ensures whole { IfOk result (λ made. are_vars made ≡ true) }
 {

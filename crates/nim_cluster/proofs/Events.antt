@@ -184,7 +184,8 @@ unreported old nodes s number kept new stands at none is goes =
 pub reported_nobody : (old : Cluster) (s : ClusterState) (number : ℕ) → ClusterStands old s → length old.nodes.items ≤ number
     → ClusterStands old (passed s (Report number))
 reported_nobody old s number stands above =
-    subst (λ (o : Option Node). ClusterStands old (option_map_or (λ (n : Node). report_taken number n n.reports s) o s)) (sym (nobody old s number stands above))
+    subst (λ (o : Option Node). ClusterStands old (option_map_or (λ (n : Node). report_taken number n n.reports s) o s))
+    (sym (nobody old s number stands above))
     stands
 
 -- ---- a batch that is finished
@@ -203,7 +204,8 @@ pub record HasFinished (old : Cluster) (cluster : Cluster) (s : ClusterState) (n
   pub sent : fold (out_sent number) between outs ≡ passed s (Finish number)
 
 pub finishing : (old : Cluster) (nodes : Vec kept_node Global) (trace : Vec Ran Global) (s : ClusterState) (number : ℕ) (kept new : kept_node) (outs : List Out)
-    → ClusterStands old s → is_enabled s (Finish number) ≡ true → slice_get old.nodes.items number ≡ Some kept → nodes.items ≡ slice_set old.nodes.items number new
+    → ClusterStands old s → is_enabled s (Finish number) ≡ true → slice_get old.nodes.items number ≡ Some kept
+    → nodes.items ≡ slice_set old.nodes.items number new
     → ((node : Node) (b : Batched) → IsNode number kept node → node.batch ≡ Some b → IsFinished number node b new outs old.trace.items trace.items)
     → HasFinished old (record old { nodes = nodes; trace = trace }) s number outs
 finishing old nodes trace s number kept new outs stands enabled at is goes =
@@ -273,7 +275,8 @@ step_passed s event done enabled not = record {
 }
 
 -- memory wasn't refused
-pub marked : (cluster : Cluster) (s : ClusterState) (failed : Bool) → failed ≡ false → ClusterStands cluster s → ClusterStands (record cluster { failed = failed }) s
+pub marked : (cluster : Cluster) (s : ClusterState) (failed : Bool) → failed ≡ false → ClusterStands cluster s
+    → ClusterStands (record cluster { failed = failed }) s
 marked cluster s failed not stands = record {
   whole = not;
   job = stands.job;

@@ -60,7 +60,8 @@ impl Cluster {
 
     // A report waits for the controller, a frame of data for its worker, if it is there.
     fn send_one(&mut self, from: usize, out: Out) -> Result<(), NoMemory>
-        ensures stands { (s : ClusterState) → ClusterStands self.old s → OnOk result (ClusterStands self.new (out_sent from s out)) }
+        ensures stands { (s : ClusterState) → ClusterStands self.old s
+            → OnOk result (ClusterStands self.new (out_sent from s out)) }
         ensures rest { self.new ≡ record self.old { nodes = self.new.nodes } }
     {
         match out {

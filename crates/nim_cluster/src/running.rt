@@ -54,7 +54,8 @@ pub fn run(alloc: Global, job: Job, setup: Setup, schedule: &[Line]) -> Result<R
     requires whole { IsTrue (is_whole job) }
     requires some { 1 ≤ setup.workers }
     requires few { setup.workers ≤ 16 }
-    ensures run { IfOk result (λ end. (s : ClusterState) × (IsRunBy job setup schedule.now s × (StandsInStep end.cluster s
+    ensures run { IfOk result
+        (λ end. (s : ClusterState) × (IsRunBy job setup schedule.now s × (StandsInStep end.cluster s
         × (ended_as s.control.outcome ≡ Some end.outcome)))) }
 {
     clusters_stay_in_step();
@@ -113,7 +114,8 @@ impl Cluster {
 
     // Where it says no, no frame of data waits.
     fn has_frames(&self) -> bool
-        ensures { (s : ClusterState) → ClusterStands self.now s → result ≡ false → AreNodesIdle (length s.nodes) s.nodes }
+        ensures { (s : ClusterState) → ClusterStands self.now s → result ≡ false
+            → AreNodesIdle (length s.nodes) s.nodes }
     {
         for node in self.nodes.as_slice() {
             if node.has_frames() {

@@ -94,7 +94,8 @@ impl Cluster {
 
     // The controller takes the next report of a worker, and no turn yet.
     fn take_report(&mut self, worker: u32)
-        ensures stands { (s : ClusterState) → ClusterStands self.old s → ClusterStands self.new (passed s (event_is.Report worker)) }
+        ensures stands { (s : ClusterState) → ClusterStands self.old s
+            → ClusterStands self.new (passed s (event_is.Report worker)) }
         ensures given { self.new.given ≡ self.old.given }
     {
         let index = worker as usize;
@@ -134,7 +135,8 @@ impl Cluster {
     }
 
     fn finish(&mut self, worker: u32) -> Result<(), NoMemory>
-        ensures stands { (s : ClusterState) → ClusterStands self.old s → events.is_enabled s (event_is.Finish worker) ≡ true
+        ensures stands { (s : ClusterState) → ClusterStands self.old s
+            → events.is_enabled s (event_is.Finish worker) ≡ true
             → OnOk result (ClusterStands self.new (passed s (event_is.Finish worker))) }
         ensures given { self.new.given ≡ self.old.given }
     {

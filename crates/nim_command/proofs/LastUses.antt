@@ -178,7 +178,8 @@ waited_split from (f ∷ fs) later p =
     (last_of read from f fs p later.writes))
 
 -- what the last uses tell of a later one is the rule
-pub met_waited : (uses : LastUses) (past : List Footprint) (later : Footprint) (p : ℕ) → IsPastOf uses past → is_last_user uses later p ≡ is_waited 0 past later p
+pub met_waited : (uses : LastUses) (past : List Footprint) (later : Footprint) (p : ℕ) → IsPastOf uses past
+    → is_last_user uses later p ≡ is_waited 0 past later p
 met_waited uses past later p of =
     ap₂ (λ (a b : Bool). a || b)
     (ap₂ (λ (a b : Bool). a || b) (wrote later.reads) (wrote later.writes))

@@ -48,7 +48,8 @@ impl LastUses {
     /// written.
     pub(crate) fn places<T: Waits>(&self, later: &T) -> Result<Vec<usize>, NoMemory>
         ensures rise { IfOk result (λ places. Rises 0 places.items) }
-        ensures met { IfOk result (λ places. (p : ℕ) → is_in p places.items ≡ is_last_user self.now (T.footprint later.now) p) }
+        ensures met { IfOk result
+            (λ places. (p : ℕ) → is_in p places.items ≡ is_last_user self.now (T.footprint later.now) p) }
     {
         let mut places = self.met(later)?;
         places.sort_unstable();
@@ -58,7 +59,8 @@ impl LastUses {
 
     /// The same in any order, some maybe more than once.
     fn met<T: Waits>(&self, later: &T) -> Result<Vec<usize>, NoMemory>
-        ensures { IfOk result (λ places. (p : ℕ) → is_in p places.items ≡ is_last_user self.now (T.footprint later.now) p) }
+        ensures { IfOk result
+            (λ places. (p : ℕ) → is_in p places.items ≡ is_last_user self.now (T.footprint later.now) p) }
     {
         let read = later.reads();
         let written = later.writes();

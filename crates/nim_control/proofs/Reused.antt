@@ -262,7 +262,8 @@ first_given c at forms copied args before after old new decided next counts late
       ∙ ap₂ (λ (s : Sites) (fs : List TaskForm). before ++ instance_orders c 0 s.versions (map (task_with_args args) fs)) is.has_sites is.has_forms;
   has_sites =
       are.sites
-      ∙ ap₂ (λ (s : Sites) (fs : List TaskForm). record s { versions = after_instance c 0 s.versions (map (task_with_args args) fs) }) is.has_sites is.has_forms;
+      ∙ ap₂
+      (λ (s : Sites) (fs : List TaskForm). record s { versions = after_instance c 0 s.versions (map (task_with_args args) fs) }) is.has_sites is.has_forms;
   has_decisions =
       knows
       ∙ ap₂ (λ (fs : List TaskForm) (d : Decisions). after_recording (record { block = at.block; forms = fs }) d) (same ∙ is.has_forms) is.has_decisions;

@@ -25,7 +25,8 @@ task_fits objects args (f ∷ forms) zero form all below is =
     ∙ (and_parts (is_whole_task objects (task_with_args args f)) (list_all (is_whole_task objects) (map (task_with_args args) forms)) all).0
 task_fits objects args (f ∷ forms) (suc at) form all below is =
     task_fits objects args forms at form
-    (and_parts (is_whole_task objects (task_with_args args f)) (list_all (is_whole_task objects) (map (task_with_args args) forms)) all).1 (omega (arith, below)) is
+    (and_parts (is_whole_task objects (task_with_args args f)) (list_all (is_whole_task objects) (map (task_with_args args) forms)) all).1
+    (omega (arith, below)) is
 
 -- this one is there
 pub task_is : (args : List ℤ) (forms : List TaskForm) (at : ℕ) (form : TaskForm) (task : Task) → at < length forms → form ≡ get_or forms at form

@@ -32,9 +32,11 @@ pub(crate) fn give_block(
     args: &[i64],
 ) -> Result<InFlight, NoMemory>
     requires few { length forms.now ≤ 1024 }
-    requires fit { IsTrue (list_all (is_whole_task sites.old.versions.objects) (map (task_with_args args.now) forms.now)) }
+    requires fit { IsTrue
+        (list_all (is_whole_task sites.old.versions.objects) (map (task_with_args args.now) forms.now)) }
     requires decided { AreUsable sites.old.versions.objects sites.old.live decisions.old }
-    ensures given { IfOk result (λ flight. (c : Controller) → IsToGive c at forms.now sites.old decisions.old summary.old
+    ensures given { IfOk result
+        (λ flight. (c : Controller) → IsToGive c at forms.now sites.old decisions.old summary.old
         → IsGiven (is_recorded decisions.old at.block) c at.block args.now
         orders.old.items orders.new.items sites.new decisions.new summary.new flight) }
     ensures decided { AreUsable sites.new.versions.objects sites.new.live decisions.new }
@@ -83,9 +85,11 @@ fn give_first(
     args: &[i64],
 ) -> Result<InFlight, NoMemory>
     requires few { length forms.now ≤ 1024 }
-    requires fit { IsTrue (list_all (is_whole_task sites.old.versions.objects) (map (task_with_args args.now) forms.now)) }
+    requires fit { IsTrue
+        (list_all (is_whole_task sites.old.versions.objects) (map (task_with_args args.now) forms.now)) }
     requires decided { AreUsable sites.old.versions.objects sites.old.live decisions.old }
-    ensures given { IfOk result (λ flight. (c : Controller) → IsToGive c at forms.now sites.old decisions.old summary.old
+    ensures given { IfOk result
+        (λ flight. (c : Controller) → IsToGive c at forms.now sites.old decisions.old summary.old
         → IsGiven false c at.block args.now
         orders.old.items orders.new.items sites.new decisions.new summary.new flight) }
     ensures decided { AreUsable sites.new.versions.objects sites.new.live decisions.new }

@@ -30,7 +30,8 @@ pub(crate) fn give_tasks(
     args: &[i64],
 ) -> Result<InFlight, NoMemory>
     requires few { length forms.now < 65536 }
-    requires fit { IsTrue (list_all (is_whole_task sites.old.versions.objects) (map (tasks.task_with_args args.now) forms.now)) }
+    requires fit { IsTrue
+        (list_all (is_whole_task sites.old.versions.objects) (map (tasks.task_with_args args.now) forms.now)) }
     ensures given { OnOk result ((c : Controller) → IsToRun c instance sites.old
         → AreTasks c 0 (map (tasks.task_with_args args.now) forms.now)
         orders.old.items sites.old orders.new.items sites.new) }

@@ -22,5 +22,6 @@ writes_few func = omega arith
 pub counts_of : (func : Func) (params reads writes : ℕ) → has_counts func params reads writes ≡ true → (reads ≤ most_reads func) × (writes ≡ result_count func)
 counts_of func params reads writes is = grind (arith, nat_tests)
 
-pub task_counts : (n : ℕ) (task : Task) → is_whole_task n task ≡ true → has_counts task.func (length task.params) (length task.reads) (length task.writes) ≡ true
+pub task_counts : (n : ℕ) (task : Task) → is_whole_task n task ≡ true
+    → has_counts task.func (length task.params) (length task.reads) (length task.writes) ≡ true
 task_counts n task is = grind (arith, nat_tests)

@@ -47,7 +47,7 @@ pub mod Printed
 -- What orders add to the counts of a summary.
 pub mod PutCounts
 -- What instances and their patches add to them.
-pub mod PutTurns
+pub mod PutInstances
 -- What was decided of a block rests on how often it was given, behind each move.
 pub mod PutDecisions
 -- The orders of a worker stand for as many tasks as its Singles run.

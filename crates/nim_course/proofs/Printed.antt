@@ -51,7 +51,8 @@ parts_more values more (part ∷ parts) all = (among_more part.value values more
 text_more : (values more : List Grid) (text : List ℕ) → IsOfValues values text → IsOfValues (values ++ more) text
 text_more values more text is = record { parts = is.parts; is = is.is; told = parts_more values more is.parts is.told }
 
-both_parts : (P : PrintedPart → Type 0) (first second : List PrintedPart) → AllByRecursion P first → AllByRecursion P second → AllByRecursion P (first ++ second)
+both_parts : (P : PrintedPart → Type 0) (first second : List PrintedPart) → AllByRecursion P first → AllByRecursion P second
+    → AllByRecursion P (first ++ second)
 both_parts P [] second all also = also
 both_parts P (part ∷ first) second all also = (all.0, both_parts P first second all.1 also)
 

@@ -23,7 +23,7 @@ use Rattle.nim_course.specs.Controller.{Controller}
 use Rattle.nim_course.specs.Leads.{AreLeading, AreLeadingFor, Leads, is_key_from}
 use Rattle.nim_course.specs.Moves.{orders_of, orders_of_block, orders_with, with_instance, with_reused}
 use Rattle.nim_course.specs.OrdersGiven.{instance_at, instance_orders, recorded_of, reused_orders}
-use Rattle.nim_course.specs.PutLists.{ArePut, HasNoFirst, IsByUses, IsDecidedBy, IsMove, copies_before, last_block, patched_in_move, template_in, times_given, turn_given, turns_given, use_in, use_with, uses_by}
+use Rattle.nim_course.specs.PutLists.{ArePut, HasNoFirst, IsByUses, IsDecidedBy, IsMove, copies_before, last_block, nth_given, nths_given, patched_in_move, template_in, times_given, use_in, use_with, uses_by}
 use Rattle.nim_course.specs.Summaries.{reused_counted, single_counted}
 use Rattle.nim_reuse.proofs.Short.{later_instances_are_short}
 use Rattle.nim_course.proofs.PutAgain.{again_adds}
@@ -31,7 +31,7 @@ use Rattle.nim_course.proofs.PutDecisions.{RestOn, again_rests, first_rests, ins
 use Rattle.nim_course.proofs.PutFirst.{ArePlainOf, again_none, instance_plain, plain_none}
 use Rattle.nim_course.proofs.PutMoves.{IsStep, counts_put, rests_put, sessions_come, singles_tasks}
 use Rattle.nim_course.proofs.PutTasks.{runs_of}
-use Rattle.nim_course.proofs.PutTurns.{AreCountsOf, again_counted, first_counted, patch_counts}
+use Rattle.nim_course.proofs.PutInstances.{AreCountsOf, again_counted, first_counted, patch_counts}
 
 -- what the orders so far come to
 leading_there : (c : Controller) (given : List Directed) (block : ℕ) (args : List ℤ) → Leads c.job c given → c.pending ≡ Block block args
@@ -52,11 +52,11 @@ first_step c given put block args leads is below new =
     let times : times_given block put.moves ≡ 0 =
     open_none (times_given block put.moves) (decided_of c.decisions block) (rests.decided block below) new in
     let same : orders_of c ≡ orders = ap (orders_with c) is ∙ ap (λ (b : Bool). orders_of_block b c block args) new in
-    let turn : turn_given c.pending put.moves ≡ 1 = ap (λ (p : Pending). turn_given p put.moves) is ∙ omega (arith, times) in
+    let nth : nth_given c.pending put.moves ≡ 1 = ap (λ (p : Pending). nth_given p put.moves) is ∙ omega (arith, times) in
     let none : use_in c c.pending (last_block put.moves) ≡ [] =
     ap (λ (p : Pending). use_in c p (last_block put.moves)) is
     ∙ cond-false (is_recorded c.decisions block) (use_with (last_block put.moves) block (copies_before c block) (patched_in_move c block)) [] new in
-    let turns : List ℕ = turns_given put.moves in
+    let nths : List ℕ = nths_given put.moves in
     let uses : List Use = uses_by put.moves in
     record {
       move = subst (IsMove put.moves c) (sym is) (
@@ -68,9 +68,9 @@ first_step c given put block args leads is below new =
       begun = refl;
       rests = first_rests c put.moves (length c.job.blocks) block args is below new rests;
       counts =
-          subst (λ (us : List Use). AreCountsOf (turns_given (c ∷ put.moves)) (us ++ uses) (single_counted c.summary)) (sym none)
-          (subst (λ (t : ℕ). AreCountsOf (t ∷ turns) uses (single_counted c.summary)) (sym turn)
-          (first_counted turns uses c.summary (counts_put c given put)));
+          subst (λ (us : List Use). AreCountsOf (nths_given (c ∷ put.moves)) (us ++ uses) (single_counted c.summary)) (sym none)
+          (subst (λ (t : ℕ). AreCountsOf (t ∷ nths) uses (single_counted c.summary)) (sym nth)
+          (first_counted nths uses c.summary (counts_put c given put)));
       control = refl;
       workers = refl;
       tasks = singles_tasks c (after_recording (recorded_of c block) c.decisions) given orders c.epoch
@@ -122,11 +122,11 @@ again_step c given put block args leads is below old =
     let some : 1 ≤ times = reusable_some times decided (rests.decided block below) old in
     let once : is_new decided ≡ (times == 1) = new_once times decided (rests.decided block below) some in
     let same : orders_of c ≡ orders = ap (orders_with c) is ∙ ap (λ (b : Bool). orders_of_block b c block args) old in
-    let turn : turn_given c.pending put.moves ≡ times + 1 = ap (λ (p : Pending). turn_given p put.moves) is in
+    let nth : nth_given c.pending put.moves ≡ times + 1 = ap (λ (p : Pending). nth_given p put.moves) is in
     let latest : List Use = use_with (last_block put.moves) block (copies_before c block) patched in
     let one : use_in c c.pending (last_block put.moves) ≡ latest =
     ap (λ (p : Pending). use_in c p (last_block put.moves)) is ∙ cond-true (is_recorded c.decisions block) latest [] old in
-    let turns : List ℕ = turns_given put.moves in
+    let nths : List ℕ = nths_given put.moves in
     let uses : List Use = uses_by put.moves in
     let failing : ℕ = failing_in c.versions template.preconditions in
     let by = by_uses c put.moves block rests in
@@ -149,11 +149,11 @@ again_step c given put block args leads is below old =
       begun = refl;
       rests = again_rests c put.moves (length c.job.blocks) block args is below old rests;
       counts =
-          subst (λ (us : List Use). AreCountsOf (turns_given (c ∷ put.moves)) (us ++ uses) (reused_counted (is_new decided) patched c.summary)) (sym one)
-          (subst (λ (t : ℕ). AreCountsOf (t ∷ turns) (latest ++ uses) (reused_counted (is_new decided) patched c.summary)) (sym turn)
-          (subst (λ (b : Bool). AreCountsOf ((times + 1) ∷ turns) (latest ++ uses) (reused_counted b patched c.summary)) (sym once)
-          (patch_counts failing (last_block put.moves) block (copies_before c block) patched (times == 1) ((times + 1) ∷ turns) uses c.summary by
-          (again_counted times turns uses c.summary some (counts_put c given put)))));
+          subst (λ (us : List Use). AreCountsOf (nths_given (c ∷ put.moves)) (us ++ uses) (reused_counted (is_new decided) patched c.summary)) (sym one)
+          (subst (λ (t : ℕ). AreCountsOf (t ∷ nths) (latest ++ uses) (reused_counted (is_new decided) patched c.summary)) (sym nth)
+          (subst (λ (b : Bool). AreCountsOf ((times + 1) ∷ nths) (latest ++ uses) (reused_counted b patched c.summary)) (sym once)
+          (patch_counts failing (last_block put.moves) block (copies_before c block) patched (times == 1) ((times + 1) ∷ nths) uses c.summary by
+          (again_counted times nths uses c.summary some (counts_put c given put)))));
       control = kept.0;
       workers = kept.1;
       tasks = λ worker there.

@@ -24,7 +24,7 @@ use Rattle.nim_course.specs.declared.pending.Pending.{Pending}
 use Rattle.nim_course.specs.declared.pending.Pending.TheVariants.{Begin, Idle, Block, Cell, Parts, Ended}
 use Rattle.nim_course.specs.Controller.{Controller}
 use Rattle.nim_course.specs.OrdersGiven.{instance_at, recorded_of}
-use Rattle.nim_course.specs.PutLists.{IsByUses, IsDecidedBy, block_after, copies_before, is_instance_of, last_block, patched_in_move, template_in, times_given, turn_given, use_in, use_with, uses_by}
+use Rattle.nim_course.specs.PutLists.{IsByUses, IsDecidedBy, block_after, copies_before, is_instance_of, last_block, nth_given, patched_in_move, template_in, times_given, use_in, use_with, uses_by}
 use Rattle.nim_patch.proofs.Hits.{found_hits, stands_used}
 
 -- what was decided of so many blocks rests on moves
@@ -63,30 +63,30 @@ installed_twice (suc (suc more)) decided is twice = is
 
 -- what is pending is no instance
 pub record IsQuiet (c : Controller) (pending : Pending) : Type 0 where
-  pub turn : (earlier : List Controller) → turn_given pending earlier ≡ 0
+  pub nth : (earlier : List Controller) → nth_given pending earlier ≡ 0
   pub last : (before : ℕ) → block_after pending before ≡ before
   pub use_none : (previous : ℕ) → use_in c pending previous ≡ []
   pub other : (block : ℕ) → is_instance_of block pending ≡ false
 
 -- the start
 pub quiet_begin : (c : Controller) → IsQuiet c Begin
-quiet_begin c = record { turn = λ earlier. refl; last = λ before. refl; use_none = λ previous. refl; other = λ block. refl }
+quiet_begin c = record { nth = λ earlier. refl; last = λ before. refl; use_none = λ previous. refl; other = λ block. refl }
 
 -- what the driver asks
 pub quiet_idle : (c : Controller) → IsQuiet c Idle
-quiet_idle c = record { turn = λ earlier. refl; last = λ before. refl; use_none = λ previous. refl; other = λ block. refl }
+quiet_idle c = record { nth = λ earlier. refl; last = λ before. refl; use_none = λ previous. refl; other = λ block. refl }
 
 -- a cell
 pub quiet_cell : (c : Controller) (row cell : ℕ) → IsQuiet c (Cell row cell)
-quiet_cell c row cell = record { turn = λ earlier. refl; last = λ before. refl; use_none = λ previous. refl; other = λ block. refl }
+quiet_cell c row cell = record { nth = λ earlier. refl; last = λ before. refl; use_none = λ previous. refl; other = λ block. refl }
 
 -- the parts of a variable
 pub quiet_parts : (c : Controller) (var : ℕ) → IsQuiet c (Parts var)
-quiet_parts c var = record { turn = λ earlier. refl; last = λ before. refl; use_none = λ previous. refl; other = λ block. refl }
+quiet_parts c var = record { nth = λ earlier. refl; last = λ before. refl; use_none = λ previous. refl; other = λ block. refl }
 
 -- the end
 pub quiet_ended : (c : Controller) → IsQuiet c Ended
-quiet_ended c = record { turn = λ earlier. refl; last = λ before. refl; use_none = λ previous. refl; other = λ block. refl }
+quiet_ended c = record { nth = λ earlier. refl; last = λ before. refl; use_none = λ previous. refl; other = λ block. refl }
 
 -- with one move more
 times_more : (block : ℕ) (c : Controller) (moves : List Controller)

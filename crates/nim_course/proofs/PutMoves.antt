@@ -26,7 +26,7 @@ use Rattle.nim_course.specs.Controller.{Controller}
 use Rattle.nim_course.specs.Leads.{AreLeading, AreLeadingFor, Leads, is_key_from}
 use Rattle.nim_course.specs.Moves.{asked, after_pending, orders_of, orders_asked, orders_with, with_counted}
 use Rattle.nim_course.specs.OrdersGiven.{epoch_orders, first_commands, single_for}
-use Rattle.nim_course.specs.PutLists.{ArePut, HasNoFirst, IsMove, is_begin, last_block, line_for, orders_by_moves, turns_given, uses_by}
+use Rattle.nim_course.specs.PutLists.{ArePut, HasNoFirst, IsMove, is_begin, last_block, line_for, nths_given, orders_by_moves, uses_by}
 use Rattle.nim_course.specs.Summaries.{tasks_for}
 use Rattle.nim_course.proofs.Homes.{live_below}
 use Rattle.nim_place.proofs.Directed.{to_append}
@@ -34,7 +34,7 @@ use Rattle.nim_course.proofs.PutCounts.{control_after, control_counted, line_cou
 use Rattle.nim_course.proofs.PutDecisions.{IsQuiet, RestOn, quiet_begin, quiet_cell, quiet_ended, quiet_idle, quiet_parts, quiet_rests}
 use Rattle.nim_course.proofs.PutFirst.{ArePlainOf, alone_singles, asked_plain, plain_none, plain_singles}
 use Rattle.nim_course.proofs.PutTasks.{ComeToTasks, more_singles, runs_of, to_own}
-use Rattle.nim_course.proofs.PutTurns.{AreCountsOf, none_counted}
+use Rattle.nim_course.proofs.PutInstances.{AreCountsOf, none_counted}
 
 -- ---- what a move leaves, its orders not counted yet
 
@@ -51,13 +51,13 @@ pub record IsStep (c next : Controller) (given orders : List Directed) (moves : 
   pub blocks : length next.job.blocks ≡ length c.job.blocks
   pub begun : is_begin next.pending ≡ false
   pub rests : RestOn (c ∷ moves) (length c.job.blocks) next.decisions
-  pub counts : AreCountsOf (turns_given (c ∷ moves)) (uses_by (c ∷ moves)) next.summary
+  pub counts : AreCountsOf (nths_given (c ∷ moves)) (uses_by (c ∷ moves)) next.summary
   pub control : next.summary.control ≡ c.summary.control
   pub workers : next.summary.workers ≡ c.summary.workers
   pub tasks : AddTasks c next.decisions given orders
 
 -- the counts of instances and patches so far
-pub counts_put : (c : Controller) (given : List Directed) (put : ArePut c given) → AreCountsOf (turns_given put.moves) (uses_by put.moves) c.summary
+pub counts_put : (c : Controller) (given : List Directed) (put : ArePut c given) → AreCountsOf (nths_given put.moves) (uses_by put.moves) c.summary
 counts_put c given put = record {
   instances = put.summary.instances;
   single = put.summary.single;
@@ -181,7 +181,7 @@ record IsStill (c next : Controller) : Type 0 where
 quiet_step : (c next : Controller) (given orders : List Directed) (put : ArePut c given) → IsQuiet c c.pending → IsMove put.moves c c.pending
     → IsStill c next → ((decisions : Decisions) → AddTasks c decisions given orders) → IsStep c next given orders put.moves
 quiet_step c next given orders put quiet move still tasks =
-    let turns : List ℕ = turns_given put.moves in
+    let nths : List ℕ = nths_given put.moves in
     let uses : List Use = uses_by put.moves in
     record {
       move = move;
@@ -191,10 +191,10 @@ quiet_step c next given orders put quiet move still tasks =
       rests = subst (RestOn (c ∷ put.moves) (length c.job.blocks)) (sym still.decisions)
           (quiet_rests c put.moves (length c.job.blocks) c.decisions quiet (rests_put c given put));
       counts =
-          subst (AreCountsOf (turns_given (c ∷ put.moves)) (uses_by (c ∷ put.moves))) (sym still.summary)
-          (subst (λ (us : List Use). AreCountsOf (turns_given (c ∷ put.moves)) (us ++ uses) c.summary) (sym (quiet.use_none (last_block put.moves)))
-          (subst (λ (turn : ℕ). AreCountsOf (turn ∷ turns) uses c.summary) (sym (quiet.turn put.moves))
-          (none_counted turns uses c.summary (counts_put c given put))));
+          subst (AreCountsOf (nths_given (c ∷ put.moves)) (uses_by (c ∷ put.moves))) (sym still.summary)
+          (subst (λ (us : List Use). AreCountsOf (nths_given (c ∷ put.moves)) (us ++ uses) c.summary) (sym (quiet.use_none (last_block put.moves)))
+          (subst (λ (nth : ℕ). AreCountsOf (nth ∷ nths) uses c.summary) (sym (quiet.nth put.moves))
+          (none_counted nths uses c.summary (counts_put c given put))));
       control = ap (λ (s : Summary). s.control) still.summary;
       workers = ap (λ (s : Summary). s.workers) still.summary;
       tasks = tasks next.decisions;

@@ -56,14 +56,14 @@ abbrev pub times_given : ℕ → List Controller → ℕ
 times_given block moves = count_by (λ (c : Controller). is_instance_of block c.pending) moves
 
 -- which instance of its block is given with what is pending, the first being 1; 0 where none is
-abbrev pub turn_given : Pending → List Controller → ℕ
-turn_given (Block block args) earlier = times_given block earlier + 1
-turn_given _ earlier = 0
+abbrev pub nth_given : Pending → List Controller → ℕ
+nth_given (Block block args) earlier = times_given block earlier + 1
+nth_given _ earlier = 0
 
 -- so for each move
-abbrev pub turns_given : List Controller → List ℕ
-turns_given [] = []
-turns_given (c ∷ earlier) = turn_given c.pending earlier ∷ turns_given earlier
+abbrev pub nths_given : List Controller → List ℕ
+nths_given [] = []
+nths_given (c ∷ earlier) = nth_given c.pending earlier ∷ nths_given earlier
 
 -- the block of the last instance, if there was one, else the number that stands for none
 abbrev pub block_after : Pending → ℕ → ℕ
@@ -186,10 +186,10 @@ line_for given worker = record {
 -- which were hits; and bytes and orders. No edit was proposed, and no worker was lost.
 pub record IsSummaryOf (moves : List Controller) (live : List Bool) (given : List Directed) (summary : Summary)
     : Type 0 where
-  pub instances : summary.instances ≡ capped_count (count_by (λ (turn : ℕ). nat_le 1 turn) (turns_given moves))
-  pub single : summary.single ≡ capped_count (count_by (λ (turn : ℕ). turn == 1) (turns_given moves))
-  pub installed : summary.installed ≡ capped_count (count_by (λ (turn : ℕ). turn == 2) (turns_given moves))
-  pub cached : summary.cached ≡ capped_count (count_by (λ (turn : ℕ). nat_le 3 turn) (turns_given moves))
+  pub instances : summary.instances ≡ capped_count (count_by (λ (nth : ℕ). nat_le 1 nth) (nths_given moves))
+  pub single : summary.single ≡ capped_count (count_by (λ (nth : ℕ). nth == 1) (nths_given moves))
+  pub installed : summary.installed ≡ capped_count (count_by (λ (nth : ℕ). nth == 2) (nths_given moves))
+  pub cached : summary.cached ≡ capped_count (count_by (λ (nth : ℕ). nat_le 3 nth) (nths_given moves))
   pub made : summary.made ≡ capped_count (length (uses_by moves) - hits_in (uses_by moves))
   pub repeated : summary.repeated ≡ capped_count (hits_in (uses_by moves))
   pub taken : summary.taken ≡ 0

@@ -25,7 +25,8 @@ taken_by : (o : Option Refusal) (values all : List Grid) → judge o values ≡ 
 taken_by None values all is = let same : all ≡ values = cc in (refl, same)
 taken_by (Some other) values all is = cc
 
-pub gave_answers : (o : Option Refusal) (values : List Grid) (result : Result (List Grid) DataFault) → GaveValues (judge o values) result → Answers told o result
+pub gave_answers : (o : Option Refusal) (values : List Grid) (result : Result (List Grid) DataFault) → GaveValues (judge o values) result
+    → Answers told o result
 gave_answers o values (Ok all) gave = (taken_by o values all gave).0
 gave_answers o values (Err (At refusal)) gave = refused_by o values refusal gave
 gave_answers o values (Err NoMemory) gave = tt

@@ -8,32 +8,32 @@ use Rattle.nim_base.specs.Value.{Grid}
 use Rattle.nim_lex.specs.declared.fault.Refusal.{Refusal}
 use Rattle.nim_lex.specs.Refusals.{refused}
 use Rattle.nim_lex.specs.Source.{Line}
-use Rattle.nim_data.specs.declared.lines.Heading.{Heading}
+use Rattle.nim_data.specs.declared.lines.Header.{Header}
 use Rattle.nim_data.specs.declared.reading.Last.{Last}
 use Rattle.nim_data.specs.declared.reading.Last.TheVariants.{Kept, Passed}
 use Rattle.nim_data.specs.declared.reading.Reading.{Reading}
 use Rattle.nim_data.specs.declared.wanted.Wanted.{Wanted}
-use Rattle.nim_data.specs.Lines.{heading, is_bare, row}
-use Rattle.nim_data.specs.Parts.{Loaded, Loading, Part, data_after, data_from, data_rule, with_next_row, parts_loaded, last_part_row, unless, with_heading, with_row as with_row_of}
+use Rattle.nim_data.specs.Lines.{header, is_bare, row}
+use Rattle.nim_data.specs.Parts.{Loaded, Loading, Part, data_after, data_from, data_rule, with_next_row, parts_loaded, last_part_row, unless, with_header, with_row as with_row_of}
 use Rattle.nim_data.specs.Parts as part
 use Rattle.nim_data.specs.Reading.{after_data_line, after_row, with_part_begun, begun_by, part_closed, ended, given, lacks, line_rule, no_part, read_from, last_width}
-use Rattle.nim_data.specs.Wanted.{first_fault, part_heading, next_wanted, parts_in, refusal_by, rule_at, values_of}
+use Rattle.nim_data.specs.Wanted.{first_fault, part_header, next_wanted, parts_in, refusal_by, rule_at, values_of}
 
 -- ---- the headers so far
 
-abbrev planned_of : Part → ℕ × Heading
-planned_of p = (p.line, part_heading p)
+abbrev planned_of : Part → ℕ × Header
+planned_of p = (p.line, part_header p)
 
 -- the last part, with the rows that its header says
-abbrev planned_last : Option Loading → List (ℕ × Heading)
+abbrev planned_last : Option Loading → List (ℕ × Header)
 planned_last None = []
 planned_last (Some l) = (l.part.line, record { name = l.part.name; part = l.part.part; rows = l.wanted; width = l.part.value.width }) ∷ []
 
-abbrev planned : List Part → Option Loading → List (ℕ × Heading)
+abbrev planned : List Part → Option Loading → List (ℕ × Header)
 planned parts last = map planned_of parts ++ planned_last last
 
 -- the first header that a rule refuses
-abbrev fault_in : List Wanted → List (ℕ × Heading) → Option Refusal
+abbrev fault_in : List Wanted → List (ℕ × Header) → Option Refusal
 fault_in ws [] = None
 fault_in ws (p ∷ ps) = option_or (refused p.0 (rule_at (next_wanted ws) p.1)) (fault_in (drop 1 ws) ps)
 
@@ -59,7 +59,7 @@ or_assoc None p q = refl
 or_assoc (Some r) p q = refl
 
 -- one more header
-fault_snoc : (ws : List Wanted) (ps : List (ℕ × Heading)) (p : ℕ × Heading)
+fault_snoc : (ws : List Wanted) (ps : List (ℕ × Header)) (p : ℕ × Header)
     → fault_in ws (ps ++ p ∷ []) ≡ option_or (fault_in ws ps) (refused p.0 (rule_at (next_wanted (drop (length ps) ws)) p.1))
 fault_snoc ws [] p = or_none (refused p.0 (rule_at (next_wanted ws) p.1))
 fault_snoc ws (q ∷ ps) p =
@@ -116,11 +116,11 @@ tests false false false r = refl
 rule_same : (f : Option Refusal) (parts : List Part) (last : Option Loading) (text : List ℕ)
     → line_rule (kept_by f parts last) text ≡ data_rule (record { parts = parts; last = last }) text
 unfolding line_rule data_rule
-rule_same None parts None text = tests (is_bare text) false (is_none (heading text)) true
-rule_same (Some f) parts None text = tests (is_bare text) false (is_none (heading text)) true
+rule_same None parts None text = tests (is_bare text) false (is_none (header text)) true
+rule_same (Some f) parts None text = tests (is_bare text) false (is_none (header text)) true
 rule_same f parts (Some l) text =
     rw (same_lacks f parts (Some l), same_width f parts l)
-    (tests (is_bare text) (part.lacks (Some l)) (is_none (heading text)) (is_none (row l.part.value.width text)))
+    (tests (is_bare text) (part.lacks (Some l)) (is_none (header text)) (is_none (row l.part.value.width text)))
 
 -- ---- one more line
 
@@ -143,7 +143,8 @@ full parts (Some l) closed within =
 
 -- the values of the parts that are closed
 closed_kept : (parts : List Part) (last : Option Loading)
-    → part_closed (kept_by None parts last) ≡ record { values = values_of (parts_loaded (record { parts = parts; last = last })); last = no_part; refused = None }
+    → part_closed (kept_by None parts last)
+    ≡ record { values = values_of (parts_loaded (record { parts = parts; last = last })); last = no_part; refused = None }
 closed_kept parts None = refl
 closed_kept parts (Some l) =
     ap (λ (values : List Grid). record { values = values; last = no_part; refused = None }) (sym (map-append (λ (p : Part). p.value) parts (l.part ∷ [])))
@@ -156,15 +157,16 @@ closed_passed f parts (Some l) = refl
 no_less : (n : ℕ) → n - 0 ≡ n
 no_less n = omega arith
 
-abbrev passing : Refusal → Heading → ℕ → Reading
+abbrev passing : Refusal → Header → ℕ → Reading
 passing f h n = record { values = []; last = Passed n h.width; refused = Some f }
 
-begins : (ps : List Part) (number : ℕ) (h : Heading) (rule : Option ℕ)
-    → begun_by rule (record { values = values_of ps; last = no_part; refused = None }) number h ≡ kept_by (refused number rule) ps (Some (part.part_begun number h))
+begins : (ps : List Part) (number : ℕ) (h : Header) (rule : Option ℕ)
+    → begun_by rule (record { values = values_of ps; last = no_part; refused = None }) number h
+    ≡ kept_by (refused number rule) ps (Some (part.part_begun number h))
 begins ps number h None = refl
 begins ps number h (Some rule) = ap (passing (record { line = number; rule = rule }) h) (sym (no_less h.rows))
 
-begun_kept : (f : Option Refusal) (ws : List Wanted) (parts : List Part) (last : Option Loading) (number : ℕ) (h : Heading)
+begun_kept : (f : Option Refusal) (ws : List Wanted) (parts : List Part) (last : Option Loading) (number : ℕ) (h : Header)
     → with_part_begun ws (part_closed (kept_by f parts last)) number h
     ≡ kept_by (option_or f (refused number (rule_at (next_wanted (drop (length (parts_loaded (record { parts = parts; last = last }))) ws)) h)))
     (parts_loaded (record { parts = parts; last = last })) (Some (part.part_begun number h))
@@ -179,16 +181,16 @@ begun_kept None ws parts last number h =
 begun_kept (Some f) ws parts last number h =
     ap (λ (r : Reading). with_part_begun ws r number h) (closed_passed f parts last) ∙ ap (passing f h) (sym (no_less h.rows))
 
-heading_kept : (ws : List Wanted) (parts : List Part) (last : Option Loading) (number : ℕ) (h : Heading) → part.lacks last ≡ false → Within last
+header_kept : (ws : List Wanted) (parts : List Part) (last : Option Loading) (number : ℕ) (h : Header) → part.lacks last ≡ false → Within last
     → with_part_begun ws (part_closed (kept ws (record { parts = parts; last = last }))) number h
     ≡ kept ws (record { parts = parts_loaded (record { parts = parts; last = last }); last = Some (part.part_begun number h) })
-heading_kept ws parts last number h closed_all within =
+header_kept ws parts last number h closed_all within =
     let ps : List Part = parts_loaded (record { parts = parts; last = last }) in
     let before : map planned_of ps ≡ planned parts last = full parts last closed_all within in
-    let count : length (planned parts last) ≡ length ps = sym (ap (λ (xs : List (ℕ × Heading)). length xs) before) ∙ length-map ps planned_of in
+    let count : length (planned parts last) ≡ length ps = sym (ap (λ (xs : List (ℕ × Header)). length xs) before) ∙ length-map ps planned_of in
     let now : fault_in ws (map planned_of ps ++ (number, h) ∷ []) ≡ option_or (fault_in ws (planned parts last))
     (refused number (rule_at (next_wanted (drop (length ps) ws)) h)) =
-    ap (λ (xs : List (ℕ × Heading)). fault_in ws (xs ++ (number, h) ∷ [])) before
+    ap (λ (xs : List (ℕ × Header)). fault_in ws (xs ++ (number, h) ∷ [])) before
     ∙ fault_snoc ws (planned parts last) (number, h)
     ∙ ap (λ (n : ℕ). option_or (fault_in ws (planned parts last)) (refused number (rule_at (next_wanted (drop n ws)) h))) count in
     begun_kept (fault_in ws (planned parts last)) ws parts last number h
@@ -216,15 +218,15 @@ follows_row ws parts l number text some lacking (Some cells) read sound within =
       within = rw (some, lacking, read) (let more = length-append l.part.value.rows (cells ∷ []) in grind (arith, nat_tests));
     }
 
-follows_heading : (ws : List Wanted) (parts : List Part) (last : Option Loading) (number : ℕ) (text : List ℕ) → is_bare text ≡ false → part.lacks last ≡ false
-    → (h : Option Heading) → heading text ≡ h → data_rule (record { parts = parts; last = last }) text ≡ None → Within last
+follows_header : (ws : List Wanted) (parts : List Part) (last : Option Loading) (number : ℕ) (text : List ℕ) → is_bare text ≡ false → part.lacks last ≡ false
+    → (h : Option Header) → header text ≡ h → data_rule (record { parts = parts; last = last }) text ≡ None → Within last
     → Follows ws (record { parts = parts; last = last }) number text
 unfolding data_rule data_after after_data_line
-follows_heading ws parts last number text some closed_all None read sound within =
+follows_header ws parts last number text some closed_all None read sound within =
     absurd (let no : Some 71 ≡ None = (rw (some, closed_all, read) at sound) in cc)
-follows_heading ws parts last number text some closed_all (Some h) read sound within =
+follows_header ws parts last number text some closed_all (Some h) read sound within =
     record {
-      same = rw (some, same_lacks (fault_in ws (planned parts last)) parts last, closed_all, read) (heading_kept ws parts last number h closed_all within);
+      same = rw (some, same_lacks (fault_in ws (planned parts last)) parts last, closed_all, read) (header_kept ws parts last number h closed_all within);
       within = rw (some, closed_all, read) (omega arith);
     }
 
@@ -241,10 +243,10 @@ follows ws parts last number text sound within =
       | true ↦ λ bare. follows_bare ws st number text bare within
       | false ↦ λ some. elim last as (λ (o : Option Loading). data_rule (record { parts = parts; last = o }) text ≡ None → Within o
           → Follows ws (record { parts = parts; last = o }) number text) [
-            | None ↦ λ s w. follows_heading ws parts None number text some refl (heading text) refl s w
+            | None ↦ λ s w. follows_header ws parts None number text some refl (header text) refl s w
             | Some l ↦ λ s w. elim (part.lacks (Some l)) as (λ t. part.lacks (Some l) ≡ t → Follows ws (record { parts = parts; last = Some l }) number text) [
               | true ↦ λ lacking. follows_row ws parts l number text some lacking (row l.part.value.width text) refl s w
-              | false ↦ λ closed_all. follows_heading ws parts (Some l) number text some closed_all (heading text) refl s w
+              | false ↦ λ closed_all. follows_header ws parts (Some l) number text some closed_all (header text) refl s w
             ] refl
           ] sound within
     ] refl
@@ -281,7 +283,7 @@ first_is : (end : ℕ) (ws : List Wanted) (parts : List Part) → first_fault en
 first_is end [] [] = refl
 first_is end (w ∷ ws) [] = let some : nat_lt 0 (length (w ∷ ws)) ≡ true = grind (arith, nat_tests) in rw some refl
 first_is end ws (p ∷ parts) =
-    let first = refused p.line (rule_at (next_wanted ws) (part_heading p)) in
+    let first = refused p.line (rule_at (next_wanted ws) (part_header p)) in
     ap (option_or first) (first_is end (drop 1 ws) parts)
     ∙ or_assoc first (fault_in (drop 1 ws) (map planned_of parts)) (missing end (drop 1 ws) (length parts))
     ∙ ap (λ (t : Bool). option_or (option_or first (fault_in (drop 1 ws) (map planned_of parts))) (cond t (Some (record { line = end; rule = 73 })) None))
@@ -313,7 +315,7 @@ ended_is end ws parts last within =
       | true ↦ λ lacking. rw (same_lacks f parts last, lacking) refl
       | false ↦ λ closed_all.
           let whole : first_fault end ws ps ≡ option_or f (missing end ws (length ps)) = first_is end ws ps
-          ∙ ap (λ (xs : List (ℕ × Heading)). option_or (fault_in ws xs) (missing end ws (length ps))) (full parts last closed_all within) in
+          ∙ ap (λ (xs : List (ℕ × Header)). option_or (fault_in ws xs) (missing end ws (length ps))) (full parts last closed_all within) in
           rw (same_lacks f parts last, closed_all) (gives f end ws parts last ∙ ap (λ (o : Option Refusal). judge o (values_of ps)) (sym whole))
     ] refl
 

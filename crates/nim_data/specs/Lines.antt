@@ -4,7 +4,7 @@ use Rattle.std.specs.List.{list_all, prefix_len}
 use Rattle.std.specs.Char.{is_ascii_alphabetic, is_ascii_digit}
 use Rattle.nim_lex.specs.Bytes.{is_blank, is_name_byte, is_word_byte}
 use Rattle.nim_lex.specs.Numbers.{in_range, decimal_value, signed}
-use Rattle.nim_data.specs.declared.lines.Heading.{Heading}
+use Rattle.nim_data.specs.declared.lines.Header.{Header}
 
 -- a text from its first word on
 abbrev pub unblanked : List ℕ → List ℕ
@@ -33,7 +33,8 @@ is_numeral text = not (length text == 0) && list_all is_ascii_digit text
 
 -- digits, of a number that is at most this
 unfoldable pub bounded : ℕ → List ℕ → Option ℕ
-bounded most digits = if is_numeral digits && nat_le (decimal_value digits) most then Some (decimal_value digits) else None
+bounded most digits = if is_numeral digits && nat_le (decimal_value digits) most then Some
+    (decimal_value digits) else None
 
 -- digits behind a sign, of a number in the range
 unfoldable pub whole : Bool → List ℕ → Option ℤ
@@ -48,7 +49,8 @@ cell (b ∷ rest) = if b == 45 then whole true rest else whole false (b ∷ rest
 -- so many cells, and no word behind them
 unfoldable pub cells_from : ℕ → List ℤ → List ℕ → Option (List ℤ)
 cells_from zero found text = if is_bare text then Some found else None
-cells_from (suc n) found text = then_read (cell (word text)) (λ x. cells_from n (found ++ x ∷ []) (behind_first_word text))
+cells_from (suc n) found text = then_read (cell (word text))
+    (λ x. cells_from n (found ++ x ∷ []) (behind_first_word text))
 
 -- a row of a width
 abbrev pub row : ℕ → List ℕ → Option (List ℤ)
@@ -59,15 +61,16 @@ unfoldable pub is_short_name : List ℕ → Bool
 is_short_name text = (nat_le (length text) 16 && is_ascii_alphabetic (slice_index text 0)) && list_all is_name_byte text
 
 -- a header of these words and numbers, where the name is one, the width is 1 or more, and no word is left
-abbrev pub heading_of : List ℕ → List ℕ → ℕ → ℕ → ℕ → Option Heading
-heading_of name rest part rows width =
+abbrev pub header_from : List ℕ → List ℕ → ℕ → ℕ → ℕ → Option Header
+header_from name rest part rows width =
     if is_short_name name && (nat_lt 0 width && is_bare rest)
     then Some (record { name = name; part = part; rows = rows; width = width }) else None
 
 -- NAME PART ROWS WIDTH, and no word behind them
-unfoldable pub heading : List ℕ → Option Heading
-heading text =
+unfoldable pub header : List ℕ → Option Header
+header text =
     then_read (bounded 63 (word (behind_first_word text))) (λ part.
     then_read (bounded 65536 (word (behind_first_word (behind_first_word text)))) (λ rows.
     then_read (bounded 65536 (word (behind_first_word (behind_first_word (behind_first_word text))))) (λ width.
-    heading_of (word text) (behind_first_word (behind_first_word (behind_first_word (behind_first_word text)))) part rows width)))
+    header_from (word text)
+    (behind_first_word (behind_first_word (behind_first_word (behind_first_word text)))) part rows width)))

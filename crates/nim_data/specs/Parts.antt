@@ -4,8 +4,8 @@ use Rattle.nim_base.specs.Value.{Grid}
 use Rattle.nim_lex.specs.declared.fault.Refusal.{Refusal}
 use Rattle.nim_lex.specs.Refusals.{refused}
 use Rattle.nim_lex.specs.Source.{Line, line_count, lines_of}
-use Rattle.nim_data.specs.declared.lines.Heading.{Heading}
-use Rattle.nim_data.specs.Lines.{heading, is_bare, row}
+use Rattle.nim_data.specs.declared.lines.Header.{Header}
+use Rattle.nim_data.specs.Lines.{header, is_bare, row}
 
 -- a part: its header's line, the variable's name, the part's number, and its rows
 pub record Part : Type 0 where
@@ -43,7 +43,7 @@ parts_loaded st = all_parts st.parts st.last where
   all_parts parts (Some l) = parts ++ l.part ∷ []
 
 -- a part without rows yet
-abbrev pub part_begun : ℕ → Heading → Loading
+abbrev pub part_begun : ℕ → Header → Loading
 part_begun line h = record {
   wanted = h.rows;
   part = record { line = line; name = h.name; part = h.part; value = record { width = h.width; rows = [] } };
@@ -68,7 +68,7 @@ last_part_row (Some l) text = row l.part.value.width text
 
 -- a header not of its form
 abbrev pub rule_71 : Loaded → List ℕ → Bool
-rule_71 st text = not (lacks st.last) && is_none (heading text)
+rule_71 st text = not (lacks st.last) && is_none (header text)
 
 -- a row line that isn't as many numbers in the range as the part is wide
 abbrev pub rule_72 : Loaded → List ℕ → Bool
@@ -81,9 +81,9 @@ data_rule st text =
     else (if rule_71 st text then Some 71 else (if rule_72 st text then Some 72 else None))
 
 -- after one more line
-abbrev pub with_heading : Loaded → ℕ → Option Heading → Loaded
-with_heading st line None = st
-with_heading st line (Some h) = record { parts = parts_loaded st; last = Some (part_begun line h) }
+abbrev pub with_header : Loaded → ℕ → Option Header → Loaded
+with_header st line None = st
+with_header st line (Some h) = record { parts = parts_loaded st; last = Some (part_begun line h) }
 
 -- after a row of the last part; where none was read, as before
 abbrev pub with_row : Loaded → Option Loading → Option (List ℤ) → Loaded
@@ -94,7 +94,7 @@ with_row st _ _ = st
 unfoldable pub data_after : Loaded → ℕ → List ℕ → Loaded
 data_after st line text =
     if is_bare text then st
-    else (if lacks st.last then with_row st st.last (last_part_row st.last text) else with_heading st line (heading text))
+    else (if lacks st.last then with_row st st.last (last_part_row st.last text) else with_header st line (header text))
 
 -- ---- a data file
 

@@ -6,12 +6,12 @@ use Rattle.nim_lex.specs.Refusals.{refused}
 use Rattle.nim_lex.specs.Source.{Line}
 use Rattle.nim_data.specs.declared.fault.DataFault.{DataFault}
 use Rattle.nim_data.specs.declared.fault.DataFault.TheVariants.{At, NoMemory}
-use Rattle.nim_data.specs.declared.lines.Heading.{Heading}
+use Rattle.nim_data.specs.declared.lines.Header.{Header}
 use Rattle.nim_data.specs.declared.reading.Last.{Last}
 use Rattle.nim_data.specs.declared.reading.Last.TheVariants.{Kept, Passed}
 use Rattle.nim_data.specs.declared.reading.Reading.{Reading}
 use Rattle.nim_data.specs.declared.wanted.Wanted.{Wanted}
-use Rattle.nim_data.specs.Lines.{heading, is_bare, row}
+use Rattle.nim_data.specs.Lines.{header, is_bare, row}
 use Rattle.nim_data.specs.Parts.{unless}
 use Rattle.nim_data.specs.Wanted.{rule_at}
 
@@ -45,14 +45,14 @@ abbrev pub row_rule : Option (List ℤ) → Option ℕ
 row_rule cells = if is_none cells then Some 72 else None
 
 -- the rule that refuses a line in the place of a header, where no header could be read
-abbrev pub heading_rule : Option Heading → Option ℕ
-heading_rule h = if is_none h then Some 71 else None
+abbrev pub header_form_rule : Option Header → Option ℕ
+header_form_rule h = if is_none h then Some 71 else None
 
 -- the rule that refuses a line; one without words is skipped
 unfoldable pub line_rule : Reading → List ℕ → Option ℕ
 line_rule r text =
     if is_bare text then None
-    else (if lacks r.last then row_rule (row (last_width r.last) text) else heading_rule (heading text))
+    else (if lacks r.last then row_rule (row (last_width r.last) text) else header_form_rule (header text))
 
 -- after a row of the last part; where none was read, as before
 abbrev pub after_row : Reading → Option (List ℤ) → Reading
@@ -67,32 +67,32 @@ part_closed r = close r.last where
   close (Passed left width) = record r { last = no_part }
 
 -- a part that isn't kept: as many rows of a width are to come as its header says
-abbrev pub part_passed : Heading → Last
+abbrev pub part_passed : Header → Last
 part_passed h = Passed h.rows h.width
 
 -- a part that is kept where no rule refuses its header
-abbrev pub begun_by : Option ℕ → Reading → ℕ → Heading → Reading
+abbrev pub begun_by : Option ℕ → Reading → ℕ → Header → Reading
 begun_by None r line h = record r { last = Kept h.rows (record { width = h.width; rows = [] }) }
 begun_by (Some rule) r line h =
     record { values = []; last = part_passed h; refused = Some (record { line = line; rule = rule }) }
 
 -- a part begins behind those that are closed
-abbrev pub with_part_begun : List Wanted → Reading → ℕ → Heading → Reading
+abbrev pub with_part_begun : List Wanted → Reading → ℕ → Header → Reading
 with_part_begun ws r line h = begin r.refused where
   begin : Option Refusal → Reading
   begin None = begun_by (rule_at (slice_get ws (length r.values)) h) r line h
   begin (Some refusal) = record r { last = part_passed h }
 
 -- after a header, which ends the part before it; where none was read, as before
-abbrev pub after_heading : List Wanted → Reading → ℕ → Option Heading → Reading
-after_heading ws r line None = r
-after_heading ws r line (Some h) = with_part_begun ws (part_closed r) line h
+abbrev pub after_header : List Wanted → Reading → ℕ → Option Header → Reading
+after_header ws r line None = r
+after_header ws r line (Some h) = with_part_begun ws (part_closed r) line h
 
 -- after one more line
 unfoldable pub after_data_line : List Wanted → Reading → ℕ → List ℕ → Reading
 after_data_line ws r line text =
     if is_bare text then r
-    else (if lacks r.last then after_row r (row (last_width r.last) text) else after_heading ws r line (heading text))
+    else (if lacks r.last then after_row r (row (last_width r.last) text) else after_header ws r line (header text))
 
 -- ---- a file
 
@@ -111,7 +111,8 @@ ended end ws r = if lacks r.last then Err (record { line = end; rule = 72 }) els
 abbrev pub read_from : ℕ → List Wanted → Reading → List Line → Result (List Grid) Refusal
 read_from end ws r [] = ended end ws r
 read_from end ws r (line ∷ rest) =
-    unless (refused line.number (line_rule r line.bytes)) (read_from end ws (after_data_line ws r line.number line.bytes) rest)
+    unless (refused line.number (line_rule r line.bytes))
+    (read_from end ws (after_data_line ws r line.number line.bytes) rest)
 
 -- what a call gave is this, unless memory was refused
 abbrev pub GaveValues : Result (List Grid) Refusal → Result (List Grid) DataFault → Type 0

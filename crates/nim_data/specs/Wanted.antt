@@ -5,39 +5,40 @@ use Rattle.nim_base.specs.Value.{Grid}
 use Rattle.nim_lex.specs.declared.fault.Refusal.{Refusal}
 use Rattle.nim_lex.specs.Refusals.{refused}
 use Rattle.nim_lex.specs.Source.{line_count}
-use Rattle.nim_data.specs.declared.lines.Heading.{Heading}
+use Rattle.nim_data.specs.declared.lines.Header.{Header}
 use Rattle.nim_data.specs.declared.wanted.Wanted.{Wanted}
 use Rattle.nim_data.specs.Parts.{Part, data_of}
 
 -- ---- the rules of a header
 
 -- a header that isn't that of this part
-abbrev pub rule_73 : Wanted → Heading → Bool
+abbrev pub rule_73 : Wanted → Header → Bool
 rule_73 w h = not (bytes_eq w.name h.name && (w.part == h.part))
 
 -- more rows than the variable has
-abbrev pub rule_74 : Wanted → Heading → Bool
+abbrev pub rule_74 : Wanted → Header → Bool
 rule_74 w h = nat_lt w.shape.rows h.rows
 
 -- another width than the variable's
-abbrev pub rule_75 : Wanted → Heading → Bool
+abbrev pub rule_75 : Wanted → Header → Bool
 rule_75 w h = not (h.width == w.shape.width)
 
 -- the smallest rule that refuses a header, where this part is to be loaded
-unfoldable pub header_rule : Wanted → Heading → Option ℕ
+unfoldable pub header_rule : Wanted → Header → Option ℕ
 header_rule w h =
     if rule_73 w h then Some 73 else (if rule_74 w h then Some 74 else (if rule_75 w h then Some 75 else None))
 
 -- where this part is to be loaded, or none any more: one too many isn't the next one either
-abbrev pub rule_at : Option Wanted → Heading → Option ℕ
+abbrev pub rule_at : Option Wanted → Header → Option ℕ
 rule_at None h = Some 73
 rule_at (Some w) h = header_rule w h
 
 -- ---- the parts of a file
 
 -- the header of a part that has all its rows
-abbrev pub part_heading : Part → Heading
-part_heading part = record { name = part.name; part = part.part; rows = length part.value.rows; width = part.value.width }
+abbrev pub part_header : Part → Header
+part_header part = record
+    { name = part.name; part = part.part; rows = length part.value.rows; width = part.value.width }
 
 -- the part that is to be loaded next, if one is left
 abbrev pub next_wanted : List Wanted → Option Wanted
@@ -50,7 +51,7 @@ abbrev pub first_fault : ℕ → List Wanted → List Part → Option Refusal
 first_fault end [] [] = None
 first_fault end (w ∷ ws) [] = Some (record { line = end; rule = 73 })
 first_fault end ws (part ∷ parts) =
-    option_or (refused part.line (rule_at (next_wanted ws) (part_heading part))) (first_fault end (drop 1 ws) parts)
+    option_or (refused part.line (rule_at (next_wanted ws) (part_header part))) (first_fault end (drop 1 ws) parts)
 
 -- the lines of the file come first, then its parts
 abbrev pub refusal_by : ℕ → List Wanted → Result (List Part) Refusal → Option Refusal

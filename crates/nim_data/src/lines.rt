@@ -13,7 +13,7 @@ use std::alloc::Global;
 
 /// A header, `NAME PART ROWS WIDTH`.
 #[derive(Drop)]
-pub struct Heading {
+pub struct Header {
     pub name: Seq<u8>,
     pub part: u32,
     pub rows: u32,
@@ -57,10 +57,10 @@ pub fn read_row(width: u32, line: &[u8], cells: &mut Vec<i64>) -> Result<(), Unr
 }
 
 /// Reads a header.
-#[tactic(auto, unfolding(crate::specs::Lines::heading))]
-pub fn read_heading(alloc: Global, line: &[u8]) -> Result<Heading, Unread>
-    ensures heading { Gives (spec.heading line.now) result }
-    ensures wide { IfOk result (λ heading. 1 ≤ heading.width) }
+#[tactic(auto, unfolding(crate::specs::Lines::header))]
+pub fn read_header(alloc: Global, line: &[u8]) -> Result<Header, Unread>
+    ensures header { Gives (spec.header line.now) result }
+    ensures wide { IfOk result (λ header. 1 ≤ header.width) }
 {
     let (name, rest) = next_word(line);
     let (part, rest) = next_word(rest);
@@ -73,7 +73,7 @@ pub fn read_heading(alloc: Global, line: &[u8]) -> Result<Heading, Unread>
         return Err(Unread::Malformed);
     }
     let name = bytes(alloc, name)?;
-    Ok(Heading {
+    Ok(Header {
         name,
         part,
         rows,

@@ -1,11 +1,11 @@
 //! What is kept of the lines of a data file so far. From the first part that isn't wanted on, only the form counts.
 
 ghost use Rattle.std.specs.Prelude.{◌≡◌, ◌<◌, ◌≤◌, if◌then◌else◌, is_none, length, true, false, IfOk, OnOk, None};
-ghost use Rattle.nim_data.specs.Lines.{heading, row};
+ghost use Rattle.nim_data.specs.Lines.{header, row};
 ghost use Rattle.nim_data.specs.Reading as spec;
 
 use crate::fault::Unread;
-use crate::lines::{Heading, is_bare, read_heading, read_row};
+use crate::lines::{Header, is_bare, read_header, read_row};
 use crate::wanted::{Wanted, rule_at};
 use nim_base::{NoMemory, Seq, Value};
 use nim_lex::Refusal;
@@ -13,7 +13,7 @@ use std::alloc::Global;
 use std::mem;
 
 /// A header is not of its form.
-const NO_HEADING: u8 = 71;
+const NO_HEADER: u8 = 71;
 
 /// A row is not of its form, or missing.
 pub const NO_ROW: u8 = 72;
@@ -117,7 +117,8 @@ impl Reading {
         row: &mut Vec<i64>,
     ) -> Result<Option<u8>, NoMemory>
         ensures rule { IfOk result (λ rule. rule ≡ spec.line_rule self.old line.now) }
-        ensures next { IfOk result (λ rule. rule ≡ None → self.new ≡ spec.after_data_line wanted.now self.old number line.now) }
+        ensures next { IfOk result
+            (λ rule. rule ≡ None → self.new ≡ spec.after_data_line wanted.now self.old number line.now) }
     {
         if is_bare(line) {
             return Ok(None);
@@ -125,7 +126,7 @@ impl Reading {
         if self.lacks() {
             self.take_row(line, row)
         } else {
-            self.take_heading(alloc, wanted, number, line)
+            self.take_header(alloc, wanted, number, line)
         }
     }
 
@@ -145,53 +146,53 @@ impl Reading {
         }
     }
 
-    fn take_heading(
+    fn take_header(
         &mut self,
         alloc: Global,
         wanted: &[Wanted],
         number: u32,
         line: &[u8],
     ) -> Result<Option<u8>, NoMemory>
-        ensures rule { IfOk result (λ rule. rule ≡ spec.heading_rule (heading line.now)) }
+        ensures rule { IfOk result (λ rule. rule ≡ spec.header_form_rule (header line.now)) }
         ensures next { IfOk result (λ rule. rule ≡ None
-            → self.new ≡ spec.after_heading wanted.now self.old number (heading line.now)) }
+            → self.new ≡ spec.after_header wanted.now self.old number (header line.now)) }
     {
-        match read_heading(alloc, line) {
-            Ok(heading) => {
+        match read_header(alloc, line) {
+            Ok(header) => {
                 self.close()?;
-                self.begin(alloc, wanted, number, &heading);
+                self.begin(alloc, wanted, number, &header);
                 Ok(None)
             }
-            Err(Unread::Malformed) => Ok(Some(NO_HEADING)),
+            Err(Unread::Malformed) => Ok(Some(NO_HEADER)),
             Err(Unread::NoMemory) => Err(NoMemory),
         }
     }
 
     /// A part begins behind those that are closed.
-    fn begin(&mut self, alloc: Global, wanted: &[Wanted], number: u32, heading: &Heading)
-        requires { 1 ≤ heading.now.width }
-        ensures { self.new ≡ spec.with_part_begun wanted.now self.old number heading.now }
+    fn begin(&mut self, alloc: Global, wanted: &[Wanted], number: u32, header: &Header)
+        requires { 1 ≤ header.now.width }
+        ensures { self.new ≡ spec.with_part_begun wanted.now self.old number header.now }
     {
         if self.refused.is_some() {
-            self.pass(heading);
-        } else if let Some(rule) = rule_at(wanted.get(self.values.len()), heading) {
+            self.pass(header);
+        } else if let Some(rule) = rule_at(wanted.get(self.values.len()), header) {
             self.values = Seq::new(alloc);
             self.refused = Some(Refusal { line: number, rule });
-            self.pass(heading);
+            self.pass(header);
         } else {
             self.last = Last::Kept {
-                wanted: heading.rows,
-                value: Value::new(alloc, heading.width),
+                wanted: header.rows,
+                value: Value::new(alloc, header.width),
             };
         }
     }
 
-    fn pass(&mut self, heading: &Heading)
-        ensures { self.new ≡ record self.old { last = spec.part_passed heading.now } }
+    fn pass(&mut self, header: &Header)
+        ensures { self.new ≡ record self.old { last = spec.part_passed header.now } }
     {
         self.last = Last::Passed {
-            left: heading.rows,
-            width: heading.width,
+            left: header.rows,
+            width: header.width,
         };
     }
 }

@@ -1,7 +1,7 @@
 ghost use Rattle.std.specs.Prelude.{◌≡◌, option_map, None, Some};
 ghost use Rattle.nim_data.specs.Wanted as spec;
 
-use crate::lines::Heading;
+use crate::lines::Header;
 use nim_base::{Seq, Shape};
 
 /// A header isn't that of the next wanted part, or a part is missing at the end.
@@ -22,24 +22,24 @@ pub struct Wanted {
 }
 
 /// The rule that refuses a header in the place of a wanted part; there may be none left.
-pub fn rule_at(wanted: Option<&Wanted>, heading: &Heading) -> Option<u8>
-    ensures { result ≡ spec.rule_at (option_map (λ w. w.now) wanted.entry) heading.now }
+pub fn rule_at(wanted: Option<&Wanted>, header: &Header) -> Option<u8>
+    ensures { result ≡ spec.rule_at (option_map (λ w. w.now) wanted.entry) header.now }
 {
     match wanted {
         None => Some(NOT_NEXT),
-        Some(wanted) => rule_of(wanted, heading),
+        Some(wanted) => rule_of(wanted, header),
     }
 }
 
 #[tactic(auto, unfolding(crate::specs::Wanted::header_rule))]
-fn rule_of(wanted: &Wanted, heading: &Heading) -> Option<u8>
-    ensures { result ≡ spec.header_rule wanted.now heading.now }
+fn rule_of(wanted: &Wanted, header: &Header) -> Option<u8>
+    ensures { result ≡ spec.header_rule wanted.now header.now }
 {
-    if wanted.name.as_slice() != heading.name.as_slice() || wanted.part != heading.part {
+    if wanted.name.as_slice() != header.name.as_slice() || wanted.part != header.part {
         Some(NOT_NEXT)
-    } else if heading.rows > wanted.shape.rows {
+    } else if header.rows > wanted.shape.rows {
         Some(TOO_MANY_ROWS)
-    } else if heading.width != wanted.shape.width {
+    } else if header.width != wanted.shape.width {
         Some(OTHER_WIDTH)
     } else {
         None

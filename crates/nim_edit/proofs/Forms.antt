@@ -204,7 +204,8 @@ module _ (template : WorkerTemplate) (task : ℕ) (to : Worker) (move : IsMove t
   migrated_halves : (migrated template task to).halves ≡ halves_for template (slice_set template.owners task to)
   migrated_halves =
       same_list [] (migrated template task to).halves (halves_for template (slice_set template.owners task to))
-      (long ∙ sym (length-map-range_with_len (λ (n : ℕ). edited_half template (slice_set template.owners task to) (record { 0 = n })) 0 (length template.built)))
+      (long
+      ∙ sym (length-map-range_with_len (λ (n : ℕ). edited_half template (slice_set template.owners task to) (record { 0 = n })) 0 (length template.built)))
       (λ i less. each_at i (omega (arith, long, less))
       ∙ sym (get_or-map-range_with_len (λ (n : ℕ). edited_half template (slice_set template.owners task to) (record { 0 = n })) 0 (length template.built) i i []
       (omega (arith, long, less)) (omega arith))) where

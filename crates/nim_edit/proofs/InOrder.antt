@@ -229,7 +229,8 @@ none_of : (before : Object → ℕ) (base : ℕ) (args : List ℤ) (worker : Wor
     → AreOfHalf before base args worker (commands_from before base args number halves) []
 none_of before base args worker number [] below = refl
 none_of before base args worker number (half ∷ halves) below =
-    half_append before base args worker (commands_of_half before base args (record { 0 = number }) half) (commands_from before base args (number + 1) halves) [] []
+    half_append before base args worker (commands_of_half before base args (record { 0 = number }) half)
+    (commands_from before base args (number + 1) halves) [] []
     (one_half before base args worker number half false (ne_eqb number worker.0 (λ same. absurd (omega (arith, same, below)))))
     (none_of before base args worker (number + 1) halves (omega (arith, below)))
 
@@ -239,7 +240,8 @@ half_from before base args worker number zero [] at = refl
 half_from before base args worker number (suc i) [] at = refl
 half_from before base args worker number zero (half ∷ halves) at =
     subst (AreOfHalf before base args worker (commands_from before base args number (half ∷ halves))) (append-nil half)
-    (half_append before base args worker (commands_of_half before base args (record { 0 = number }) half) (commands_from before base args (number + 1) halves) half
+    (half_append before base args worker (commands_of_half before base args (record { 0 = number }) half)
+    (commands_from before base args (number + 1) halves) half
     []
     (one_half before base args worker number half true (eq-eqb number worker.0 (omega (arith, at))))
     (none_of before base args worker (number + 1) halves (omega (arith, at))))

@@ -253,7 +253,8 @@ same_from before base args number (x ∷ xs) (y ∷ ys) versions long room each 
           → after_commands versions (commands_from before base args number (half ∷ halves))
           ≡ after_commands (after_entries (step number) versions half) (commands_from before base args (number + 1) halves)
       parts half halves =
-          fold-append (λ (v : Versions) (c : Worker × Command). after_kind c.0 v c.1.kind) versions (commands_of_half before base args (record { 0 = number }) half)
+          fold-append (λ (v : Versions) (c : Worker × Command). after_kind c.0 v c.1.kind) versions
+          (commands_of_half before base args (record { 0 = number }) half)
           (commands_from before base args (number + 1) halves)
           ∙ ap (λ (v : Versions). after_commands v (commands_from before base args (number + 1) halves))
           (half_leaves before base args (record { 0 = number }) versions half)

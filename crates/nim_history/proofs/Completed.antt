@@ -108,7 +108,8 @@ left_right : (job : Job) (state : WorkerState) (place : ℕ) (asked : Asked) →
     (left_by asked.command.kind (content_in state.slots) slot)
 left_right job state place asked whole right there released frame slot =
     let kind : Kind = asked.command.kind in
-    subst (λ (shapes : List Shape). IsTrueTo job (kept_by shapes (value_received state asked) kind state.slots slot) (left_by kind (content_in state.slots) slot))
+    subst
+    (λ (shapes : List Shape). IsTrueTo job (kept_by shapes (value_received state asked) kind state.slots slot) (left_by kind (content_in state.slots) slot))
     (sym (shapes_there job state.session place asked.command right.sound (listed_at state.session.groups place asked there)))
     (left_true job (value_received state asked) kind state.slots (content_in state.slots) whole (legal_now job state place asked right there released)
     (received_right job state.inbox asked.group asked.command.id kind right.inbox frame) (slots_true job state right) slot)

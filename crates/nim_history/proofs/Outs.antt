@@ -55,7 +55,8 @@ own_good job group (Send slot peer entry) now before whole legal are =
     only_one (IsGoodOut job) (Out.Data peer (frame_of group entry (held_or_empty now slot))) (right.version, right.value)
 own_good job group (Fetch slot ticket) now before whole legal are =
     let right = seen_right job now slot (before slot) (are slot) legal in
-    only_one (IsGoodOut job) (Out.Report (Value group.epoch ticket (held_or_empty now slot).object (held_or_empty now slot).version (held_or_empty now slot).value))
+    only_one (IsGoodOut job)
+    (Out.Report (Value group.epoch ticket (held_or_empty now slot).object (held_or_empty now slot).version (held_or_empty now slot).value))
     (right.version, right.value)
 own_good job group (Run position func params reads writes) now before whole legal are =
     told_good job group position func params reads writes now before whole legal are (is_single group.source)

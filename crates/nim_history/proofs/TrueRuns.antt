@@ -134,13 +134,15 @@ version_there : (job : Job) (position version : ℕ) (task : Task) (object : Obj
     → is_object_within (objects_of job.vars) object ≡ true → is_written object task ≡ true → is_version job object version ≡ true
 version_there job position version task object next there is wrote =
     let before : version - 1 ≡ position = omega (arith, next) in
-    and_from (is_object_within (objects_of job.vars) object) ((version == 0) || option_map_or (is_written object) (slice_get (tasks_of job) (version - 1)) false) is
+    and_from (is_object_within (objects_of job.vars) object)
+    ((version == 0) || option_map_or (is_written object) (slice_get (tasks_of job) (version - 1)) false) is
     (or_right (version == 0) (option_map_or (is_written object) (slice_get (tasks_of job) (version - 1)) false)
     (ap (λ (k : ℕ). option_map_or (is_written object) (slice_get (tasks_of job) k) false) before
     ∙ ap (λ (t : Option Task). option_map_or (is_written object) t false) there ∙ wrote))
 
 -- the results of a Run are fitted to the shapes of the objects that its task writes
-shapes_fitting : (vars : List Var) (slots : List Slot) → list_all is_var vars ≡ true → list_all (is_object_within (objects_of vars)) (map object_of slots) ≡ true
+shapes_fitting : (vars : List Var) (slots : List Slot) → list_all is_var vars ≡ true
+    → list_all (is_object_within (objects_of vars)) (map object_of slots) ≡ true
     → map (fitting_shape (shapes_of vars)) slots ≡ map (shape_at (shapes_of vars)) (map object_of slots)
 shapes_fitting vars [] all there = refl
 shapes_fitting vars (slot ∷ slots) all there =

@@ -116,7 +116,8 @@ through_outs source group left = []
 abbrev pub outs_of : WorkerState → ℕ → Asked → List Out
 outs_of state place asked =
     own_outs asked.group asked.command.kind state.slots
-    ++ through_outs asked.group.source asked.group (left_in_group state.session.groups asked.number (state.ran ++ place ∷ []))
+    ++ through_outs asked.group.source asked.group
+    (left_in_group state.session.groups asked.number (state.ran ++ place ∷ []))
 
 -- a worker that completed a command
 abbrev pub after_asked : WorkerState → ℕ → Asked → WorkerState

@@ -96,7 +96,8 @@ is_single _ = false
 abbrev pub own_outs : Group → Kind → (Slot → Option Held) → List Out
 own_outs group (Send slot peer entry) before = Out.Data peer (frame_of group entry (held_or_empty before slot)) ∷ []
 own_outs group (Fetch slot ticket) before =
-    let held : Held = held_or_empty before slot in Out.Report (Value group.epoch ticket held.object held.version held.value) ∷ []
+    let held : Held =
+    held_or_empty before slot in Out.Report (Value group.epoch ticket held.object held.version held.value) ∷ []
 own_outs group (Run position func params reads writes) before =
     if is_single group.source
     then Out.Report (Ran group.epoch position (contents_read func params reads writes before)) ∷ []

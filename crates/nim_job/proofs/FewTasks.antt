@@ -83,7 +83,8 @@ few_before job (suc n) whole =
 pub few_tasks : (job : Job) → is_whole job ≡ true → length (tasks_of job) ≤ 1024 * job.steps
 few_tasks job whole = few_before job job.steps whole
 
-stmt_fit : (job : Job) (state : State) (stmt : Stmt-F Stmt) → is_whole job ≡ true → list_all (is_whole_task (objects_of job.vars)) (stmt_tasks job state stmt) ≡ true
+stmt_fit : (job : Job) (state : State) (stmt : Stmt-F Stmt) → is_whole job ≡ true
+    → list_all (is_whole_task (objects_of job.vars)) (stmt_tasks job state stmt) ≡ true
 stmt_fit job state (Stmt-F.Do block args) whole = tasks_there job block (map (atom_value state.driver.scalars) args) whole
 stmt_fit job state stmt whole = refl
 
@@ -103,7 +104,8 @@ unfolding tasks_before
 fit_before job zero whole = refl
 fit_before job (suc n) whole =
     list_all-append (is_whole_task (objects_of job.vars)) (tasks_before job n) (tasks_next job (driver_at job n))
-    ∙ and_from (list_all (is_whole_task (objects_of job.vars)) (tasks_before job n)) (list_all (is_whole_task (objects_of job.vars)) (tasks_next job (driver_at job n)))
+    ∙ and_from (list_all (is_whole_task (objects_of job.vars)) (tasks_before job n))
+    (list_all (is_whole_task (objects_of job.vars)) (tasks_next job (driver_at job n)))
     (fit_before job n whole) (next_fit job (driver_at job n) (is_over (driver_at job n)) whole)
 
 -- each task has its function's counts, and reads and writes objects that are there

@@ -159,7 +159,8 @@ objects_there : (vars : List Var) (i : ℕ) (refs : List Ref) → list_all is_va
     → list_all (is_object_within (objects_of vars)) (map (object_meant vars i) refs) ≡ true
 objects_there vars i refs all are =
     list_all-map (is_object_within (objects_of vars)) (object_meant vars i) refs
-    ∙ list_all_weaker (is_ref vars true) (λ ref. is_object_within (objects_of vars) (object_meant vars i ref)) (λ ref is. object_there vars i ref all is) refs are
+    ∙ list_all_weaker (is_ref vars true) (λ ref. is_object_within (objects_of vars) (object_meant vars i ref))
+    (λ ref is. object_there vars i ref all is) refs are
 
 task_there : (vars : List Var) (args : List ℤ) (stage : Stage) (i : ℕ) → list_all is_var vars ≡ true → HasShape vars stage
     → are_distinct (map (object_meant vars i) stage.writes) ≡ true

@@ -37,7 +37,8 @@ least = negsuc 9223372036854775807
 
 -- by 0 the quotient and the remainder are 0
 abbrev pub DividesByZero : Type 0
-DividesByZero = (number : ℤ) → (arith_value Divide number (pos 0) ≡ pos 0) × (arith_value Remainder number (pos 0) ≡ pos 0)
+DividesByZero = (number : ℤ)
+    → (arith_value Divide number (pos 0) ≡ pos 0) × (arith_value Remainder number (pos 0) ≡ pos 0)
 
 -- the least number by -1 is itself, and leaves 0
 abbrev pub DividesTheLeast : Type 0

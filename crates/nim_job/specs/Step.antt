@@ -52,7 +52,8 @@ part_texts name part (grid ∷ grids) = text_of name part grid ++ part_texts nam
 
 -- what `output` prints of a variable
 abbrev pub output_of : List Var → List Grid → ℕ → List ℕ
-output_of vars values var = part_texts (option_map_or (λ v. v.name) (slice_get vars var) []) 0 (parts_at vars values var)
+output_of vars values var = part_texts (option_map_or (λ v. v.name) (slice_get vars var) []) 0
+    (parts_at vars values var)
 
 -- the tasks that a statement runs
 abbrev pub stmt_tasks : Job → State → Stmt-F Stmt → List Task

@@ -187,4 +187,5 @@ is_object_within objects object = nat_lt object.0 objects
 -- whether a task's counts are its function's, what it reads and writes are of so many objects, and it writes none twice
 abbrev pub is_whole_task : ℕ → Task → Bool
 is_whole_task objects task = has_counts task.func (length task.params) (length task.reads) (length task.writes)
-    && list_all (is_object_within objects) task.reads && list_all (is_object_within objects) task.writes && are_distinct task.writes
+    && list_all (is_object_within objects) task.reads && list_all
+    (is_object_within objects) task.writes && are_distinct task.writes

@@ -44,7 +44,8 @@ line_at number start n b rest is_len =
 
 pub step_line : (number start n : ℕ) (bytes : List ℕ) → start < length bytes → n ≡ position_or_len is_newline (drop start bytes)
     → numbered_lines number start (cut (drop start bytes))
-    ≡ record { number = number; at = start; bytes = take n (drop start bytes) } ∷ numbered_lines (number + 1) (start + (n + 1)) (cut (drop (start + (n + 1)) bytes))
+    ≡ record { number = number; at = start; bytes = take n (drop start bytes) } ∷ numbered_lines (number + 1) (start + (n + 1))
+    (cut (drop (start + (n + 1)) bytes))
 step_line number start n bytes within is_len =
     let P : List ℕ → Type 0 = λ xs. n ≡ position_or_len is_newline xs → numbered_lines number start (cut xs)
     ≡ record { number = number; at = start; bytes = take n xs } ∷ numbered_lines (number + 1) (start + (n + 1)) (cut (drop (n + 1) xs)) in

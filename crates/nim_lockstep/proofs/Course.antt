@@ -80,7 +80,8 @@ once_moved c given pending number is there once = either (is_begin pending) refl
   either true first = begins pending first once where
     begins : (p : Pending) → is_begin p ≡ true → BeginOnce p (orders_to number given)
         → BeginOnce (after_pending c p).pending (orders_to number (given ++ orders_with c p))
-    begins Begin begin none = begun_once (after_pending c Begin).pending (orders_to number (given ++ epoch_orders c)) refl (epoch_begins c given number there none)
+    begins Begin begin none = begun_once (after_pending c Begin).pending (orders_to number (given ++ epoch_orders c)) refl
+        (epoch_begins c given number there none)
     begins p begin none = absurd (both_ways false refl begin)
   either false later = once_later c given pending number is later below once
 

@@ -38,7 +38,8 @@ use Rattle.nim_lockstep.proofs.UnderWay.{IsNodeUnderWay, position_at, positions_
 
 -- ---- the positions of the runs
 
-positions_run : (worker : Worker) (epoch : ℕ) (slots : Slot → Option Held) (kind : Kind) → positions_of (ran_by_command worker epoch slots kind) ≡ position_run kind
+positions_run : (worker : Worker) (epoch : ℕ) (slots : Slot → Option Held) (kind : Kind)
+    → positions_of (ran_by_command worker epoch slots kind) ≡ position_run kind
 positions_run worker epoch slots (Run position func params reads writes) = refl
 positions_run worker epoch slots kind = refl
 

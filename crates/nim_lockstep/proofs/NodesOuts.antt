@@ -110,7 +110,8 @@ own_told : (sent : List ToWorker) (trace : List ran_type) (group : Group) (kind 
 own_told sent trace group (Send slot peer entry) slots have =
     only_one (IsToldOut sent trace) (Out.Data peer (frame_of group entry (held_or_empty slots slot))) tt
 own_told sent trace group (Fetch slot ticket) slots have =
-    only_one (IsToldOut sent trace) (Out.Report (Value group.epoch ticket (held_or_empty slots slot).object (held_or_empty slots slot).version (held_or_empty slots slot).value)) tt
+    only_one (IsToldOut sent trace)
+    (Out.Report (Value group.epoch ticket (held_or_empty slots slot).object (held_or_empty slots slot).version (held_or_empty slots slot).value)) tt
 own_told sent trace group (Run position func params reads writes) slots have =
     one_if (IsToldOut sent trace) (Out.Report (Ran group.epoch position (contents_read func params reads writes slots))) (have position refl)
     (is_single group.source)

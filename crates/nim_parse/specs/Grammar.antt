@@ -87,7 +87,8 @@ reference = do
 unfoldable pub init : Parser Init
 init = do
   fill ← eat (codes "fill")
-  if fill then Fill <$> int else (do iota ← eat (codes "iota"); if iota then pure Iota else (expect (codes "load") >> pure Load))
+  if fill then Fill <$> int else
+      (do iota ← eat (codes "iota"); if iota then pure Iota else (expect (codes "load") >> pure Load))
 
 -- {ref} "->"
 unfoldable pub reads_from : ℕ → List Ref → Parser (List Ref)

@@ -54,7 +54,8 @@ with_statement l st = record st {
 abbrev pub with_form : State → Form → State
 with_form st form.Header = record st { phase = Header }
 with_form st (form.Steps s) = record st { phase = Vars; sections = record st.sections { steps = Some s } }
-with_form st (form.Var v) = record st { phase = Vars; sections = record st.sections { vars = st.sections.vars ++ v ∷ [] } }
+with_form st
+    (form.Var v) = record st { phase = Vars; sections = record st.sections { vars = st.sections.vars ++ v ∷ [] } }
 with_form st (form.Block b) = record st { phase = Blocks; block = Some b }
 with_form st (form.Stage s) = with_stage s st
 with_form st form.BlockEnd = with_block_end st

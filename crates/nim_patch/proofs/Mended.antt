@@ -96,7 +96,8 @@ patch_mends versions preconditions whole = record { holds = holds; others = othe
       let kept = kept_for versions precondition.0 slot within (held_object versions precondition.1 some) in
       let current : ℕ → Option ℕ → Bool = λ l o. option_map_or (λ (n : ℕ). n == l) o false in
       ap not (ap₂ current (latest precondition.1) (done.held precondition.0 slot kept)
-      ∙ holds_then (is_target (patch_copies versions preconditions) precondition.0 slot) (held_at versions precondition.0 slot) (latest_of versions precondition.1)
+      ∙ holds_then (is_target (patch_copies versions preconditions) precondition.0 slot) (held_at versions precondition.0 slot)
+      (latest_of versions precondition.1)
       (λ apart. targeted versions preconditions precondition among (ap not apart) some))
 
   others : (worker : Worker) (slot : Slot) → is_target (patch_copies versions preconditions) worker slot ≡ false

@@ -94,7 +94,8 @@ oldest_is kept e long is =
     ∙ ap (λ (o : Option Use). option_map_or (λ (u : Use). u.1.number) o 0) is
 
 -- what is kept after a keeping has numbers as before
-same_numbers : (before after : List Use) → length after ≡ length before → ((number : ℕ) → times_kept number after ≡ times_kept number before) → AreNumbered before
+same_numbers : (before after : List Use) → length after ≡ length before → ((number : ℕ) → times_kept number after ≡ times_kept number before)
+    → AreNumbered before
     → AreNumbered after
 same_numbers before after long same numbered number =
     same number ∙ numbered number ∙ ap (λ (n : ℕ). if nat_lt number n then 1 else 0) (sym long)

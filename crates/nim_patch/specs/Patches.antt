@@ -27,7 +27,8 @@ copy_to_precondition precondition from = record { from = from; to = precondition
 -- the copy for a precondition that fails, from the lowest worker whose main slot holds the latest version
 abbrev pub copy_of : Versions → Worker × Object → Option PatchCopy
 copy_of versions precondition =
-    if fails versions precondition then option_map (copy_to_precondition precondition) (holder versions precondition.1) else None
+    if fails versions precondition then option_map (copy_to_precondition precondition)
+    (holder versions precondition.1) else None
 
 -- a copy, if there is one, before others
 abbrev pub copy_first : Option PatchCopy → List PatchCopy → List PatchCopy

@@ -66,7 +66,8 @@ task_passes p [] i task all there = absurd (none-some task there)
 task_passes p (t ∷ tasks) zero task all there = ap p (sym (same_Some t task there)) ∙ (and_parts (p t) (list_all p tasks) all).0
 task_passes p (t ∷ tasks) (suc i) task all there = task_passes p tasks i task (and_parts (p t) (list_all p tasks) all).1 there
 
-pub task_objects : (n : ℕ) (task : Task) → is_whole_task n task ≡ true → (list_all (is_object_within n) task.reads ≡ true) × (list_all (is_object_within n) task.writes ≡ true)
+pub task_objects : (n : ℕ) (task : Task) → is_whole_task n task ≡ true
+    → (list_all (is_object_within n) task.reads ≡ true) × (list_all (is_object_within n) task.writes ≡ true)
 task_objects n task fit = grind (arith, nat_tests)
 
 pub read_within : (n : ℕ) (reads : List Object) (object : Object) → list_all (is_object_within n) reads ≡ true → is_one_of reads object ≡ true → object.0 < n
@@ -167,7 +168,8 @@ run_legal job before versions task position fits held =
 
 owner_legal : (job : Job) (versions : Versions) (owner : Worker) (task : Task) (number position : ℕ) (given : List (Worker × Command)) (ms : List Moved)
     → ms ≡ moves versions owner [] task.reads
-    → AreMoves versions owner task.reads ms → owner.0 < versions.workers → MapStands given versions → IsAt job position versions → IsFor job versions task position
+    → AreMoves versions owner task.reads ms → owner.0 < versions.workers → MapStands given versions → IsAt job position versions
+    → IsFor job versions task position
     → AreLegal job (commands_for owner given) (map (λ (m : Moved). (receive_of versions number owner m).1) ms ++ run_of task number position ms ∷ [])
 owner_legal job versions owner task number position given ms is are below stands at fits =
     legal_append job (commands_for owner given) received (run_of task number position ms ∷ [])

@@ -16,7 +16,8 @@ use Rattle.nim_place.specs.Versions.{Versions, holder, latest_of}
 -- the version that was the latest before them, whatever commands the map stood for.
 abbrev pub FindsLatest : Versions → Worker → Task → ℕ → Type 0
 FindsLatest versions owner task number =
-    (given : List (Worker × Command)) → MapStands given versions → (object : Object) → is_one_of task.reads object ≡ true
+    (given : List (Worker × Command)) → MapStands given versions → (object : Object)
+    → is_one_of task.reads object ≡ true
     → object.0 < versions.objects
     → is_some (holder versions object) ≡ true
     → let commands : List Command =

@@ -92,7 +92,8 @@ step_of worker number kind plane = with_slots worker (left_by kind (plane.slots 
 
 -- what commands leave, one after another
 abbrev pub plane_left : Plane → List (Worker × Command) → Plane
-plane_left plane commands = fold (λ (now : Plane) (c : Worker × Command). step_of c.0 c.1.id c.1.kind now) plane commands
+plane_left plane commands = fold
+    (λ (now : Plane) (c : Worker × Command). step_of c.0 c.1.id c.1.kind now) plane commands
 
 -- What a command finds: what is sent or copied is there, a Run is the task at its position and finds the versions that
 -- this task reads, and what is received is a version of the slot's object, and was sent.

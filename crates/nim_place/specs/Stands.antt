@@ -45,7 +45,8 @@ is_aside versions _ = true
 
 -- what stood for some commands stands for these too then
 abbrev pub StandsOn : Versions → Versions → List (Worker × Command) → Type 0
-StandsOn before after more = (given : List (Worker × Command)) → MapStands given before → MapStands (given ++ more) after
+StandsOn before after more = (given : List (Worker × Command)) → MapStands given before
+    → MapStands (given ++ more) after
 
 -- each worker's commands have the before sets of the rule
 abbrev pub AreByRule : List (Worker × Command) → Type 0

@@ -204,7 +204,8 @@ fn main_slots<const N: usize>(alloc: Global, objects: &[Object]) -> Result<Short
 
 /// The numbers of the Receives.
 fn received(alloc: Global, number: u16, moved: &[Moved]) -> Result<Short<u32, 8>, NoMemory>
-    ensures { IfOk result (λ before. before ≡ map (λ (m : moved_type). numbers.entry_number number 1 m.index) moved.now) }
+    ensures { IfOk result
+        (λ before. before ≡ map (λ (m : moved_type). numbers.entry_number number 1 m.index) moved.now) }
 {
     let mut before = Short::new(alloc);
     for one in moved {

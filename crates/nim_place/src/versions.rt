@@ -25,7 +25,8 @@ impl Model for VersionMap {
 
     ghost Value = { Versions };
 
-    ghost view = { λ m. record { workers = m.workers; objects = m.objects; held = m.held.items; latest = m.latest.items } };
+    ghost view = { λ m. record
+        { workers = m.workers; objects = m.objects; held = m.held.items; latest = m.latest.items } };
 
     ghost invariant = { λ m. (length m.held.items ≡ m.objects * m.workers) × (length m.latest.items ≡ m.objects) };
 }

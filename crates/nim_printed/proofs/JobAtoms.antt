@@ -18,8 +18,8 @@ use Rattle.nim_check.specs.declared.body.Names.{Names}
 use Rattle.nim_check.specs.Body.{arith_of, atom_of, cmp_of, cond_of, first_of, rest_of}
 use Rattle.nim_check.specs.Names.{Word, has_twice, is_in, reserved}
 use Rattle.nim_check.specs.Rules.{condition_reads, is_known, value_reads}
-use Rattle.nim_check.specs.declared.past.Past.{Past}
-use Rattle.nim_check.specs.Sites.{with_scalar}
+use Rattle.nim_check.specs.declared.scope.Scope.{Scope}
+use Rattle.nim_check.specs.DriverPlaces.{with_scalar}
 use Rattle.nim_printed.specs.Printer.{atom_for, condition_for, operator_for, relation_for, scalar_name, value_for}
 use Rattle.nim_printed.specs.Spelled as spelled
 use Rattle.nim_printed.specs.Trees as trees
@@ -34,8 +34,8 @@ pub scalars_length : (n : ℕ) → length (scalars n) ≡ n
 scalars_length n = length-map-range_with_len scalar_name 0 n
 
 -- what statements did that set so many scalars and left so many open
-abbrev pub past_at : ℕ → ℕ → Past
-past_at depth k = record { scalars = scalars k; depth = depth }
+abbrev pub scope_at : ℕ → ℕ → Scope
+scope_at depth k = record { scalars = scalars k; depth = depth }
 
 -- the names of a job with so many scalars
 abbrev pub names_at : Job → ℕ → Names

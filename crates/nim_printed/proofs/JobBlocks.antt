@@ -17,7 +17,7 @@ use Rattle.nim_check.specs.Made.{block_names, block_of, stage_of, var_names}
 use Rattle.nim_check.specs.Names.{Word, has_twice, is_in, reserved}
 use Rattle.nim_check.specs.Refusals.{first_refusal}
 use Rattle.nim_check.specs.Rules.{rule_41, rule_42, rule_44, rule_of}
-use Rattle.nim_check.specs.Sites.{at_block, block_site, block_sites, stage_sites}
+use Rattle.nim_check.specs.DriverPlaces.{at_block, places_of_block, places_of_blocks, places_of_stages}
 use Rattle.nim_printed.specs.Lines.{block_words, blocks_numbered, listed_words, stage_words}
 use Rattle.nim_printed.specs.Printer.{argument_name, block_lines, blocks_for, blocks_lines, stages_for}
 use Rattle.nim_printed.specs.Spelled as spelled
@@ -87,26 +87,28 @@ none_reserved (word ∷ words) free =
 
 all_free : (args : ℕ) → args ≤ 8 → list_all is_unreserved (arguments args) ≡ true
 all_free args few =
-    ap (list_all is_unreserved) (sym (take-map-range_with_len argument_name 0 8 args few)) ∙ all_taken is_unreserved args (first_names argument_name 8) arguments_free
+    ap (list_all is_unreserved) (sym (take-map-range_with_len argument_name 0 8 args few))
+    ∙ all_taken is_unreserved args (first_names argument_name 8) arguments_free
 
 block_passes : (vars : List Var) (before : List Block) (block : Block) → list_any (is_in reserved) (block.name ∷ block.arguments) ≡ false
     → (is_in (var_names vars) block.name ≡ false) × (is_in (block_names before) block.name ≡ false) × (has_twice block.arguments ≡ false)
     → length before + 1 ≤ 32 → length block.arguments ≤ 8 → rule_of (at_block vars before block) ≡ None
 unfolding rule_of
 block_passes vars before block free new number few =
-    let site = at_block vars before block in
-    no_rule (rule_41 site) 41 _ free
-    (no_rule (rule_42 site) 42 _
+    let place = at_block vars before block in
+    no_rule (rule_41 place) 41 _ free
+    (no_rule (rule_42 place) 42 _
     (or_from (is_in (var_names vars) block.name || is_in (block_names before) block.name) (has_twice block.arguments)
     (or_from (is_in (var_names vars) block.name) (is_in (block_names before) block.name) new.0 new.1) new.2)
-    (no_rule (rule_44 site) 44 _
+    (no_rule (rule_44 place) 44 _
     (or_from (nat_lt 32 (length before + 1)) (nat_lt 8 (length block.arguments)) (le-ltb 32 (length before + 1) number) (le-ltb 8 (length block.arguments) few))
     refl))
 
 pub blocks_pass : (tree_vars : List Var) (vars : List job_var) (before : List Block) (done blocks : List job_block) (line : ℕ) → AreThere tree_vars vars
     → block_names before ≡ names_of_blocks done
     → has_twice ((names_of_vars vars ++ names_of_blocks done) ++ names_of_blocks blocks) ≡ false → list_all is_unreserved (names_of_blocks blocks) ≡ true
-    → list_all (is_whole_block vars) blocks ≡ true → length (done ++ blocks) ≤ 32 → first_refusal (block_sites tree_vars before (blocks_for vars line blocks)) ≡ None
+    → list_all (is_whole_block vars) blocks ≡ true → length (done ++ blocks) ≤ 32
+    → first_refusal (places_of_blocks tree_vars before (blocks_for vars line blocks)) ≡ None
 blocks_pass tree_vars vars before done [] line there named once free all few = refl
 blocks_pass tree_vars vars before done (block ∷ blocks) line there named once free all few =
     let b = block_for vars line block in
@@ -134,8 +136,8 @@ blocks_pass tree_vars vars before done (block ∷ blocks) line there named once 
       length-map done
           (λ (x : job_block). x.name),
     ) in
-    passes_both (block_site tree_vars before b) (block_sites tree_vars (before ++ b ∷ []) (blocks_for vars (line + block_lines block) blocks))
-    (passes_on (at_block tree_vars before b) (stage_sites tree_vars b [] b.stages)
+    passes_both (places_of_block tree_vars before b) (places_of_blocks tree_vars (before ++ b ∷ []) (blocks_for vars (line + block_lines block) blocks))
+    (passes_on (at_block tree_vars before b) (places_of_stages tree_vars b [] b.stages)
     (block_passes tree_vars before b
     (or_from (is_in reserved block.name) (list_any (is_in reserved) b.arguments) (not_reserved block.name frees.0)
     (none_reserved b.arguments (all_free block.args whole.few))) (
@@ -159,7 +161,8 @@ blocks_printed vars line (block ∷ blocks) named free all spells =
     let b = block_for vars line block in
     let frees = and_parts (is_unreserved block.name) (list_all is_unreserved (names_of_blocks blocks)) free in
     let parts = and_parts (is_whole_block vars block) (list_all (is_whole_block vars) blocks) all in
-    let spelled_parts = and_parts (list_all spelled.is_spelled_stage block.stages) (list_all (λ (x : job_block). list_all spelled.is_spelled_stage x.stages) blocks) spells in
+    let spelled_parts =
+    and_parts (list_all spelled.is_spelled_stage block.stages) (list_all (λ (x : job_block). list_all spelled.is_spelled_stage x.stages) blocks) spells in
     let whole = whole_block vars block parts.0 in
     and_from (trees.is_printable_block b) (list_all trees.is_printable_block (blocks_for vars (line + block_lines block) blocks))
     (from3 (is_unreserved block.name) (list_all is_unreserved b.arguments) (list_all trees.is_printable_stage b.stages) frees.0 (all_free block.args whole.few)

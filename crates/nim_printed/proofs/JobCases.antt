@@ -31,7 +31,7 @@ use Rattle.nim_printed.specs.Printer.{atom_for, block_name, condition_for, else_
 use Rattle.nim_printed.specs.Spelled as spelled
 use Rattle.nim_printed.specs.Spelled.{all_true, is_unreserved, is_small, is_stmt}
 use Rattle.nim_printed.specs.Trees as trees
-use Rattle.nim_printed.proofs.JobAtoms.{atom_back, atom_known, atom_printed, cond_back, cond_known, cond_printed, first_back, names_at, past_at, rest_back, scalars, scalars_length, set_free, sets, value_known, value_printed}
+use Rattle.nim_printed.proofs.JobAtoms.{atom_back, atom_known, atom_printed, cond_back, cond_known, cond_printed, first_back, names_at, rest_back, scalars, scalars_length, scope_at, set_free, sets, value_known, value_printed}
 use Rattle.nim_printed.proofs.JobBlocks.{names_of_blocks}
 use Rattle.nim_printed.proofs.JobLines.{opened_after}
 use Rattle.nim_printed.proofs.JobLists.{all_mapped, all_of_both, from5, map_back}
@@ -102,7 +102,7 @@ do_says job blocks depth k block args named within call known spells =
     record {
       grows = omega arith;
       few = within;
-      past = refl;
+      scope = refl;
       sound = record {
         free = refl;
         few = omega (arith, within, scalars_length k);
@@ -117,7 +117,8 @@ do_says job blocks depth k block args named within call known spells =
           ∙ ap₂ (λ (at : ℕ) (xs : List job_atom). onto (roll-Stmt (Stmt-F.Do at xs)) bodies)
           (place_at (names_of_blocks job.blocks) block named.blocks_once there)
           (map_back atom_for (atom_of (names_at job n)) (whole.is_atom k) (atom_back job k n more most) args known);
-      printed = and_from (is_unreserved name) (list_all trees.is_printable_atom (map atom_for args)) (free_at (names_of_blocks job.blocks) block there named.blocks_free)
+      printed = and_from (is_unreserved name) (list_all trees.is_printable_atom (map atom_for args))
+          (free_at (names_of_blocks job.blocks) block there named.blocks_free)
           (all_mapped trees.is_printable_atom atom_for (λ a. whole.is_atom k a && spelled.is_spelled_atom a)
           (λ a both. let parts = and_parts (whole.is_atom k a) (spelled.is_spelled_atom a) both in atom_printed k within a parts.0 parts.1) args
           (all_of_both (whole.is_atom k) spelled.is_spelled_atom (λ a. whole.is_atom k a && spelled.is_spelled_atom a)
@@ -134,7 +135,7 @@ let_says job blocks depth k behind s first rest within is rest_is set spells res
     record {
       grows = new.grows;
       few = new.few;
-      past = ap (λ (names : List Word). record (past_at depth k) { scalars = names }) new.scalars_are;
+      scope = ap (λ (names : List Word). record (scope_at depth k) { scalars = names }) new.scalars_are;
       sound = record {
         free = set_free s behind new.there new.few;
         few = omega (arith, new.few, scalars_length behind, ap length new.scalars_are);
@@ -169,7 +170,7 @@ get_says job blocks depth k behind s var part row cell named within there set sm
     record {
       grows = new.grows;
       few = new.few;
-      past = ap (λ (names : List Word). record (past_at depth k) { scalars = names }) new.scalars_are;
+      scope = ap (λ (names : List Word). record (scope_at depth k) { scalars = names }) new.scalars_are;
       sound = record {
         free = set_free s behind new.there new.few;
         few = omega (arith, new.few, scalars_length behind, ap length new.scalars_are);
@@ -184,7 +185,8 @@ get_says job blocks depth k behind s var part row cell named within there set sm
           ∙ ap₂ (λ (scalar v : ℕ). onto (roll-Stmt (Stmt-F.Get scalar v part row cell)) bodies) place
           (place_at (names_of_vars job.vars) var named.vars_once at);
       printed =
-          from5 (is_unreserved (scalar_name s)) (is_unreserved name) (is_small part) (is_small row) (is_small cell) (scalar_free s (omega (arith, new.there, new.few)))
+          from5 (is_unreserved (scalar_name s)) (is_unreserved name) (is_small part) (is_small row) (is_small cell)
+          (scalar_free s (omega (arith, new.there, new.few)))
           (free_at (names_of_vars job.vars) var at named.vars_free) small.0 small.1 small.2;
       nests = λ open_now more. open_cases (λ op. opened_after op (Get (scalar_name s) name part row cell ∷ more) ≡ opened_after op more) refl
           (λ kind others. refl) open_now;
@@ -194,7 +196,7 @@ pub checkpoint_says : (job : Job) (blocks : List Block) (depth k : ℕ) → k �
 checkpoint_says job blocks depth k within = record {
   grows = omega arith;
   few = within;
-  past = refl;
+  scope = refl;
   sound = record { free = refl; few = omega (arith, within, scalars_length k); variable = refl; block = refl; known = refl; shallow = refl };
   read = λ n more most bodies. put_rolled bodies rolls-Checkpoint;
   printed = refl;
@@ -208,7 +210,7 @@ output_says job blocks depth k var named within there =
     record {
       grows = omega arith;
       few = within;
-      past = refl;
+      scope = refl;
       sound = record {
         free = refl;
         few = omega (arith, within, scalars_length k);
@@ -231,7 +233,7 @@ pub loop_opens : (job : Job) (blocks : List Block) (depth k : ℕ) (turns : job_
     → spelled.is_spelled_atom turns ≡ true
     → Opens job blocks opening.Turns depth k (Loop (atom_for turns)) (λ body. roll-Stmt (Stmt-F.Loop turns body.first))
 loop_opens job blocks depth k turns within shallow is spells = record {
-  past = refl;
+  scope = refl;
   sound = record {
     free = refl;
     few = omega (arith, within, scalars_length k);
@@ -250,7 +252,7 @@ loop_opens job blocks depth k turns within shallow is spells = record {
 pub while_opens : (job : Job) (blocks : List Block) (depth k : ℕ) (c : Cond) → k ≤ 64 → depth < 16 → whole.is_cond k c ≡ true → spelled.is_spelled_cond c ≡ true
     → Opens job blocks opening.Turns depth k (While (condition_for c)) (λ body. roll-Stmt (Stmt-F.While c body.first))
 while_opens job blocks depth k c within shallow is spells = record {
-  past = refl;
+  scope = refl;
   sound = record {
     free = refl;
     few = omega (arith, within, scalars_length k);
@@ -269,7 +271,7 @@ while_opens job blocks depth k c within shallow is spells = record {
 pub if_opens : (job : Job) (blocks : List Block) (depth k : ℕ) (c : Cond) → k ≤ 64 → depth < 16 → whole.is_cond k c ≡ true → spelled.is_spelled_cond c ≡ true
     → Opens job blocks opening.If depth k (If (condition_for c)) (λ body. roll-Stmt (Stmt-F.If c body.first body.second))
 if_opens job blocks depth k c within shallow is spells = record {
-  past = refl;
+  scope = refl;
   sound = record {
     free = refl;
     few = omega (arith, within, scalars_length k);

@@ -16,8 +16,8 @@ use Rattle.nim_check.specs.Made.{var_names}
 use Rattle.nim_check.specs.Names.{Word, is_in, reserved}
 use Rattle.nim_check.specs.Refusals.{first_refusal}
 use Rattle.nim_check.specs.Rules.{has_block, has_variable, is_known, opens, read_by, rule_41, rule_44, rule_47, rule_52, rule_53, rule_54, rule_of, set_by}
-use Rattle.nim_check.specs.declared.past.Past.{Past}
-use Rattle.nim_check.specs.Sites.{at_statement, past_of, past_with, statement_sites}
+use Rattle.nim_check.specs.declared.scope.Scope.{Scope}
+use Rattle.nim_check.specs.DriverPlaces.{at_statement, places_of_statements, scope_of, scope_with}
 use Rattle.nim_printed.specs.Lines.{lines_numbered}
 use Rattle.nim_printed.specs.Printer.{lines_for}
 use Rattle.nim_printed.specs.Trees.{is_statement}
@@ -38,17 +38,17 @@ bodies_with-append names [] ys bodies = refl
 bodies_with-append names (x ∷ xs) ys bodies = ap (with_line names x) (bodies_with-append names xs ys bodies)
 
 -- what statements did, after what was done before
-abbrev pub past_after : Past → List Statement → Past
-past_after past [] = past
-past_after past (s ∷ ss) = past_after (past_with past s) ss
+abbrev pub scope_after : Scope → List Statement → Scope
+scope_after scope [] = scope
+scope_after scope (s ∷ ss) = scope_after (scope_with scope s) ss
 
-pub past_of_lines : (past : Past) (line : ℕ) (ss : List Statement) → past_of past (lines_for line ss) ≡ past_after past ss
-past_of_lines past line [] = refl
-past_of_lines past line (s ∷ ss) = past_of_lines (past_with past s) (line + 1) ss
+pub scope_of_lines : (scope : Scope) (line : ℕ) (ss : List Statement) → scope_of scope (lines_for line ss) ≡ scope_after scope ss
+scope_of_lines scope line [] = refl
+scope_of_lines scope line (s ∷ ss) = scope_of_lines (scope_with scope s) (line + 1) ss
 
-pub past_after-append : (past : Past) (xs ys : List Statement) → past_after past (xs ++ ys) ≡ past_after (past_after past xs) ys
-past_after-append past [] ys = refl
-past_after-append past (x ∷ xs) ys = past_after-append (past_with past x) xs ys
+pub scope_after-append : (scope : Scope) (xs ys : List Statement) → scope_after scope (xs ++ ys) ≡ scope_after (scope_after scope xs) ys
+scope_after-append scope [] ys = refl
+scope_after-append scope (x ∷ xs) ys = scope_after-append (scope_with scope x) xs ys
 
 -- what is open after statements, if each may stand where it stands
 abbrev pub opened_after : List Open → List Statement → Option (List Open)
@@ -73,40 +73,41 @@ lines_at_lines line (s ∷ ss) =
 -- ---- the rules
 
 -- what the rules ask of a statement, after what was done before
-pub record IsSound (vars : List Word) (blocks : List Block) (past : Past) (s : Statement) : Type 0 where
+pub record IsSound (vars : List Word) (blocks : List Block) (scope : Scope) (s : Statement) : Type 0 where
   pub free : list_any (is_in reserved) (set_by s) ≡ false
-  pub few : length (past_with past s).scalars ≤ 64
+  pub few : length (scope_with scope s).scalars ≤ 64
   pub variable : has_variable vars s ≡ true
   pub block : has_block blocks s ≡ true
-  pub known : list_all (is_known past.scalars) (read_by s) ≡ true
-  pub shallow : (opens s && nat_le 16 past.depth) ≡ false
+  pub known : list_all (is_known scope.scalars) (read_by s) ≡ true
+  pub shallow : (opens s && nat_le 16 scope.depth) ≡ false
 
-abbrev pub AreSound : List Word → List Block → Past → List Statement → Type 0
-AreSound vars blocks past [] = Unit {0}
-AreSound vars blocks past (s ∷ ss) = IsSound vars blocks past s × AreSound vars blocks (past_with past s) ss
+abbrev pub AreSound : List Word → List Block → Scope → List Statement → Type 0
+AreSound vars blocks scope [] = Unit {0}
+AreSound vars blocks scope (s ∷ ss) = IsSound vars blocks scope s × AreSound vars blocks (scope_with scope s) ss
 
-pub sound_both : (vars : List Word) (blocks : List Block) (past : Past) (xs ys : List Statement) → AreSound vars blocks past xs
-    → AreSound vars blocks (past_after past xs) ys
-    → AreSound vars blocks past (xs ++ ys)
-sound_both vars blocks past [] ys first second = second
-sound_both vars blocks past (x ∷ xs) ys first second = (first.0, sound_both vars blocks (past_with past x) xs ys first.1 second)
+pub sound_both : (vars : List Word) (blocks : List Block) (scope : Scope) (xs ys : List Statement) → AreSound vars blocks scope xs
+    → AreSound vars blocks (scope_after scope xs) ys
+    → AreSound vars blocks scope (xs ++ ys)
+sound_both vars blocks scope [] ys first second = second
+sound_both vars blocks scope (x ∷ xs) ys first second = (first.0, sound_both vars blocks (scope_with scope x) xs ys first.1 second)
 
-statement_passes : (tree : Sections) (past : Past) (line : Line) → IsSound (var_names tree.vars) tree.blocks past line.statement
-    → rule_of (at_statement tree past line) ≡ None
+statement_passes : (tree : Sections) (scope : Scope) (line : Line) → IsSound (var_names tree.vars) tree.blocks scope line.statement
+    → rule_of (at_statement tree scope line) ≡ None
 unfolding rule_of
-statement_passes tree past line sound =
-    let site = at_statement tree past line in
-    no_rule (rule_41 site) 41 _ sound.free
-    (no_rule (rule_44 site) 44 _ (le-ltb 64 (length (past_with past line.statement).scalars) sound.few)
-    (no_rule (rule_47 site) 47 _ (not_from_true (has_variable (var_names tree.vars) line.statement) sound.variable)
-    (no_rule (rule_52 site) 52 _ (not_from_true (has_block tree.blocks line.statement) sound.block)
-    (no_rule (rule_53 site) 53 _ (not_from_true (list_all (is_known past.scalars) (read_by line.statement)) sound.known)
-    (no_rule (rule_54 site) 54 _ sound.shallow refl)))))
+statement_passes tree scope line sound =
+    let place = at_statement tree scope line in
+    no_rule (rule_41 place) 41 _ sound.free
+    (no_rule (rule_44 place) 44 _ (le-ltb 64 (length (scope_with scope line.statement).scalars) sound.few)
+    (no_rule (rule_47 place) 47 _ (not_from_true (has_variable (var_names tree.vars) line.statement) sound.variable)
+    (no_rule (rule_52 place) 52 _ (not_from_true (has_block tree.blocks line.statement) sound.block)
+    (no_rule (rule_53 place) 53 _ (not_from_true (list_all (is_known scope.scalars) (read_by line.statement)) sound.known)
+    (no_rule (rule_54 place) 54 _ sound.shallow refl)))))
 
-pub statements_pass : (tree : Sections) (past : Past) (line : ℕ) (ss : List Statement) → AreSound (var_names tree.vars) tree.blocks past ss
-    → first_refusal (statement_sites tree past (lines_for line ss)) ≡ None
-statements_pass tree past line [] sound = refl
-statements_pass tree past line (s ∷ ss) sound =
+pub statements_pass : (tree : Sections) (scope : Scope) (line : ℕ) (ss : List Statement) → AreSound (var_names tree.vars) tree.blocks scope ss
+    → first_refusal (places_of_statements tree scope (lines_for line ss)) ≡ None
+statements_pass tree scope line [] sound = refl
+statements_pass tree scope line (s ∷ ss) sound =
     let here : Line = record { line = line; statement = s } in
-    passes_on (at_statement tree past here) (statement_sites tree (past_with past s) (lines_for (line + 1) ss)) (statement_passes tree past here sound.0)
-    (statements_pass tree (past_with past s) (line + 1) ss sound.1)
+    passes_on (at_statement tree scope here) (places_of_statements tree (scope_with scope s) (lines_for (line + 1) ss))
+    (statement_passes tree scope here sound.0)
+    (statements_pass tree (scope_with scope s) (line + 1) ss sound.1)

@@ -10,7 +10,7 @@ use Rattle.std.proofs.lemmas.List.Sums.{sum_by-cons}
 use Rattle.nim_lex.specs.declared.fault.Refusal.{Refusal}
 use Rattle.nim_check.specs.Refusals.{first_refusal}
 use Rattle.nim_check.specs.Rules.{rule_of}
-use Rattle.nim_check.specs.Sites.{Site, site_line}
+use Rattle.nim_check.specs.DriverPlaces.{DriverPlace, place_line}
 use Rattle.nim_check.proofs.Refused as refusals
 
 pub parts3 : (a b c : Bool) → (a && b && c) ≡ true → (a ≡ true) × (b ≡ true) × (c ≡ true)
@@ -99,12 +99,12 @@ map_back {X} f g q each (x ∷ xs) all =
 pub no_rule : (refuses : Bool) (number : ℕ) (rest : Option ℕ) → refuses ≡ false → rest ≡ None → cond refuses (Some number) rest ≡ None
 no_rule refuses number rest passes none = cond-false refuses (Some number) rest passes ∙ none
 
-abbrev refused_by : Site → Option ℕ → Option Refusal
-refused_by site rule = option_map (λ (number : ℕ). let refusal : Refusal = record { line = site_line site; rule = number } in refusal) rule
+abbrev refused_by : DriverPlace → Option ℕ → Option Refusal
+refused_by place rule = option_map (λ (number : ℕ). let refusal : Refusal = record { line = place_line place; rule = number } in refusal) rule
 
 -- a line that no rule refuses, before others that none refuses
-pub passes_on : (site : Site) (sites : List Site) → rule_of site ≡ None → first_refusal sites ≡ None → first_refusal (site ∷ sites) ≡ None
-passes_on site sites none rest = ap (λ (rule : Option ℕ). option_or (refused_by site rule) (first_refusal sites)) none ∙ rest
+pub passes_on : (place : DriverPlace) (places : List DriverPlace) → rule_of place ≡ None → first_refusal places ≡ None → first_refusal (place ∷ places) ≡ None
+passes_on place places none rest = ap (λ (rule : Option ℕ). option_or (refused_by place rule) (first_refusal places)) none ∙ rest
 
-pub passes_both : (xs ys : List Site) → first_refusal xs ≡ None → first_refusal ys ≡ None → first_refusal (xs ++ ys) ≡ None
+pub passes_both : (xs ys : List DriverPlace) → first_refusal xs ≡ None → first_refusal ys ≡ None → first_refusal (xs ++ ys) ≡ None
 passes_both xs ys first second = refusals.joined xs ys ∙ ap₂ option_or first second

@@ -26,7 +26,7 @@ use Rattle.nim_check.specs.Made.{param_of, place_of, ref_of, stage_of, var_names
 use Rattle.nim_check.specs.Names.{Word, func_of, has_twice, is_in}
 use Rattle.nim_check.specs.Refusals.{first_refusal}
 use Rattle.nim_check.specs.Rules.{is_known, is_own, refs_of, rule_45, rule_46, rule_47, rule_48, rule_49, rule_50, rule_51, rule_of}
-use Rattle.nim_check.specs.Sites.{at_stage, stage_sites}
+use Rattle.nim_check.specs.DriverPlaces.{at_stage, places_of_stages}
 use Rattle.nim_printed.specs.Lines.{stages_numbered}
 use Rattle.nim_printed.specs.Printer.{argument_name, func_name, index_for, param_for, ref_for, stages_for, var_name}
 use Rattle.nim_printed.specs.Spelled as spelled
@@ -154,15 +154,16 @@ stage_passes : (vars : List Var) (block : Block) (before : List Stage) (stage : 
     → rule_of (at_stage vars block before stage) ≡ None
 unfolding rule_of
 stage_passes vars block before stage sound =
-    let site = at_stage vars block before stage in
-    no_rule (rule_45 site) 45 _ sound.function
-    (no_rule (rule_46 site) 46 _ (not_from_true (has_counts (unwrap_or (func_of stage.function) func.Set) (length stage.parameters) (length stage.reads)
+    let driver_place = at_stage vars block before stage in
+    no_rule (rule_45 driver_place) 45 _ sound.function
+    (no_rule (rule_46 driver_place) 46 _ (not_from_true (has_counts (unwrap_or (func_of stage.function) func.Set) (length stage.parameters) (length stage.reads)
     (length stage.writes)) sound.counts)
-    (no_rule (rule_47 site) 47 _ (not_from_true (list_all (λ (ref : Ref). is_in (var_names vars) ref.name) (refs_of stage)) sound.variables)
-    (no_rule (rule_48 site) 48 _ sound.own
-    (no_rule (rule_49 site) 49 _ (not_from_true (has_distinct (map var_of vars) (stage_of (var_names vars) block.arguments stage)) sound.distinct)
-    (no_rule (rule_50 site) 50 _ (not_from_true (list_all (is_known block.arguments) stage.parameters) sound.known)
-    (no_rule (rule_51 site) 51 _ (le-ltb 1024 (sum_by (task_count (map var_of vars)) (map (stage_of (var_names vars) block.arguments) (before ++ stage ∷ [])))
+    (no_rule (rule_47 driver_place) 47 _ (not_from_true (list_all (λ (ref : Ref). is_in (var_names vars) ref.name) (refs_of stage)) sound.variables)
+    (no_rule (rule_48 driver_place) 48 _ sound.own
+    (no_rule (rule_49 driver_place) 49 _ (not_from_true (has_distinct (map var_of vars) (stage_of (var_names vars) block.arguments stage)) sound.distinct)
+    (no_rule (rule_50 driver_place) 50 _ (not_from_true (list_all (is_known block.arguments) stage.parameters) sound.known)
+    (no_rule (rule_51 driver_place) 51 _
+    (le-ltb 1024 (sum_by (task_count (map var_of vars)) (map (stage_of (var_names vars) block.arguments) (before ++ stage ∷ [])))
     sound.tasks) refl))))))
 
 -- what the variables before a block are
@@ -208,7 +209,7 @@ pub stages_pass : (tree_vars : List Var) (vars : List job_var) (block : Block) (
     → AreThere tree_vars vars
     → block.arguments ≡ arguments args → args ≤ 8 → map (stage_of (var_names tree_vars) block.arguments) before ≡ done
     → list_all (is_stage vars args) stages ≡ true
-    → sum_by (task_count vars) (done ++ stages) ≤ 1024 → first_refusal (stage_sites tree_vars block before (stages_for vars line stages)) ≡ None
+    → sum_by (task_count vars) (done ++ stages) ≤ 1024 → first_refusal (places_of_stages tree_vars block before (stages_for vars line stages)) ≡ None
 stages_pass tree_vars vars block args before done [] line there takes few is_done all total = refl
 stages_pass tree_vars vars block args before done (stage ∷ stages) line there takes few is_done all total =
     let parts = and_parts (is_stage vars args stage) (list_all (is_stage vars args) stages) all in
@@ -222,14 +223,15 @@ stages_pass tree_vars vars block args before done (stage ∷ stages) line there 
     subst (λ (xs : List job_stage). sum_by (task_count vars) xs ≤ 1024) (sym (append_assoc done (stage ∷ []) stages)) total in
     let total_here : sum_by (task_count vars) (done ++ stage ∷ []) ≤ 1024 =
     omega (arith, total_next, sum_by-append (task_count vars) (done ++ stage ∷ []) stages) in
-    passes_on (at_stage tree_vars block before s) (stage_sites tree_vars block (before ++ s ∷ []) (stages_for vars (line + 1) stages))
+    passes_on (at_stage tree_vars block before s) (places_of_stages tree_vars block (before ++ s ∷ []) (stages_for vars (line + 1) stages))
     (stage_passes tree_vars block before s (sound_stage tree_vars vars block args before done line stage there takes few is_done parts.0 total_here))
     (stages_pass tree_vars vars block args (before ++ s ∷ []) (done ++ stage ∷ []) stages (line + 1) there takes few next parts.1 total_next)
 
 -- ---- they can be printed, and have their numbers
 
 pub free_at : (names : List Word) (k : ℕ) → k < length names → list_all is_unreserved names ≡ true → is_unreserved (slice_index_or names k []) ≡ true
-free_at names k there free = list_all_item is_unreserved names k (slice_index_or names k []) free there (get_or_default names k [] (slice_index_or names k []) there)
+free_at names k there free = list_all_item is_unreserved names k (slice_index_or names k []) free there
+    (get_or_default names k [] (slice_index_or names k []) there)
 
 index_printed : (place : Place) → spelled.is_spelled_place place ≡ true → trees.is_index (index_for place) ≡ true
 index_printed (Fixed n) is = is
@@ -258,11 +260,13 @@ some_refs : (f : Func) (refs : List Ref) → (length refs == result_count f) ≡
 some_refs f [] counts all = absurd (omega (arith, eqb-true 0 (result_count f) counts, writes_some f))
 some_refs f (ref ∷ refs) counts all = all
 
-all_refs : (vars : List job_var) (each : Bool) → list_all is_unreserved (names_of_vars vars) ≡ true → (refs : List job_ref) → list_all (is_ref vars each) refs ≡ true
+all_refs : (vars : List job_var) (each : Bool) → list_all is_unreserved (names_of_vars vars) ≡ true → (refs : List job_ref)
+    → list_all (is_ref vars each) refs ≡ true
     → list_all (λ (ref : job_ref). spelled.is_spelled_place ref.place) refs ≡ true → list_all trees.is_printable_ref (map (ref_for vars) refs) ≡ true
 all_refs vars each free refs are places =
     list_all-map trees.is_printable_ref (ref_for vars) refs
-    ∙ all_of_both (is_ref vars each) (λ (ref : job_ref). spelled.is_spelled_place ref.place) (λ ref. trees.is_printable_ref (ref_for vars ref)) (ref_printed vars each free) refs
+    ∙ all_of_both (is_ref vars each) (λ (ref : job_ref). spelled.is_spelled_place ref.place) (λ ref. trees.is_printable_ref (ref_for vars ref))
+    (ref_printed vars each free) refs
     are places
 
 stage_printed : (vars : List job_var) (args line : ℕ) (stage : job_stage) → list_all is_unreserved (names_of_vars vars) ≡ true → args ≤ 8
@@ -272,19 +276,22 @@ stage_printed vars args line stage free few is spells =
     let whole = whole_stage vars args stage is in
     let s = stage_for vars line stage in
     let spelled_parts =
-    and_parts (list_all (λ (ref : job_ref). spelled.is_spelled_place ref.place) (stage.reads ++ stage.writes)) (list_all spelled.is_spelled_param stage.params) spells in
+    and_parts (list_all (λ (ref : job_ref). spelled.is_spelled_place ref.place) (stage.reads ++ stage.writes))
+    (list_all spelled.is_spelled_param stage.params) spells in
     let places = all_parts (λ (ref : job_ref). spelled.is_spelled_place ref.place) stage.reads stage.writes spelled_parts.0 in
     let counts = parts4 (length stage.params == params_of stage.func) (nat_le (fewest_reads stage.func) (length stage.reads))
     (nat_le (length stage.reads) (most_reads stage.func))
     (length stage.writes == result_count stage.func) whole.counts in
     let written : (length s.writes == result_count stage.func) ≡ true =
     ap (λ (n : ℕ). n == result_count stage.func) (length-map stage.writes (ref_for vars)) ∙ counts.3 in
-    from4 (is_unreserved (func_name stage.func)) (list_all trees.is_printable_ref s.reads) (trees.is_some_refs s.writes) (list_all trees.is_printable_atom s.parameters)
+    from4 (is_unreserved (func_name stage.func)) (list_all trees.is_printable_ref s.reads) (trees.is_some_refs s.writes)
+    (list_all trees.is_printable_atom s.parameters)
     (func_free stage.func)
     (all_refs vars stage.each free stage.reads whole.reads places.0)
     (some_refs stage.func s.writes written (all_refs vars stage.each free stage.writes whole.writes places.1))
     (list_all-map trees.is_printable_atom param_for stage.params
-    ∙ all_of_both (is_param args) spelled.is_spelled_param (λ p. trees.is_printable_atom (param_for p)) (param_printed args few) stage.params whole.params spelled_parts.1)
+    ∙ all_of_both (is_param args) spelled.is_spelled_param (λ p. trees.is_printable_atom (param_for p))
+    (param_printed args few) stage.params whole.params spelled_parts.1)
 
 pub stages_printed : (vars : List job_var) (args line : ℕ) (stages : List job_stage) → list_all is_unreserved (names_of_vars vars) ≡ true → args ≤ 8
     → list_all (is_stage vars args) stages ≡ true

@@ -13,11 +13,11 @@ use Rattle.nim_parse.specs.declared.sections.Statement.{Statement}
 use Rattle.nim_parse.specs.declared.sections.Statement.TheVariants.{Else, End}
 use Rattle.nim_check.specs.Body.{Body, no_body, onto, opened, parted, with_line}
 use Rattle.nim_check.specs.Names.{Word}
-use Rattle.nim_check.specs.declared.past.Past.{Past}
-use Rattle.nim_check.specs.Sites.{past_with}
+use Rattle.nim_check.specs.declared.scope.Scope.{Scope}
+use Rattle.nim_check.specs.DriverPlaces.{scope_with}
 use Rattle.nim_printed.specs.Trees as trees
-use Rattle.nim_printed.proofs.JobAtoms.{names_at, past_at, scalars_length}
-use Rattle.nim_printed.proofs.JobLines.{AreSound, IsSound, bodies_with, bodies_with-append, opened_after, past_after, past_after-append, sound_both}
+use Rattle.nim_printed.proofs.JobAtoms.{names_at, scalars_length, scope_at}
+use Rattle.nim_printed.proofs.JobLines.{AreSound, IsSound, bodies_with, bodies_with-append, opened_after, scope_after, scope_after-append, sound_both}
 use Rattle.nim_printed.proofs.JobLists.{all_both}
 use Rattle.nim_printed.proofs.JobVars.{names_of_vars}
 
@@ -38,8 +38,8 @@ put_first (stmt ∷ stmts) body bodies = ap (onto stmt) (put_first stmts body bo
 pub record Shows (job : Job) (blocks : List Block) (depth k behind : ℕ) (lines : List Statement) (stmts : List Stmt) : Type 0 where
   pub grows : k ≤ behind
   pub few : behind ≤ 64
-  pub past : past_after (past_at depth k) lines ≡ past_at depth behind
-  pub sound : AreSound (names_of_vars job.vars) blocks (past_at depth k) lines
+  pub scope : scope_after (scope_at depth k) lines ≡ scope_at depth behind
+  pub sound : AreSound (names_of_vars job.vars) blocks (scope_at depth k) lines
   pub read : (n : ℕ) → behind ≤ n → n ≤ 64 → (bodies : List Body) → bodies_with (names_at job n) lines bodies ≡ put stmts bodies
   pub printed : list_all trees.is_statement lines ≡ true
   pub nests : (open_now : List Open) (rest : List Statement) → opened_after open_now (lines ++ rest) ≡ opened_after open_now rest
@@ -48,7 +48,7 @@ pub shows_none : (job : Job) (blocks : List Block) (depth k : ℕ) → k ≤ 64 
 shows_none job blocks depth k within = record {
   grows = omega arith;
   few = within;
-  past = refl;
+  scope = refl;
   sound = tt;
   read = λ n more most bodies. refl;
   printed = refl;
@@ -61,9 +61,9 @@ pub shows_both : (job : Job) (blocks : List Block) (depth k between behind : ℕ
 shows_both job blocks depth k between behind xs ys ss ts first second = record {
   grows = omega (arith, first.grows, second.grows);
   few = second.few;
-  past = past_after-append (past_at depth k) xs ys ∙ ap (λ (p : Past). past_after p ys) first.past ∙ second.past;
-  sound = sound_both (names_of_vars job.vars) blocks (past_at depth k) xs ys first.sound
-      (subst (λ (p : Past). AreSound (names_of_vars job.vars) blocks p ys) (sym first.past) second.sound);
+  scope = scope_after-append (scope_at depth k) xs ys ∙ ap (λ (p : Scope). scope_after p ys) first.scope ∙ second.scope;
+  sound = sound_both (names_of_vars job.vars) blocks (scope_at depth k) xs ys first.sound
+      (subst (λ (p : Scope). AreSound (names_of_vars job.vars) blocks p ys) (sym first.scope) second.sound);
   read = λ n more most bodies. bodies_with-append (names_at job n) xs ys bodies ∙ ap (bodies_with (names_at job n) xs) (second.read n more most bodies)
       ∙ first.read n (omega (arith, second.grows, more)) most (put ts bodies) ∙ sym (put-append ss ts bodies);
   printed = all_both trees.is_statement xs ys first.printed second.printed;
@@ -76,8 +76,8 @@ shows_both job blocks depth k between behind xs ys ss ts first second = record {
 pub record Holds (job : Job) (blocks : List Block) (kind : Open) (depth k behind : ℕ) (lines : List Statement) (body : Body) : Type 0 where
   pub grows : k ≤ behind
   pub few : behind ≤ 64
-  pub past : past_after (past_at (depth + 1) k) lines ≡ past_at (depth + 1) behind
-  pub sound : AreSound (names_of_vars job.vars) blocks (past_at (depth + 1) k) lines
+  pub scope : scope_after (scope_at (depth + 1) k) lines ≡ scope_at (depth + 1) behind
+  pub sound : AreSound (names_of_vars job.vars) blocks (scope_at (depth + 1) k) lines
   pub read : (n : ℕ) → behind ≤ n → n ≤ 64 → (bodies : List Body) → bodies_with (names_at job n) lines (no_body ∷ bodies) ≡ body ∷ bodies
   pub printed : list_all trees.is_statement lines ≡ true
   pub nests : (open_now : List Open) (rest : List Statement) → opened_after (kind ∷ open_now) (lines ++ End ∷ rest) ≡ opened_after open_now rest
@@ -90,7 +90,7 @@ pub holds_part : (job : Job) (blocks : List Block) (kind : Open) (depth k behind
 holds_part job blocks kind depth k behind lines stmts shows = record {
   grows = shows.grows;
   few = shows.few;
-  past = shows.past;
+  scope = shows.scope;
   sound = shows.sound;
   read = λ n more most bodies. shows.read n more most (no_body ∷ bodies) ∙ put_first stmts no_body bodies
       ∙ ap (λ (xs : List Stmt). body_with xs [] ∷ bodies) (append-nil stmts);
@@ -99,7 +99,7 @@ holds_part job blocks kind depth k behind lines stmts shows = record {
 }
 
 -- an `else` or `end` is sound where few scalars are set
-else_sound : (vars : List Word) (blocks : List Block) (depth k : ℕ) → k ≤ 64 → IsSound vars blocks (past_at depth k) Else
+else_sound : (vars : List Word) (blocks : List Block) (depth k : ℕ) → k ≤ 64 → IsSound vars blocks (scope_at depth k) Else
 else_sound vars blocks depth k within = record {
   free = refl;
   few = omega (arith, within, scalars_length k);
@@ -109,7 +109,7 @@ else_sound vars blocks depth k within = record {
   shallow = refl;
 }
 
-end_sound : (vars : List Word) (blocks : List Block) (depth k : ℕ) → k ≤ 64 → IsSound vars blocks (past_at depth k) End
+end_sound : (vars : List Word) (blocks : List Block) (depth k : ℕ) → k ≤ 64 → IsSound vars blocks (scope_at depth k) End
 end_sound vars blocks depth k within = record {
   free = refl;
   few = omega (arith, within, scalars_length k);
@@ -126,9 +126,9 @@ pub holds_parts : (job : Job) (blocks : List Block) (depth k between behind : �
 holds_parts job blocks depth k between behind xs ys ss ts first second = record {
   grows = omega (arith, first.grows, second.grows);
   few = second.few;
-  past = past_after-append (past_at (depth + 1) k) xs (Else ∷ ys) ∙ ap (λ (p : Past). past_after p (Else ∷ ys)) first.past ∙ second.past;
-  sound = sound_both (names_of_vars job.vars) blocks (past_at (depth + 1) k) xs (Else ∷ ys) first.sound
-      (subst (λ (p : Past). AreSound (names_of_vars job.vars) blocks p (Else ∷ ys)) (sym first.past)
+  scope = scope_after-append (scope_at (depth + 1) k) xs (Else ∷ ys) ∙ ap (λ (p : Scope). scope_after p (Else ∷ ys)) first.scope ∙ second.scope;
+  sound = sound_both (names_of_vars job.vars) blocks (scope_at (depth + 1) k) xs (Else ∷ ys) first.sound
+      (subst (λ (p : Scope). AreSound (names_of_vars job.vars) blocks p (Else ∷ ys)) (sym first.scope)
       (else_sound (names_of_vars job.vars) blocks (depth + 1) between first.few, second.sound));
   read = λ n more most bodies. bodies_with-append (names_at job n) xs (Else ∷ ys) (no_body ∷ bodies)
       ∙ ap (λ (bs : List Body). bodies_with (names_at job n) xs (parted bs)) (second.read n more most (no_body ∷ bodies) ∙ put_first ts no_body bodies)
@@ -143,8 +143,8 @@ holds_parts job blocks depth k between behind xs ys ss ts first second = record 
 
 -- a line that opens a body, and makes a statement of it
 pub record Opens (job : Job) (blocks : List Block) (kind : Open) (depth k : ℕ) (head : Statement) (make : Body → Stmt) : Type 0 where
-  pub past : past_with (past_at depth k) head ≡ past_at (depth + 1) k
-  pub sound : IsSound (names_of_vars job.vars) blocks (past_at depth k) head
+  pub scope : scope_with (scope_at depth k) head ≡ scope_at (depth + 1) k
+  pub sound : IsSound (names_of_vars job.vars) blocks (scope_at depth k) head
   pub read : (n : ℕ) → k ≤ n → n ≤ 64 → (bodies : List Body) → with_line (names_at job n) head bodies ≡ opened make bodies
   pub printed : trees.is_statement head ≡ true
   pub nests : (open_now : List Open) (rest : List Statement) → opened_after open_now (head ∷ rest) ≡ opened_after (kind ∷ open_now) rest
@@ -159,13 +159,13 @@ shows_opened job blocks kind depth k behind head make lines body opens holds =
     record {
       grows = holds.grows;
       few = holds.few;
-      past = ap (λ (p : Past). past_after p (lines ++ End ∷ [])) opens.past ∙ past_after-append (past_at (depth + 1) k) lines (End ∷ [])
-          ∙ ap (λ (p : Past). past_after p (End ∷ [])) holds.past ∙ ap (λ (d : ℕ). past_at d behind) closed;
+      scope = ap (λ (p : Scope). scope_after p (lines ++ End ∷ [])) opens.scope ∙ scope_after-append (scope_at (depth + 1) k) lines (End ∷ [])
+          ∙ ap (λ (p : Scope). scope_after p (End ∷ [])) holds.scope ∙ ap (λ (d : ℕ). scope_at d behind) closed;
       sound = (
         opens.sound,
-        subst (λ (p : Past). AreSound vars blocks p (lines ++ End ∷ [])) (sym opens.past)
-            (sound_both vars blocks (past_at (depth + 1) k) lines (End ∷ []) holds.sound
-            (subst (λ (p : Past). AreSound vars blocks p (End ∷ [])) (sym holds.past) (end_sound vars blocks (depth + 1) behind holds.few, tt))),
+        subst (λ (p : Scope). AreSound vars blocks p (lines ++ End ∷ [])) (sym opens.scope)
+            (sound_both vars blocks (scope_at (depth + 1) k) lines (End ∷ []) holds.sound
+            (subst (λ (p : Scope). AreSound vars blocks p (End ∷ [])) (sym holds.scope) (end_sound vars blocks (depth + 1) behind holds.few, tt))),
       );
       read = λ n more most bodies. ap (with_line (names_at job n) head)
           (bodies_with-append (names_at job n) lines (End ∷ []) bodies ∙ holds.read n more most bodies)
@@ -180,8 +180,8 @@ shows_opened job blocks kind depth k behind head make lines body opens holds =
 pub record Says (job : Job) (blocks : List Block) (depth k behind : ℕ) (line : Statement) (stmt : Stmt) : Type 0 where
   pub grows : k ≤ behind
   pub few : behind ≤ 64
-  pub past : past_with (past_at depth k) line ≡ past_at depth behind
-  pub sound : IsSound (names_of_vars job.vars) blocks (past_at depth k) line
+  pub scope : scope_with (scope_at depth k) line ≡ scope_at depth behind
+  pub sound : IsSound (names_of_vars job.vars) blocks (scope_at depth k) line
   pub read : (n : ℕ) → behind ≤ n → n ≤ 64 → (bodies : List Body) → with_line (names_at job n) line bodies ≡ onto stmt bodies
   pub printed : trees.is_statement line ≡ true
   pub nests : (open_now : List Open) (rest : List Statement) → opened_after open_now (line ∷ rest) ≡ opened_after open_now rest
@@ -191,7 +191,7 @@ pub shows_said : (job : Job) (blocks : List Block) (depth k behind : ℕ) (line 
 shows_said job blocks depth k behind line stmt says = record {
   grows = says.grows;
   few = says.few;
-  past = says.past;
+  scope = says.scope;
   sound = (says.sound, tt);
   read = says.read;
   printed = and_from (trees.is_statement line) true says.printed refl;

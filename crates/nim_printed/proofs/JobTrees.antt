@@ -112,7 +112,8 @@ step job blocks named (Stmt-F.If c es fs) =
     let between = then_parts (λ (n : ℕ). scan_body (map (scan_of job) seconds) depth n) (scan_body (map (scan_of job) firsts) depth k) behind found.1 in
     let deep = taken (nat_lt depth 16) (scan_all (map (scan_of job) firsts) (depth + 1) k) between.0 between.1 in
     let deep_again = taken (nat_lt depth 16) (scan_all (map (scan_of job) seconds) (depth + 1) between.0) behind between.2 in
-    let spelled_parts = parts3 (spelled.is_spelled_cond c) (all_true (map (fold-Stmt Bool is_stmt) firsts)) (all_true (map (fold-Stmt Bool is_stmt) seconds)) spells in
+    let spelled_parts =
+    parts3 (spelled.is_spelled_cond c) (all_true (map (fold-Stmt Bool is_stmt) firsts)) (all_true (map (fold-Stmt Bool is_stmt) seconds)) spells in
     let lines = joined (map (statements_of job) firsts) in
     let first = all_shown job blocks (λ (e : Part job blocks). e.0) (λ e. e.1) es (depth + 1) k between.0 within deep.1 spelled_parts.1 in
     let second = all_shown job blocks (λ (e : Part job blocks). e.0) (λ e. e.1) fs (depth + 1) between.0 behind first.few deep_again.1 spelled_parts.2 in

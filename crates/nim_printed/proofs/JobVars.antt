@@ -16,7 +16,7 @@ use Rattle.nim_check.specs.Made.{init_of, var_names, var_of}
 use Rattle.nim_check.specs.Names.{Word, has_twice, is_in, reserved}
 use Rattle.nim_check.specs.Refusals.{first_refusal}
 use Rattle.nim_check.specs.Rules.{are_few, rule_41, rule_42, rule_43, rule_44, rule_of}
-use Rattle.nim_check.specs.Sites.{at_var, var_sites}
+use Rattle.nim_check.specs.DriverPlaces.{at_var, places_of_vars}
 use Rattle.nim_printed.specs.Lines.{vars_numbered}
 use Rattle.nim_printed.specs.Printer.{init_for, vars_for}
 use Rattle.nim_printed.specs.Spelled.{is_unreserved, is_spelled_init, is_small, without_data}
@@ -94,7 +94,7 @@ var_passes before v free new sized few =
 pub vars_pass : (before : List Var) (done vars : List job_var) (line : ℕ) → var_names before ≡ names_of_vars done → map var_of before ≡ unloaded_vars done
     → list_all is_unreserved (names_of_vars vars) ≡ true → has_twice (names_of_vars done ++ names_of_vars vars) ≡ false → list_all is_var vars ≡ true
     → are_few (done ++ vars) ≡ true
-    → first_refusal (var_sites before (vars_for line vars)) ≡ None
+    → first_refusal (places_of_vars before (vars_for line vars)) ≡ None
 vars_pass before done [] line named back free once sized few = refl
 vars_pass before done (v ∷ vars) line named back free once sized few =
     let w = var_for line v in
@@ -109,7 +109,7 @@ vars_pass before done (v ∷ vars) line named back free once sized few =
     let once_next : has_twice (names_of_vars (done ++ v ∷ []) ++ names_of_vars vars) ≡ false =
     ap (λ (names : List Word). has_twice (names ++ names_of_vars vars)) pushed
     ∙ ap has_twice (append_assoc (names_of_vars done) (v.name ∷ []) (names_of_vars vars)) ∙ once in
-    passes_on (at_var before w) (var_sites (before ++ w ∷ []) (vars_for (line + 1) vars))
+    passes_on (at_var before w) (places_of_vars (before ++ w ∷ []) (vars_for (line + 1) vars))
     (var_passes before w (not_reserved v.name frees.0) (ap (λ (names : List Word). is_in names v.name) named
     ∙ apart (names_of_vars done) v.name (names_of_vars vars) once)
     (ap is_var (var_back line v frees.0) ∙ sizes.0) (ap are_few back_next ∙ few_unloaded (done ++ v ∷ []) (few_front (done ++ v ∷ []) vars few_next)))

@@ -23,9 +23,9 @@ use Rattle.nim_check.specs.Made.{block_of, job_of, names_of}
 use Rattle.nim_check.specs.Names.{Word, has_twice}
 use Rattle.nim_check.specs.Refusals.{tree_refusal}
 use Rattle.nim_check.specs.Rules.{are_few, rule_40, rule_of}
-use Rattle.nim_check.specs.declared.past.Past.{Past}
-use Rattle.nim_check.specs.Sites.{at_steps, block_sites, no_past, statement_sites, steps_sites, var_sites}
-use Rattle.nim_check.specs.Sites as sites
+use Rattle.nim_check.specs.declared.scope.Scope.{Scope}
+use Rattle.nim_check.specs.DriverPlaces.{at_steps, empty_scope, places_of_blocks, places_of_statements, places_of_steps, places_of_vars}
+use Rattle.nim_check.specs.DriverPlaces as places
 use Rattle.nim_printed.specs.Laws.{JobStands}
 use Rattle.nim_printed.specs.Lines.{block_words, blocks_numbered, lines_numbered, numbered, vars_numbered}
 use Rattle.nim_printed.specs.Printer.{blocks_for, blocks_lines, lines_for, statements_of, tree_for, vars_for}
@@ -37,7 +37,7 @@ use Rattle.nim_printed.specs.Printer.{argument_name}
 use Rattle.nim_printed.proofs.JobAtoms.{names_at}
 use Rattle.nim_printed.proofs.JobBlocks.{blocks_at_lines, blocks_back, blocks_length, blocks_named, blocks_pass, blocks_printed, names_of_blocks}
 use Rattle.nim_printed.proofs.JobCases.{Named}
-use Rattle.nim_printed.proofs.JobLines.{AreSound, bodies_of_lines, lines_at_lines, opened_after, opened_of_lines, past_of_lines, printed_lines, statements_pass}
+use Rattle.nim_printed.proofs.JobLines.{AreSound, bodies_of_lines, lines_at_lines, opened_after, opened_of_lines, printed_lines, scope_of_lines, statements_pass}
 use Rattle.nim_printed.proofs.JobLists.{all_parts, from5, no_rule, parts5, passes_both, passes_on}
 use Rattle.nim_printed.proofs.JobNames.{once_parts}
 use Rattle.nim_printed.proofs.JobStages.{AreThere}
@@ -73,7 +73,8 @@ record IsSpelled (job : Job) : Type 0 where
 spelled_job : (job : Job) → is_spelled job ≡ true → IsSpelled job
 spelled_job job is =
     let parts = parts5 (list_all is_unreserved (names_in job)) (not (has_twice (names_in job))) (list_all (λ (v : job_var). is_spelled_init v.init) job.vars)
-    (list_all (λ (b : job_block). list_all spelled.is_spelled_stage b.stages) job.blocks) (list_all (λ (stmt : Stmt). fold-Stmt Bool is_stmt stmt) job.body) is in
+    (list_all (λ (b : job_block). list_all spelled.is_spelled_stage b.stages) job.blocks)
+    (list_all (λ (stmt : Stmt). fold-Stmt Bool is_stmt stmt) job.body) is in
     let free = all_parts is_unreserved (names_of_vars job.vars) (names_of_blocks job.blocks) parts.0 in
     record { vars_free = free.0; blocks_free = free.1; once = not-true (has_twice (names_in job)) parts.1; inits = parts.2; stages = parts.3; stmts = parts.4 }
 
@@ -162,24 +163,25 @@ module _ (job : Job) (checked : IsChecked job) (spells : IsSpelled job) where
   sound =
       let tree = tree_for job in
       let steps : Steps = record { line = 2; most = job.steps } in
-      let of_vars = var_sites [] tree.vars in
-      let of_blocks = block_sites tree.vars [] tree.blocks in
-      let of_statements = statement_sites tree no_past tree.statements in
+      let of_vars = places_of_vars [] tree.vars in
+      let of_blocks = places_of_blocks tree.vars [] tree.blocks in
+      let of_statements = places_of_statements tree empty_scope tree.statements in
       let once = ap (λ (names : List Word). has_twice (names ++ names_of_blocks job.blocks)) (append-nil (names_of_vars job.vars)) ∙ spells.once in
       passes_on (at_steps steps) (of_vars ++ (of_blocks ++ of_statements)) (steps_pass steps checked.steps)
       (passes_both of_vars (of_blocks ++ of_statements) (vars_pass [] [] job.vars 3 refl refl spells.vars_free there.once checked.vars checked.few)
       (passes_both of_blocks of_statements
       (blocks_pass tree.vars job.vars [] [] job.blocks (3 + length job.vars) there refl once spells.blocks_free checked.blocks checked.few_blocks)
-      (statements_pass tree no_past first_line lines (subst (λ (names : List Word). AreSound names tree.blocks no_past lines) (sym there.named) shows.sound))))
+      (statements_pass tree empty_scope first_line lines
+      (subst (λ (names : List Word). AreSound names tree.blocks empty_scope lines) (sym there.named) shows.sound))))
 
   names_are : names_of (tree_for job) ≡ names_at job many.0
   names_are =
       let tree = tree_for job in
       let with_names = λ (vars blocks set : List Word). let names : Names = record { vars = vars; blocks = blocks; scalars = set } in names in
-      ap₂ (λ (vars blocks : List Word). with_names vars blocks (sites.scalars_of tree.statements)) there.named
+      ap₂ (λ (vars blocks : List Word). with_names vars blocks (places.scalars_of tree.statements)) there.named
       (blocks_named job.vars (3 + length job.vars) job.blocks)
-      ∙ ap (λ (past : Past). with_names (names_of_vars job.vars) (names_of_blocks job.blocks) past.scalars)
-      (past_of_lines no_past first_line lines ∙ shows.past)
+      ∙ ap (λ (scope : Scope). with_names (names_of_vars job.vars) (names_of_blocks job.blocks) scope.scalars)
+      (scope_of_lines empty_scope first_line lines ∙ shows.scope)
 
   body_is : body_of (names_of (tree_for job)) (lines_for first_line lines) ≡ job.body
   body_is =

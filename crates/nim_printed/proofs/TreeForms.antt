@@ -199,7 +199,8 @@ pub block_line : (line : ℕ) (called : Word) (arguments : List Word) → is_unr
 unfolding line_form
 block_line line called arguments free are = block_reads line called arguments free are
 
-pub stage_line : (line : ℕ) (s : Stage) → is_printable_stage s ≡ true → Reads (line_form true line head.Other) (stage_words s) (form.Stage (record s { line = line })) []
+pub stage_line : (line : ℕ) (s : Stage) → is_printable_stage s ≡ true
+    → Reads (line_form true line head.Other) (stage_words s) (form.Stage (record s { line = line })) []
 unfolding line_form
 stage_line line s are = stage_reads line s are
 

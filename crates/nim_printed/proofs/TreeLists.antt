@@ -97,7 +97,8 @@ atom_begins (Number (negsuc n)) = refl
 atom_begins (Name word) = refl
 
 -- an atom begins with no word that is neither
-pub atom_differs : (a : Atom) (text : Word) → is_printable_atom a ≡ true → is_unreserved text ≡ false → ((n : ℕ) → is_small n ≡ true → bytes_eq (decimal n) text ≡ false)
+pub atom_differs : (a : Atom) (text : Word) → is_printable_atom a ≡ true → is_unreserved text ≡ false
+    → ((n : ℕ) → is_small n ≡ true → bytes_eq (decimal n) text ≡ false)
     → bytes_eq (codes "-") text ≡ false → bytes_eq (atom_first a) text ≡ false
 unfolding atom_first
 atom_differs (Number (pos n)) text are taken numbers minus = numbers n (small_enough n are)
@@ -140,7 +141,8 @@ read_up (suc n) (ref ∷ refs) found rest turns are =
     (regives (append_assoc found (ref ∷ []) refs)
     (passes_then (codes "->") _ _ ref.name (ref_differs ref (codes "->") both.0 refl) (then_reads _ (reference_reads ref after both.0) later)))
 
-pub reads_reads : (refs : List Ref) (rest : List Word) → list_all is_printable_ref refs ≡ true → Reads reads (flat_map ref_words refs ++ codes "->" ∷ rest) refs rest
+pub reads_reads : (refs : List Ref) (rest : List Word) → list_all is_printable_ref refs ≡ true
+    → Reads reads (flat_map ref_words refs ++ codes "->" ∷ rest) refs rest
 unfolding reads
 reads_reads refs rest are =
     let words : List Word = flat_map ref_words refs in
@@ -287,7 +289,8 @@ unfolding parameters
 no_parameters true = passes_then (codes "with") _ _ (codes "each") refl (pure_reads [] _)
 no_parameters false = ends_then (codes "with") _ _ (pure_reads [] [])
 
-pub parameters_reads : (xs : List Atom) (given : Bool) → list_all is_printable_atom xs ≡ true → Reads parameters (with_words xs ++ each_words given) xs (each_words given)
+pub parameters_reads : (xs : List Atom) (given : Bool) → list_all is_printable_atom xs ≡ true
+    → Reads parameters (with_words xs ++ each_words given) xs (each_words given)
 unfolding parameters
 parameters_reads [] given are = no_parameters given
 parameters_reads (x ∷ xs) given are = takes_then (codes "with") _ _ (values_reads x xs (each_words given) (each_ends given) are)

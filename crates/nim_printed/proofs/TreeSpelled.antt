@@ -197,7 +197,8 @@ block_lines_are b are =
     let both = and_parts _ (list_all is_printable_stage b.stages) are in
     let front = and_parts (is_unreserved b.name) (list_all is_unreserved b.arguments) both.0 in
     and_from _ _ (and_from _ _ (name_word b.name front.0) (listed_of (λ (word : Word). word ∷ []) is_unreserved name_words_are b.arguments front.1))
-    (all_both (list_all is_word) (map stage_words b.stages) ((codes "end" ∷ []) ∷ []) (lines_of stage_words is_printable_stage stage_words_are b.stages both.1) refl)
+    (all_both (list_all is_word) (map stage_words b.stages) ((codes "end" ∷ []) ∷ [])
+    (lines_of stage_words is_printable_stage stage_words_are b.stages both.1) refl)
 
 blocks_lines_are : (blocks : List Block) → list_all is_printable_block blocks ≡ true → AreLines (flat_map block_words blocks)
 blocks_lines_are [] are = refl

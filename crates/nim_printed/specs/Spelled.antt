@@ -55,7 +55,8 @@ is_spelled_param (param.Arg arg) = true
 -- all numbers in the references and parameters of a stage can be written
 abbrev pub is_spelled_stage : job_stage → Bool
 is_spelled_stage stage =
-    list_all (λ (ref : job_ref). is_spelled_place ref.place) (stage.reads ++ stage.writes) && list_all is_spelled_param stage.params
+    list_all (λ (ref : job_ref). is_spelled_place ref.place)
+    (stage.reads ++ stage.writes) && list_all is_spelled_param stage.params
 
 -- an atom that is a number is one of 64 bits
 abbrev pub is_spelled_atom : job_atom → Bool

@@ -54,7 +54,8 @@ is_steps (Some steps) = is_small steps.most
 
 -- a name that isn't reserved, and numbers that can be written
 abbrev pub is_printable_var : Var → Bool
-is_printable_var v = is_unreserved v.name && is_small v.parts && is_small v.width && is_small v.rows && is_printable_init v.init
+is_printable_var v = is_unreserved v.name && is_small v.parts && is_small v.width && is_small v.rows &&
+    is_printable_init v.init
 
 -- one reference or more, each of which can be written
 abbrev pub is_some_refs : List Ref → Bool
@@ -63,12 +64,14 @@ is_some_refs (ref ∷ refs) = list_all is_printable_ref (ref ∷ refs)
 
 -- a name that isn't reserved, one write or more, and references and parameters that can be written
 abbrev pub is_printable_stage : Stage → Bool
-is_printable_stage stage = is_unreserved stage.function && list_all is_printable_ref stage.reads && is_some_refs stage.writes
+is_printable_stage stage = is_unreserved stage.function && list_all is_printable_ref stage.reads && is_some_refs
+    stage.writes
     && list_all is_printable_atom stage.parameters
 
 -- a block's name and its arguments aren't reserved, and each of its stages can be written
 abbrev pub is_printable_block : Block → Bool
-is_printable_block block = is_unreserved block.name && list_all is_unreserved block.arguments && list_all is_printable_stage block.stages
+is_printable_block block = is_unreserved block.name && list_all is_unreserved block.arguments && list_all
+    is_printable_stage block.stages
 
 -- each atom of the value of a `let` can be written
 abbrev pub is_printable_value : Expression → Bool
@@ -101,6 +104,7 @@ is_closed (Some opened) = is_empty opened
 
 -- each line of a tree can be written, and its statements close all that they open
 abbrev pub is_printable : Sections → Bool
-is_printable tree = is_steps tree.steps && list_all is_printable_var tree.vars && list_all is_printable_block tree.blocks
+is_printable tree = is_steps tree.steps && list_all is_printable_var tree.vars && list_all is_printable_block
+    tree.blocks
     && list_all (λ (line : Line). is_statement line.statement) tree.statements
     && is_closed (open_after [] tree.statements)

@@ -22,7 +22,8 @@ kept_own of own waits followers t true o same = refl
 kept_own of own waits followers t false None same = refl
 kept_own of own waits followers t false (Some m) same = ap (λ y. Some y) (same m)
 
-pub told_of : {Y : Type 0} (of : Waiting → Y) (own : Member → Y) (queue : BeforeQueue) (groups : List Group) (done : ℕ → Bool) (t : ℕ) → KeepsGroups queue groups done
+pub told_of : {Y : Type 0} (of : Waiting → Y) (own : Member → Y) (queue : BeforeQueue) (groups : List Group) (done : ℕ → Bool) (t : ℕ)
+    → KeepsGroups queue groups done
     → ((waits followers : ℕ → List ℕ) (m : Member) → of (kept_at waits followers t m) ≡ own m)
     → option_map of (get nat_eq queue.waiting t) ≡ (if done t then None else option_map own (slice_get (members_of groups) t))
 told_of of own queue groups done t stands same =

@@ -206,7 +206,8 @@ border_met : (x : Member) (rest : List Member) (g : ℕ) (past : List Command) (
     → sight.written ≡ is_written_in past
     → ((s : Slot) → is_writer e (sight.used s.0) ≡ (does_write x.command.kind s && not (is_written_by rest s)))
     → ((s : Slot) → is_reader e (sight.used s.0) ≡ (does_read x.command.kind s && not (is_written_by rest s)))
-    → ((is_user_met sight is_writer (reads_of c.kind) e || is_user_met sight is_writer (writes_of c.kind) e) || is_user_met sight is_reader (writes_of c.kind) e)
+    → ((is_user_met sight is_writer (reads_of c.kind) e || is_user_met sight is_writer (writes_of c.kind) e) || is_user_met sight is_reader
+    (writes_of c.kind) e)
     ≡ is_border x (rest ++ as_members g past) (record { group = g; command = c })
 border_met x rest g past c sight e kept written writer reader =
     let q : Slot → Bool = λ s. not (is_written_by (rest ++ as_members g past) s) in

@@ -25,7 +25,8 @@ pub record HasRoomForArrived (start : BeforeQueue) (all : List Arrival) : Type 0
 pub record IsMidway (start now : BeforeQueue) (past : List Arrival) (groups : List Group) (done : ℕ → Bool) : Type 0
   where
     pub stands : (next : Group) → next.commands ≡ commands_of past
-        → KeepsGroups (record now { groups = length groups + 1; links = start.links + link_count past }) (groups ++ next ∷ [])
+        → KeepsGroups (record now { groups = length groups + 1; links = start.links + link_count past })
+        (groups ++ next ∷ [])
         done
     pub given : now.given ≡ start.given + length past
     pub spare : spare start.waiting ≤ spare now.waiting + length past

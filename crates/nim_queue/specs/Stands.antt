@@ -35,7 +35,8 @@ first_to_pass test (n ∷ rest) = if test n then Some n else first_to_pass test 
 -- the first released command after the given one, in the order given
 abbrev pub ready_of : List Group → (ℕ → Bool) → Option ℕ → Option ℕ
 ready_of groups done after =
-    first_to_pass (λ ticket. is_after after ticket && is_released groups done ticket) (range_with_len 0 (command_count groups))
+    first_to_pass (λ ticket. is_after after ticket && is_released groups done ticket)
+    (range_with_len 0 (command_count groups))
 
 -- the command of a ticket while it isn't complete
 abbrev pub outstanding_command : List Group → (ℕ → Bool) → ℕ → Option Command

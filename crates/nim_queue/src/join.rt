@@ -20,7 +20,8 @@ use std::collections::HashMap;
 pub(crate) fn follow(waiting: &mut HashMap<u64, Waiting>, waits: Vec<Link>)
     ensures followers { (k n : ℕ) (d : List ℕ) → AreShort (get nat_eq waiting.old) k → waits.items ≡ map (link_to n) d
         → k + length d < 2 ^ 63
-        → (t : ℕ) → get nat_eq waiting.new t ≡ option_map (followed (gathered t waits.items)) (get nat_eq waiting.old t) }
+        → (t : ℕ) → get nat_eq waiting.new t ≡ option_map (followed
+        (gathered t waits.items)) (get nat_eq waiting.old t) }
     ensures spare { spare waiting.new ≡ spare waiting.old }
 {
     for link in waits {
@@ -53,7 +54,8 @@ pub(crate) fn write(slots: &mut Vec<Option<SlotUse>>, written: &[Slot], ticket: 
 
 fn write_one(slots: &mut Vec<Option<SlotUse>>, slot: Slot, ticket: u64)
     ensures { (s : ℕ) → used_in slots.new.items s
-        ≡ (if slot.0 == s then option_map (rewritten ticket) (used_in slots.old.items s) else used_in slots.old.items s) }
+        ≡ (if slot.0 == s then option_map (rewritten ticket)
+        (used_in slots.old.items s) else used_in slots.old.items s) }
 {
     let at = usize::from(slot.0);
     if at < slots.len() {

@@ -67,7 +67,8 @@ impl BeforeQueue {
     /// no earlier command of the group has are nothing. Memory is also refused where tickets or the count of all
     /// waits run out.
     pub fn admit(&mut self, group: Vec<Command>) -> Result<(), NoMemory>
-        ensures ok { (groups : List group_type) (done : ℕ → Bool) (next : group_type) → StandsForGroups self.old groups done
+        ensures ok { (groups : List group_type) (done : ℕ → Bool) (next : group_type)
+            → StandsForGroups self.old groups done
             → next.commands ≡ group.items
             → OnOk result (StandsForGroups self.new (groups ++ next ∷ []) done) }
         ensures err { (groups : List group_type) (done : ℕ → Bool) → StandsForGroups self.old groups done
@@ -133,7 +134,8 @@ impl BeforeQueue {
         requires one { length group.items ≡ 1 }
         requires tickets { self.old.given + 1 < 2 ^ 64 }
         requires groups { self.old.groups + 1 < 2 ^ 64 }
-        ensures ok { (groups : List group_type) (done : ℕ → Bool) (next : group_type) → StandsForGroups self.old groups done
+        ensures ok { (groups : List group_type) (done : ℕ → Bool) (next : group_type)
+            → StandsForGroups self.old groups done
             → next.commands ≡ group.items
             → OnOk result (StandsForGroups self.new (groups ++ next ∷ []) done) }
         ensures err { (groups : List group_type) (done : ℕ → Bool) → StandsForGroups self.old groups done
@@ -149,7 +151,8 @@ impl BeforeQueue {
     fn admit_alone(&mut self, command: Command) -> Result<(), NoMemory>
         requires tickets { self.old.given + 1 < 2 ^ 64 }
         requires groups { self.old.groups + 1 < 2 ^ 64 }
-        ensures ok { (groups : List group_type) (done : ℕ → Bool) (next : group_type) → StandsForGroups self.old groups done
+        ensures ok { (groups : List group_type) (done : ℕ → Bool) (next : group_type)
+            → StandsForGroups self.old groups done
             → next.commands ≡ command ∷ []
             → OnOk result (StandsForGroups self.new (groups ++ next ∷ []) done) }
         ensures err { (groups : List group_type) (done : ℕ → Bool) → StandsForGroups self.old groups done
@@ -185,7 +188,8 @@ impl BeforeQueue {
     /// Takes in what has arrived, for which there is room.
     fn join_all(&mut self, arrived: Vec<Arrival>)
         requires tickets { self.old.given + length arrived.items < 2 ^ 64 }
-        ensures midway { (groups : List group_type) (done : ℕ → Bool) → group_type → HasRoomForArrived self.old arrived.items
+        ensures midway { (groups : List group_type) (done : ℕ → Bool) → group_type
+            → HasRoomForArrived self.old arrived.items
             → KeepsGroups self.old groups done
             → IsMidway self.old self.new arrived.items groups done }
         ensures groups { self.new.groups ≡ self.old.groups }

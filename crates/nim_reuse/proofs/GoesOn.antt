@@ -118,7 +118,8 @@ instances_go_on place live objects forms at args given commands versions decisio
 
       done : IsDone place live objects at args patched template (by_number given) behind commands versions
       done =
-          all_done place live objects (forms at.block) at args new patched (patch_key_at decisions at.block) decisions.patches template (by_number given) commands
+          all_done place live objects (forms at.block) at args new patched (patch_key_at decisions at.block) decisions.patches template
+          (by_number given) commands
           versions had chosen may.decided.patches may.so_far may.before may.room
           (λ object there. may.holders object (let columns = may.before.columns in omega (arith, there, columns)))
 

@@ -74,7 +74,8 @@ patched_by key versions uses template =
 
 -- so it is by what was decided so far
 abbrev pub patched_in : Decisions → ℕ → Versions → WorkerTemplate → Patched
-patched_in decisions block versions template = patched_by (patch_key_at decisions block) versions decisions.patches template
+patched_in decisions block versions template = patched_by
+    (patch_key_at decisions block) versions decisions.patches template
 
 -- the kept patches then
 abbrev pub patches_after : Key → List PatchCopy → List Use → Patched → List Use
@@ -145,7 +146,8 @@ decisions_by block patched versions template decisions = record {
   blocks = slice_set decisions.blocks block (Installed template);
   previous = block;
   patches =
-      patches_after (patch_key_at decisions block) (patch_copies versions template.preconditions) decisions.patches patched;
+      patches_after (patch_key_at decisions block)
+      (patch_copies versions template.preconditions) decisions.patches patched;
 }
 
 -- a map has the workers and objects that it had

@@ -136,7 +136,8 @@ fn push_patch_install(
     parts: Vec<PatchPart>,
 ) -> Result<(), NoMemory>
     ensures { OnOk result (orders.new.items
-        ≡ orders.old.items ++ words.map (λ (order : order_type). (worker, order)) (patches.install_parts epoch patch parts.items)) }
+        ≡ orders.old.items ++ words.map (λ (order : order_type).
+        (worker, order)) (patches.install_parts epoch patch parts.items)) }
 {
     if parts.is_empty() {
         return Ok(());
@@ -300,8 +301,10 @@ fn instance(
     ready: &Ready,
     worker: Worker,
 ) -> Result<ToWorker, NoMemory>
-    ensures { let versions = flat_map (λ (e : entry_type). version_named (latest_of map.now) e.kind) (half_of ready.now worker.0) in
-        IfOk result (λ order. order ≡ order_instantiate at.now.epoch at.now.instance ready.now.block at.now.base args.now
+    ensures { let versions = flat_map (λ (e : entry_type). version_named (latest_of map.now) e.kind)
+        (half_of ready.now worker.0) in
+        IfOk result (λ order. order
+        ≡ order_instantiate at.now.epoch at.now.instance ready.now.block at.now.base args.now
         versions []) }
 {
     Ok(ToWorker::Instantiate {

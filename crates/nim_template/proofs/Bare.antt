@@ -66,7 +66,8 @@ for_both worker given xs ys same =
     ∙ sym (map-append without_before (commands_for worker given) (commands_for worker ys))
     ∙ sym (ap (map without_before) (for_append worker given ys))
 
-pub stands_same : (given xs ys : List (Worker × Command)) (versions : Versions) → AreSame xs ys → MapStands (given ++ xs) versions → MapStands (given ++ ys) versions
+pub stands_same : (given xs ys : List (Worker × Command)) (versions : Versions) → AreSame xs ys → MapStands (given ++ xs) versions
+    → MapStands (given ++ ys) versions
 stands_same given xs ys versions same stands = record {
   slots = stands.slots;
   all = stands.all;

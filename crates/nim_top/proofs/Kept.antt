@@ -53,7 +53,8 @@ run_of_plan t plan setup setup2 status cluster of same run = record {
 
 -- a plan was followed, or memory was refused
 pub keeps_left : (told : Told) (words : List Text) (plan : Plan) (setup : Setup) (status : ℕ) (old new : Option Cluster)
-    → OfTexts told Replay words (λ t. IsPlanOf t plan) → setup ≡ setup_of Replay words → Leaves plan setup status old new → KeepsCluster told words status old new
+    → OfTexts told Replay words (λ t. IsPlanOf t plan) → setup ≡ setup_of Replay words → Leaves plan setup status old new
+    → KeepsCluster told words status old new
 keeps_left told words plan setup status old new of same leaves = by_flag (has_run status) new leaves where
   by_flag : (flag : Bool) (new : Option Cluster) → LeavesIf flag plan setup status old new → KeepsIf flag told words status old new
   by_flag true (Some cluster) run =

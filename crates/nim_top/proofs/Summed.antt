@@ -47,7 +47,8 @@ pub tells_summary : (asked : Bool) (outcome : Outcome) (text : Text) (kept : Opt
     → IsSomeAnd kept (λ (cluster : Cluster). (s : ClusterState) × (ClusterStands cluster s × IsTold (text_of_summary s.control.summary)))
 tells_summary asked outcome text kept IsTold is told zero asks =
     summary_told outcome text kept IsTold
-    (subst (λ (flag : Bool). SumsUpIf flag text kept) asks (subst (λ (o : Outcome). SumsUpIf (is_summary_told asked o) text kept) (done_by outcome zero) is)) told
+    (subst (λ (flag : Bool). SumsUpIf flag text kept) asks (subst (λ (o : Outcome). SumsUpIf (is_summary_told asked o) text kept) (done_by outcome zero) is))
+    told
 
 -- where nothing was run no summary is told
 pub unsummed : (asked : Bool) (status : ℕ) (outcome : Outcome) (kept : Option Cluster) → status_of outcome ≡ status → (status ≡ 0 → ⊥)

@@ -102,7 +102,8 @@ Ends verb words old new outcome.Done =
 -- the output couldn't be written, and the front of its bytes is
 Ends verb words old new outcome.Write =
     (is_accepted verb words ≡ true)
-    × OfTexts old.told verb words (λ t. Comes verb 0 t × AppendsFront old.written new.written (command_ending verb t).bytes)
+    × OfTexts old.told verb words
+    (λ t. Comes verb 0 t × AppendsFront old.written new.written (command_ending verb t).bytes)
     × (new.read_faults ≡ old.read_faults) × Rose old.write_faults new.write_faults
 
 -- ---- what is told of that

@@ -6,7 +6,8 @@ use nim_io::{Sink, write_all};
 
 /// Writes what a command prints.
 pub fn print<K: Sink>(output: &[u8], out: &mut K) -> Outcome
-    ensures { PrintsBytes output.now (K.written out.old) (K.written out.new) (K.faults out.old) (K.faults out.new) result }
+    ensures { PrintsBytes output.now (K.written out.old) (K.written out.new) (K.faults out.old)
+        (K.faults out.new) result }
 {
     match write_all(out, output) {
         Ok(()) => Outcome::Done,

@@ -119,7 +119,8 @@ unbegun true X holds never = absurd (never (holds refl))
 unbegun false X holds never = refl
 
 -- a core without room has begun no epoch, and begins an empty batch
-pub none_begun : (old : WorkerCore) (history : List Happening) (most : ℕ) → CoreStands old None history → old.room ≡ None → [] ≡ taken_of (state_of history) most
+pub none_begun : (old : WorkerCore) (history : List Happening) (most : ℕ) → CoreStands old None history → old.room ≡ None
+    → [] ≡ taken_of (state_of history) most
 none_begun old history most stands none =
     let not : old.begun ≡ false =
     unbegun old.begun (is_some old.room ≡ true) stands.at.out.1.room (λ there. both_ways true (sym there ∙ ap is_some none) refl) in

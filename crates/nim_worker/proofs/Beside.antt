@@ -86,7 +86,8 @@ given_back_other slots (t ∷ ts) (v ∷ vs) f s among not =
       either false other rest = rest
 
 -- the results of a command depend on what it touches alone
-results_same : (shapes : List Shape) (kind : Kind) (f g : Slot → Option Held) → Agree kind f g → results_performed shapes kind f ≡ results_performed shapes kind g
+results_same : (shapes : List Shape) (kind : Kind) (f g : Slot → Option Held) → Agree kind f g
+    → results_performed shapes kind f ≡ results_performed shapes kind g
 results_same shapes kind f g same =
     ap (λ (grids : List Grid). option_map (λ (func : Func). apply_of func (params_taken kind) grids (map (fitting_shape shapes) (writes_taken kind)))
     (func_taken kind))

@@ -100,7 +100,8 @@ first_out core first left state at =
     }
 
 -- a core whose batch is finished
-pub stands_finished : (old new : WorkerCore) (batch : Batch) (history : List Happening) (outs : List Out) → CoreStands old (Some batch) history → old.stale ≡ false
+pub stands_finished : (old new : WorkerCore) (batch : Batch) (history : List Happening) (outs : List Out) → CoreStands old (Some batch) history
+    → old.stale ≡ false
     → AllCompleted (state_of history) batch.works.items outs new → new.busy ≡ false → new.stale ≡ false → (new.begun ≡ true → is_some new.room ≡ true)
     → CoreStands new None (history ++ completions_of old batch)
 stands_finished old new batch history outs stands fresh all busy stale room =

@@ -252,7 +252,8 @@ stands_reset old new batch state epoch worker workers shapes is at = record {
 
 pub reset_taken : (old new : WorkerCore) (batch : Option Batch) (state : WorkerState) (order : ToWorker) (epoch : ℕ) (worker : Worker) (workers : ℕ)
     (shapes : List Shape)
-    → order ≡ ToWorker.Reset epoch worker workers shapes → IsReset old epoch shapes new → CoreStandsAt old batch state → CoreStandsAt new batch (ordered state order)
+    → order ≡ ToWorker.Reset epoch worker workers shapes → IsReset old epoch shapes new → CoreStandsAt old batch state
+    → CoreStandsAt new batch (ordered state order)
 reset_taken old new batch state order epoch worker workers shapes is reset at =
     subst (λ (o : ToWorker). CoreStandsAt new batch (ordered state o)) (sym is) (stands_reset old new batch state epoch worker workers shapes reset at)
 
@@ -343,7 +344,8 @@ pub stands_late : (core : WorkerCore) (batch : Option Batch) (state : WorkerStat
     → CoreStandsAt core batch (framed state frame)
 stands_late core batch state frame late at =
     let is : nat_lt frame.epoch state.session.epoch ≡ true = subst (λ (epoch : ℕ). nat_lt frame.epoch epoch ≡ true) at.has.session.epoch late in
-    subst (CoreStandsAt core batch) (ap (λ (b : Bool). if b then state else record state { inbox = map.insert state.inbox (key_of frame) frame.value }) (sym is)) at
+    subst (CoreStandsAt core batch)
+    (ap (λ (b : Bool). if b then state else record state { inbox = map.insert state.inbox (key_of frame) frame.value }) (sym is)) at
 
 work_framed : (old new : WorkerCore) (state : WorkerState) (frame : Data) (works : List Work)
     → framed state frame ≡ record state { inbox = map.insert state.inbox (key_of frame) frame.value }
@@ -358,7 +360,8 @@ work_framed old new state frame works is same at = record {
 -- a frame that is kept
 pub stands_framed : (old : WorkerCore) (inbox : map.FinMap key_cmp Grid) (batch : Option Batch) (state : WorkerState) (frame : Data)
     → nat_lt frame.epoch old.epoch ≡ false
-    → inbox ≡ map.insert old.inbox (key_of frame) frame.value → CoreStandsAt old batch state → CoreStandsAt (record old { inbox = inbox }) batch (framed state frame)
+    → inbox ≡ map.insert old.inbox (key_of frame) frame.value → CoreStandsAt old batch state
+    → CoreStandsAt (record old { inbox = inbox }) batch (framed state frame)
 stands_framed old inbox batch state frame late kept at =
     let new : WorkerCore = record old { inbox = inbox } in
     let not_late : nat_lt frame.epoch state.session.epoch ≡ false = subst (λ (epoch : ℕ). nat_lt frame.epoch epoch ≡ false) at.has.session.epoch late in

@@ -50,7 +50,8 @@ results_inside : (shapes : List Shape) (version : ℕ) (slots : List Slot) (valu
 results_inside shapes version [] values s f g same = same
 results_inside shapes version (slot ∷ slots) [] s f g same = same
 results_inside shapes version (slot ∷ slots) (value ∷ values) s f g same =
-    results_inside shapes version slots values s (put_shaped shapes slot (held_version slot version value) f) (put_shaped shapes slot (held_version slot version value) g)
+    results_inside shapes version slots values s (put_shaped shapes slot (held_version slot version value) f)
+    (put_shaped shapes slot (held_version slot version value) g)
     (shaped_inside shapes slot s (held_version slot version value) f g same)
 
 results_outside : (shapes : List Shape) (version : ℕ) (slots : List Slot) (values : List Grid) (s : Slot) (f : Slot → Option Held) → is_among slots s ≡ false
@@ -58,7 +59,8 @@ results_outside : (shapes : List Shape) (version : ℕ) (slots : List Slot) (val
 results_outside shapes version [] values s f not = refl
 results_outside shapes version (slot ∷ slots) [] s f not = refl
 results_outside shapes version (slot ∷ slots) (value ∷ values) s f not =
-    results_outside shapes version slots values s (put_shaped shapes slot (held_version slot version value) f) (or_parts (slot.0 == s.0) (is_among slots s) not).1
+    results_outside shapes version slots values s (put_shaped shapes slot (held_version slot version value) f)
+    (or_parts (slot.0 == s.0) (is_among slots s) not).1
     ∙ shaped_outside shapes slots slot s (held_version slot version value) f not
 
 run_inside : (shapes : List Shape) (position : ℕ) (func : Func) (params : List ℤ) (reads writes : List Slot) (s : Slot) (f g : Slot → Option Held)

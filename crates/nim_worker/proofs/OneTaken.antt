@@ -138,7 +138,8 @@ pub maybe_taken : (old new : WorkerCore) (works more : List Work) (state : Worke
     → IfSome (asked_at state.session.groups ticket) (λ asked. true ≡ has_frame state asked)
     → list_any (λ earlier. do_meet state.session.groups earlier ticket) (tickets_of works) ≡ false
     → MayBeBegun old.store works ticket new.store more (outstanding_command state.session.groups (is_one_of state.ran) ticket)
-    → (tickets_of more ≡ (if is_taken_behind state (tickets_of works) ticket then tickets_of works ++ ticket ∷ [] else tickets_of works)) × IsBeginning new more state
+    → (tickets_of more ≡ (if is_taken_behind state (tickets_of works) ticket then tickets_of works ++ ticket ∷ [] else tickets_of works)) × IsBeginning new more
+    state
 maybe_taken old new works more state ticket begins same shapes released framed none b =
     either (asked_at state.session.groups ticket) refl framed
     (subst (MayBeBegun old.store works ticket new.store more) (command_asked state.session.groups state.ran ticket waiting) b) where

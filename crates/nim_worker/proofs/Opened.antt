@@ -165,7 +165,8 @@ table_down old new groups ran ticket number table entry down other = down other 
 
 -- a command is complete
 pub completed_stands : (old new : Admitted) (groups : List Group) (ran : List ℕ) (ticket number : ℕ) → IsAdmitted old groups ran
-    → queue.outstanding_group groups (is_one_of ran) ticket ≡ Some number → queue.StandsForGroups new.queue groups (queue.done_with groups (is_one_of ran) ticket)
+    → queue.outstanding_group groups (is_one_of ran) ticket ≡ Some number
+    → queue.StandsForGroups new.queue groups (queue.done_with groups (is_one_of ran) ticket)
     → new.given ≡ old.given
     → CountsDown old.unfinished number new.unfinished → IsAdmitted new groups (ran ++ ticket ∷ [])
 completed_stands old new groups ran ticket number is known stands given down =
@@ -182,7 +183,8 @@ completed_stands old new groups ran ticket number is known stands given down =
 
 -- a group that isn't there has no entry
 none_yet : (groups : List Group) (ran : List ℕ) (number : ℕ) → length groups ≤ number → open_of groups ran number ≡ None
-none_yet groups ran number past = ap (option_and_then (λ (group : Group). open_with group (left_in_group groups number ran))) (slice_get_past groups number past)
+none_yet groups ran number past = ap (option_and_then (λ (group : Group). open_with group (left_in_group groups number ran)))
+    (slice_get_past groups number past)
 
 -- the entry of a group that comes
 next_entry : (next : Group) (left : ℕ) (before : Option OpenGroup) → before ≡ None
@@ -206,7 +208,8 @@ table_up old new groups ran next left table later many opens other = opens other
   of_next =
       next_entry next left (get nat_cmp old (length groups)) (table (length groups) ∙ none_yet groups ran (length groups) (omega arith))
       ∙ ap (open_with next) (many ∙ sym (left_of_next groups next ran later))
-      ∙ sym (ap (λ (o : Option Group). option_and_then (λ (group : Group). open_with group (left_in_group longer (length groups) ran)) o) (last_there groups next))
+      ∙ sym
+      (ap (λ (o : Option Group). option_and_then (λ (group : Group). open_with group (left_in_group longer (length groups) ran)) o) (last_there groups next))
 
   of_front : other < length groups → get nat_cmp old other ≡ open_of longer ran other
   of_front within =

@@ -23,7 +23,8 @@ pub record HasLeft (all : List Shape) (state : WorkerState) (asked : Asked) (mor
     (before : List Out) (through : Bool) (core : WorkerCore) (after : List Out) : Type 0 where
   pub inbox : core.inbox ≡ inbox_after state asked
   pub shapes : core.store.shapes ≡ all
-  pub works : AreWorks all (kept_by all (value_received state asked) asked.command.kind state.slots) (slot_at core.store)
+  pub works : AreWorks all (kept_by all (value_received state asked) asked.command.kind state.slots)
+      (slot_at core.store)
       more out
   pub given : after ≡ before ++ (own_outs asked.group asked.command.kind state.slots
       ++ through_of (group_head asked.group) through)

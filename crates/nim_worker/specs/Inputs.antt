@@ -66,6 +66,7 @@ pub record AreInputs (all : List Shape) (numbers : List ℤ) (reads writes : Lis
   pub params : inputs.params.items ≡ numbers
   pub back : given_back inputs.taken.items inputs.values.items now ≡ before
   pub among : AreAmong reads inputs.taken.items
-  pub values : read_values inputs.values.items inputs.places.items ≡ map (λ slot. (held_or_empty before slot).value) reads
+  pub values : read_values inputs.values.items inputs.places.items
+      ≡ map (λ slot. (held_or_empty before slot).value) reads
   pub contents : inputs.contents.items ≡ map (content_seen before) reads
   pub shapes : inputs.shapes.items ≡ map (fitting_shape all) writes

@@ -17,5 +17,6 @@ pub record IsLent (old new : Batch) : Type 0 where
 -- Such a batch is out still, and completes what it did.
 abbrev pub LentBatchesStand : Type 0
 LentBatchesStand =
-    (core : WorkerCore) (old new : Batch) (happened : List Happening) → IsLent old new → CoreStands core (Some old) happened
+    (core : WorkerCore) (old new : Batch) (happened : List Happening) → IsLent old new
+    → CoreStands core (Some old) happened
     → CoreStands core (Some new) happened × (completions_of core new ≡ completions_of core old)

@@ -31,7 +31,8 @@ runs_read state places = flat_map (run_read_at state) places
 
 -- what a work has read
 abbrev pub reads_of_work : Work → List RunRead
-reads_of_work work = option_map_or (λ (position : ℕ). (position, work.inputs.value.contents.items) ∷ []) work.position []
+reads_of_work work = option_map_or
+    (λ (position : ℕ). (position, work.inputs.value.contents.items) ∷ []) work.position []
 
 -- what works have read, in order
 abbrev pub all_read_by : List Work → List RunRead

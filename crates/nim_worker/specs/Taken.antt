@@ -57,7 +57,8 @@ is_taken_behind state taken place =
 abbrev pub taken_from : WorkerState → ℕ → List ℕ → List ℕ → List ℕ
 taken_from state most taken [] = taken
 taken_from state most taken (place ∷ places) =
-    if nat_lt (length taken) most && is_taken_behind state taken place then taken_from state most (taken ++ place ∷ []) places
+    if nat_lt (length taken) most && is_taken_behind state taken place then taken_from state most
+    (taken ++ place ∷ []) places
     else taken_from state most taken places
 
 -- The places of the commands that a batch takes: in the order given each that may be completed and that meets none of

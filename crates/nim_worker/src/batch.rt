@@ -134,7 +134,8 @@ impl Work {
         store: &mut Store,
     ) -> Work
         requires { IsIdle inputs.value }
-        ensures work { IsWork store.old.shapes (slot_at store.old) (slot_at store.new) (begun_as ticket kind.now) result }
+        ensures work { IsWork store.old.shapes (slot_at store.old) (slot_at store.new)
+            (begun_as ticket kind.now) result }
         ensures shapes { store.new.shapes ≡ store.old.shapes }
     {
         let func = inputs.take_for(alloc, kind, store);

@@ -60,7 +60,8 @@ impl WorkerCore {
 
     /// Whether a batch that is begun now would take a command.
     pub fn is_ready(&self) -> bool
-        ensures { (history : List Happening) → CoreStands self.now None history → result ≡ has_released (state_of history) }
+        ensures { (history : List Happening) → CoreStands self.now None history
+            → result ≡ has_released (state_of history) }
     {
         let mut after = None;
         while let Some(ticket) = self.admitted.ready(after) {
@@ -154,7 +155,8 @@ impl WorkerCore {
         ensures taken { (state : WorkerState) → IsBeginning self.old works.old.items state
             → is_released state.session.groups (is_one_of state.ran) ticket ≡ true
             → tickets_of works.new.items
-            ≡ (if is_taken_behind state (tickets_of works.old.items) ticket then tickets_of works.old.items ++ ticket ∷ []
+            ≡ (if is_taken_behind state
+            (tickets_of works.old.items) ticket then tickets_of works.old.items ++ ticket ∷ []
             else tickets_of works.old.items) }
         ensures idle { AreIdle spare.new.items }
         ensures count { vec_len works.new + vec_len spare.new ≡ vec_len works.old + vec_len spare.old }

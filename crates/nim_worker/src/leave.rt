@@ -131,7 +131,8 @@ fn receive(
     frame: Option<Value>,
 ) -> Result<(), NoMemory>
     ensures slots { OnOk result (slot_at store.new
-        ≡ option_map_or (λ (value : Grid). put_at slot (Some (spec.held_version slot version value)) (slot_at store.old))
+        ≡ option_map_or (λ (value : Grid). put_at slot (Some (spec.held_version slot version value))
+        (slot_at store.old))
         frame
         (slot_at store.old)) }
     ensures shapes { store.new.shapes ≡ store.old.shapes }
@@ -190,7 +191,8 @@ fn put_shaped(store: &mut Store, slot: Slot, held: Held) -> Result<(), NoMemory>
 
 // What a Run tells: what it read, where it came as a Single.
 fn ran(head: GroupHead, position: Position, contents: Vec<(Object, Version)>) -> Option<Out>
-    ensures { option_to_list result ≡ (if head.single then Report (Ran head.epoch position contents.items) ∷ [] else []) }
+    ensures { option_to_list result
+        ≡ (if head.single then Report (Ran head.epoch position contents.items) ∷ [] else []) }
 {
     if head.single {
         Some(Out::Report(FromWorker::Ran {

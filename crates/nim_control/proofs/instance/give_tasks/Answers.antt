@@ -13,14 +13,16 @@ owner-requires c =
     task_fits c.args.sites.now.versions.objects c.args.args.now c.args.forms.now c.loop-form.form-index c.form-item.result c.requires.fit
     c.loop-form-test.true c.form-item.is in
     writes_first c.loop-form.sites.versions.objects c.in_ok-task.task
-    (ap (λ n. is_whole_task n c.in_ok-task.task) c.loop-form.invariant.stay.objects ∙ ap (is_whole_task c.args.sites.now.versions.objects) c.in_ok-task.ensures ∙ fits)
+    (ap (λ n. is_whole_task n c.in_ok-task.task) c.loop-form.invariant.stay.objects ∙ ap (is_whole_task c.args.sites.now.versions.objects) c.in_ok-task.ensures
+    ∙ fits)
 
 pub give_task-requires : goal.give_task-requires
 give_task-requires c =
     let fits : is_whole_task c.args.sites.now.versions.objects (task_with_args c.args.args.now c.form-item.result) ≡ true =
     task_fits c.args.sites.now.versions.objects c.args.args.now c.args.forms.now c.loop-form.form-index c.form-item.result c.requires.fit
     c.loop-form-test.true c.form-item.is in
-    ap (λ n. is_whole_task n c.in_ok-task.task) c.loop-form.invariant.stay.objects ∙ ap (is_whole_task c.args.sites.now.versions.objects) c.in_ok-task.ensures ∙ fits
+    ap (λ n. is_whole_task n c.in_ok-task.task) c.loop-form.invariant.stay.objects ∙ ap (is_whole_task c.args.sites.now.versions.objects) c.in_ok-task.ensures
+    ∙ fits
 
 pub loop-form-preserved : goal.loop-form-preserved
 loop-form-preserved c =

@@ -11,7 +11,8 @@ abbrev pub invariant-loop-form : goal.invariant-loop-form
 invariant-loop-form l = record {
   number : l.number ≡ l.form-index;
   way : (c : Controller) → IsToRun c l.instance l.initial.sites
-      → AreOnTheWay c (map (task_with_args l.args) l.forms) l.initial.orders.items l.initial.sites l.number (drop l.form-index (map (task_with_args l.args) l.forms))
+      → AreOnTheWay c (map (task_with_args l.args) l.forms) l.initial.orders.items l.initial.sites l.number
+      (drop l.form-index (map (task_with_args l.args) l.forms))
       l.orders.items l.sites;
   flight : l.flight ≡ record {
     instance = l.instance.instance;

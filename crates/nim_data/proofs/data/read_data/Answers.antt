@@ -69,7 +69,8 @@ returns c =
     let whole : ended end ws c.loop-at.reading ≡ judge (data_file_refusal ws bytes) (values_in bytes) =
     (rw none at c.loop-at.invariant.outcome) ∙ of_file ws bytes short in
     let gave : GaveValues (judge (data_file_refusal ws bytes) (values_in bytes)) c.ended.result =
-    subst (λ (o : Result (List Grid) Refusal). GaveValues o c.ended.result) (ap (λ (e : ℕ). ended e ws c.loop-at.reading) c.end_line.ensures ∙ whole) c.ended.ensures
+    subst (λ (o : Result (List Grid) Refusal). GaveValues o c.ended.result)
+    (ap (λ (e : ℕ). ended e ws c.loop-at.reading) c.end_line.ensures ∙ whole) c.ended.ensures
     in
     record {
       answers = gave_answers (data_file_refusal ws bytes) (values_in bytes) c.ended.result gave;

@@ -15,7 +15,8 @@ use Rattle.nim_patch.proofs.patch.build_patch.Goals as goal
 
 -- at the end of the loop there are all copies
 all_copied : (versions : Versions) (preconditions all : List (Worker × Object)) (at : ℕ) (copies result : List PatchCopy) → all ≡ preconditions
-    → copies ++ patch_copies versions (drop at all) ≡ patch_copies versions all → length all ≤ at → result ≡ copies → patch_copies versions preconditions ≡ result
+    → copies ++ patch_copies versions (drop at all) ≡ patch_copies versions all → length all ≤ at → result ≡ copies
+    → patch_copies versions preconditions ≡ result
 all_copied versions preconditions all at copies result same so_far end is =
     ap (λ (l : List (Worker × Object)). patch_copies versions l) (sym same)
     ∙ sym so_far

@@ -22,7 +22,8 @@ give_block-requires-clause-fit c =
     let is = c.forms_of-forms.ensures ∙ ap (λ (all : List (List TaskForm)). slice_index_or all c.in-Block.block []) c.as_slice.ensures.value in
     let forms = forms_fit c.self.inside.job c.self.inside.forms.items c.in-Block.block c.as_slice-in-Block.result.now c.forms_of-forms.result.now
     c.self.invariant.1.whole c.self.invariant.0.0 is in
-    ap (λ (n : ℕ). list_all (is_whole_task n) (map (task_with_args c.as_slice-in-Block.result.now) c.forms_of-forms.result.now)) c.self.invariant.1.objects ∙ forms.fit
+    ap (λ (n : ℕ). list_all (is_whole_task n) (map (task_with_args c.as_slice-in-Block.result.now) c.forms_of-forms.result.now)) c.self.invariant.1.objects
+    ∙ forms.fit
 
 pub returns-in_ok-push_open-clause-orders : goal.returns-in_ok-push_open-clause-orders
 returns-in_ok-push_open-clause-orders c = λ waits.

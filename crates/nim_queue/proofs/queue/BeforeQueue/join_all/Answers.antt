@@ -23,7 +23,8 @@ loop-arrival-preserved c =
     record {
       midway = λ groups done any room stands.
           stepped c.args.self.now c.loop-arrival.self c.join.new.self past rest a groups done any
-          (subst (HasRoomForArrived c.args.self.now) (sym whole) room) stands (c.loop-arrival.invariant.midway groups done any room stands) c.join.ensures.waiting
+          (subst (HasRoomForArrived c.args.self.now) (sym whole) room) stands
+          (c.loop-arrival.invariant.midway groups done any room stands) c.join.ensures.waiting
           c.join.ensures.slots
           c.join.ensures.released c.join.ensures.capacity c.join.ensures.spare c.join.ensures.given c.join.ensures.groups;
       given = omega (arith, c.join.ensures.given, c.loop-arrival.invariant.given, length-append past (a ∷ []));

@@ -18,5 +18,6 @@ pub returns-clause-err : goal.returns-clause-err
 returns-clause-err c = λ groups ran is.
     admitted_err c.enqueue.result c.args.self.now c.open_group.new.self c.enqueue.new.self groups ran
     (record { head = c.args.head; told = c.args.told; left = c.len.result }) is c.in_ok-open_group.ensures.ok c.in_ok-open_group.ensures.given
-    (c.enqueue.ensures.err groups ran (subst (λ (q : BeforeQueue). queue.StandsForGroups q groups (is_one_of ran)) (sym c.in_ok-open_group.ensures.queue) is.queue))
+    (c.enqueue.ensures.err groups ran
+    (subst (λ (q : BeforeQueue). queue.StandsForGroups q groups (is_one_of ran)) (sym c.in_ok-open_group.ensures.queue) is.queue))
     c.enqueue.ensures.same c.enqueue.ensures.closed

@@ -14,7 +14,8 @@ invariant-loop-slot l = record {
   among : AreAmong l.reads l.self.taken.items;
   stays : l.store.shapes ≡ l.fn.store.shapes;
   params : l.self.params.items ≡ l.params;
-  values : read_values l.self.values.items l.self.places.items ≡ map (λ (slot : Slot). (held_or_empty (slot_at l.fn.store) slot).value) (take l.slot-index l.reads);
+  values : read_values l.self.values.items l.self.places.items
+      ≡ map (λ (slot : Slot). (held_or_empty (slot_at l.fn.store) slot).value) (take l.slot-index l.reads);
   contents : l.self.contents.items ≡ map (content_seen (slot_at l.fn.store)) (take l.slot-index l.reads);
   paired : length l.self.taken.items ≡ length l.self.values.items;
   shapes : l.self.shapes.items ≡ [];

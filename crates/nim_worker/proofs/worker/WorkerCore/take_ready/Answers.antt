@@ -50,7 +50,8 @@ loop-ticket-preserved c =
           ∙ c.in-Some.is in
           let released : is_released groups (is_one_of state.ran) c.in-Some.ticket ≡ true =
           (and_parts (is_after c.loop-ticket.after c.in-Some.ticket) (is_released groups (is_one_of state.ran) c.in-Some.ticket)
-          (passes (λ (ticket : ℕ). is_after c.loop-ticket.after ticket && is_released groups (is_one_of state.ran) ticket) (range_with_len 0 (command_count groups))
+          (passes (λ (ticket : ℕ). is_after c.loop-ticket.after ticket && is_released groups (is_one_of state.ran) ticket)
+          (range_with_len 0 (command_count groups))
           c.in-Some.ticket ready)).1 in
           walked_on state c.args.most c.loop-ticket.after c.in-Some.ticket c.loop-ticket.self c.take_one.new.self c.loop-ticket.works.items
           c.take_one.new.works.items

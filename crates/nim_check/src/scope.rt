@@ -1,25 +1,25 @@
 ghost use Rattle.std.specs.Prelude.{◌≡◌, ◌≤◌, ◌<◌, ◌+◌, OnOk};
-ghost use Rattle.nim_check.specs.Sites.{no_past, past_with, with_scalar};
+ghost use Rattle.nim_check.specs.DriverPlaces.{empty_scope, scope_with, with_scalar};
 
 use crate::names::is_in;
 use nim_base::{Copied, NoMemory, Seq};
 use nim_parse::Statement;
 use std::alloc::Global;
 
-/// What the statements before a line did: the scalars that they set, in order, and how many loops, whiles and ifs are
-/// open.
+/// What is in scope at a line: the scalars that the statements before it set, in order, and how many loops, whiles and
+/// ifs are open.
 #[derive(Drop)]
-pub struct Past {
+pub struct Scope {
     pub scalars: Seq<Seq<u8>>,
     pub depth: u64,
 }
 
-impl Past {
+impl Scope {
     /// Before the first statement: no scalar is set, and nothing is open.
-    pub fn new(alloc: Global) -> Past
-        ensures { result ≡ no_past }
+    pub fn new(alloc: Global) -> Scope
+        ensures { result ≡ empty_scope }
     {
-        Past {
+        Scope {
             scalars: Seq::new(alloc),
             depth: 0,
         }
@@ -37,7 +37,7 @@ impl Past {
     /// Takes a statement in.
     pub fn take(&mut self, statement: &Statement) -> Result<(), NoMemory>
         requires { self.old.depth < 18446744073709551615 }
-        ensures past { OnOk result (self.new ≡ past_with self.old statement.now) }
+        ensures scope { OnOk result (self.new ≡ scope_with self.old statement.now) }
         ensures depth { OnOk result (self.new.depth ≤ self.old.depth + 1) }
     {
         match statement {

@@ -1,8 +1,0 @@
--- what the variables so far are given, and the values that are left
-use Rattle.std.proofs.Common.{◌≡◌, ◌++◌, drop}
-use Rattle.std.specs.Vec.Iter.{into_iter_items}
-use Rattle.nim_check.specs.Loading.{gifts}
-use Rattle.nim_check.proofs.loading.gifts_of.Given as goal
-
-abbrev pub invariant-loop-v : goal.invariant-loop-v
-invariant-loop-v l = l.given ++ gifts (drop l.v-index l.vars) (into_iter_items l.values) ≡ gifts l.vars l.fn.values
