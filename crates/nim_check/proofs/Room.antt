@@ -1,4 +1,4 @@
--- The room that variables take.
+-- One more variable adds one, its parts and its cells to the room that variables take.
 use Rattle.std.proofs.Common.{◌≡◌, ◌∙◌, ℕ, ◌+◌, ◌*◌, List, [], ◌∷◌, ◌++◌, length, map, ap}
 use Rattle.std.specs.Prelude.{◌&&◌, nat_le}
 use Rattle.std.specs.List.{sum_by}
