@@ -32,6 +32,7 @@ use Rattle.nim_check.specs.Names.{Word, place_in}
 use Rattle.nim_check.specs.Refusals.{first_refusal}
 use Rattle.nim_check.specs.Rules.{has_block, has_variable, is_known, opens, read_by, rule_41, rule_44, rule_47, rule_52, rule_53, rule_54, rule_of}
 use Rattle.nim_check.specs.DriverPlaces.{at_statement, empty_scope, places_of_statements, scope_of, scope_with}
+use Rattle.nim_base.proofs.Lists.{five_and}
 use Rattle.nim_check.proofs.Counts.{Begins, known_atoms, known_cond, known_value, one_known, read_begins, set_begins, sets}
 use Rattle.nim_check.proofs.Scanned.{Fits, checkpoint_scan, do_scan, else_fits, else_scan, end_fits, get_scan, if_bodies, if_scan, let_scan, loop_scan, no_second, opened_fits, output_scan, put_fits, put_scan, scan_bodies, turns_scan, while_scan}
 
@@ -228,9 +229,6 @@ body_whole tree job ties body nests none =
     ap (λ (b : List Stmt). is_some (scan_all (map (scan_of job) b) 0 0)) body
     ∙ ap is_some (last job (bodies_of (names_for tree all) tree.statements) (length all) both.0 both.1)
 
-chain : (a b c d e : Bool) → a ≡ true → b ≡ true → c ≡ true → d ≡ true → e ≡ true → (a && b && c && d && e) ≡ true
-chain a b c d e p q r s t = rw (p, q, r, s, t) refl
-
 between : (n : ℕ) → 1 ≤ n → n ≤ 1000000 → is_between 1 1000000 n ≡ true
 between n low high = grind (arith, nat_tests)
 
@@ -242,6 +240,6 @@ pub job_whole : (job : Job) → 1 ≤ job.steps → job.steps ≤ 1000000 → ar
     → list_all (is_whole_block job.vars) job.blocks ≡ true
     → is_some (scalars_set job) ≡ true → is_checked job ≡ true
 job_whole job low high vars blocks each body =
-    chain (is_between 1 1000000 job.steps) (are_vars job.vars) (nat_le (length job.blocks) 32) (list_all (is_whole_block job.vars) job.blocks)
+    five_and (is_between 1 1000000 job.steps) (are_vars job.vars) (nat_le (length job.blocks) 32) (list_all (is_whole_block job.vars) job.blocks)
     (is_some (scalars_set job))
     (between job.steps low high) vars (few (length job.blocks) blocks) each body

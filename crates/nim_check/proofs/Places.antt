@@ -8,6 +8,7 @@ use Rattle.nim_parse.specs.declared.sections.Block.{Block}
 use Rattle.nim_parse.specs.declared.sections.Var.{Var}
 use Rattle.nim_check.specs.Made.{block_names, var_names}
 use Rattle.nim_check.specs.Names.{Word, has_twice, is_in, place_in}
+use Rattle.std.proofs.lemmas.Bool.{or_right}
 
 pub lt_suc : (k n : ℕ) → nat_lt (1 + k) (suc n) ≡ nat_lt k n
 lt_suc k n = grind (arith, nat_tests)
@@ -32,15 +33,11 @@ length_block_names blocks = length-map blocks (λ b. b.name)
 
 -- ---- words from one on
 
-or_last : (a b : Bool) → b ≡ true → (a || b) ≡ true
-or_last true b h = refl
-or_last false b h = h
-
 -- what stands twice among the last words stands twice
 pub twice_back : (words : List Word) (n : ℕ) → has_twice (drop n words) ≡ true → has_twice words ≡ true
 twice_back words zero h = h
 twice_back [] (suc n) h = h
-twice_back (w ∷ words) (suc n) h = or_last (is_in words w) (has_twice words) (twice_back words n h)
+twice_back (w ∷ words) (suc n) h = or_right (is_in words w) (has_twice words) (twice_back words n h)
 
 pub twice_more : (words : List Word) (n : ℕ) (d : Word) → n < length words
     → has_twice (drop n words) ≡ (is_in (drop (n + 1) words) (get_or words n d) || has_twice (drop (n + 1) words))

@@ -18,8 +18,8 @@ use Rattle.nim_data.specs.declared.lines.Header.{Header}
 use Rattle.nim_data.specs.Lines.{header, is_bare, is_short_name, row}
 use Rattle.nim_data.specs.Parts.{Loaded, Part, part_begun, data_after, data_from, data_rule, lacks, parts_loaded}
 use Rattle.nim_data.proofs.Steps.{refused_later}
-use Rattle.nim_job.proofs.Lists.{list_all_weaker}
 use Rattle.nim_check.specs.Printing.{parts_text}
+use Rattle.nim_base.proofs.Lists.{all_weaker}
 use Rattle.nim_check.proofs.PrintedLines.{header_line, header_read, name_plain, row_read, row_some}
 use Rattle.nim_check.proofs.PrintedWords.{IsPlain, cell_plain, decimal_plain, is_plain, not_bare}
 
@@ -29,7 +29,7 @@ plain_inner : (b : ℕ) → is_plain b ≡ true → is_inner b ≡ true
 plain_inner b plain = grind (arith, nat_tests)
 
 word_inner : (w : List ℕ) → IsPlain w → list_all is_inner w ≡ true
-word_inner w plain = list_all_weaker is_plain is_inner plain_inner w plain.1
+word_inner w plain = all_weaker is_plain is_inner plain_inner w plain.1
 
 both_inner : (xs ys : List ℕ) → list_all is_inner xs ≡ true → list_all is_inner ys ≡ true → list_all is_inner (xs ++ ys) ≡ true
 both_inner xs ys x y = list_all-append is_inner xs ys ∙ and_from (list_all is_inner xs) (list_all is_inner ys) x y

@@ -12,7 +12,7 @@ use Rattle.nim_base.proofs.ReadsBack.{IsSmall}
 use Rattle.nim_base.proofs.Texts.{joined, later}
 use Rattle.nim_lex.specs.Bytes.{is_name_byte}
 use Rattle.nim_data.specs.Lines.{cell, cells_from, header, is_bare, is_short_name, row}
-use Rattle.nim_job.proofs.Lists.{list_all_weaker}
+use Rattle.nim_base.proofs.Lists.{all_weaker}
 use Rattle.nim_check.proofs.PrintedWords.{Ends, IsPlain, behind_first, behind_next, bounded_read, cell_plain, cell_read, decimal_plain, is_plain, not_bare, word_first, word_next}
 
 -- ---- rows
@@ -67,7 +67,7 @@ unfolding is_short_name
 name_plain [] short = absurd (let no : false ≡ true = short in cc)
 name_plain (b ∷ name) short =
     let parts = and_parts (nat_le (length (b ∷ name)) 16 && is_ascii_alphabetic (slice_index (b ∷ name) 0)) (list_all is_name_byte (b ∷ name)) short in
-    (omega arith, list_all_weaker is_name_byte is_plain name_byte_plain (b ∷ name) parts.1)
+    (omega arith, all_weaker is_name_byte is_plain name_byte_plain (b ∷ name) parts.1)
 
 pub header_read : (name : List ℕ) (part rows width : ℕ) → is_short_name name ≡ true → part ≤ 63 → rows ≤ 65536 → 1 ≤ width → width ≤ 65536
     → header (header_line name part rows width) ≡ Some (record { name = name; part = part; rows = rows; width = width })

@@ -15,7 +15,7 @@ use Rattle.nim_base.proofs.ReadsBack.{IsSmall}
 use Rattle.nim_lex.specs.Bytes.{is_blank, is_newline, is_word_byte}
 use Rattle.nim_lex.specs.Numbers.{in_range, decimal_value, signed}
 use Rattle.nim_data.specs.Lines.{behind_first_word, bounded, cell, is_bare, is_numeral, unblanked, whole, word}
-use Rattle.nim_job.proofs.Lists.{list_all_weaker}
+use Rattle.nim_base.proofs.Lists.{all_weaker}
 
 -- ---- words
 
@@ -109,7 +109,7 @@ digit_plain : (b : ℕ) → is_ascii_digit b ≡ true → is_plain b ≡ true
 digit_plain b digit = grind (arith, nat_tests)
 
 digits_plain : (digits : List ℕ) → list_all is_ascii_digit digits ≡ true → list_all is_plain digits ≡ true
-digits_plain digits are = list_all_weaker is_ascii_digit is_plain digit_plain digits are
+digits_plain digits are = all_weaker is_ascii_digit is_plain digit_plain digits are
 
 pub decimal_plain : (n : ℕ) → n < 2 ^ 64 → IsPlain (decimal n)
 decimal_plain n fits = (decimal_nonempty n fits, digits_plain (decimal n) (are_digits n fits))

@@ -27,6 +27,7 @@ use Rattle.nim_cluster.specs.declared.running.Moving.TheVariants as moving
 use Rattle.nim_cluster.specs.Runs.{event_of}
 use Rattle.nim_cluster.specs.Stands.{AreNodes, IsNode, ClusterStands}
 use Rattle.nim_cluster.specs.Steps.{IsFinished, may_take, number_in}
+use Rattle.nim_lockstep.proofs.Keeping.{turned_to}
 use Rattle.nim_cluster.proofs.Jobs.{reported_job, turned_job}
 use Rattle.nim_cluster.proofs.Nodes.{node_at, nobody, nodes_set, set_same}
 
@@ -106,12 +107,8 @@ enabled_may s event node enabled there =
 
 -- ---- turns
 
--- a controller that took a turn, whose orders are to be put
-abbrev pub turning : ClusterState → Controller → List Directed → ClusterState
-turning s control orders = record s { control = control; put = s.put ++ orders }
-
 pub stands_turning : (old : Cluster) (control : Controller) (s : ClusterState) (orders : List Directed) → ClusterStands old s
-    → IsTurned old.control orders control → ClusterStands (record old { control = control }) (turning s control orders)
+    → IsTurned old.control orders control → ClusterStands (record old { control = control }) (turned_to s control orders)
 stands_turning old control s orders stands turned = record {
   whole = stands.whole;
   job = turned_job old.control control orders turned ∙ ap (λ (c : Controller). c.job) stands.control ∙ stands.job;
@@ -124,7 +121,7 @@ stands_turning old control s orders stands turned = record {
 }
 
 pub turned_so : (old : Cluster) (control : Controller) (s : ClusterState) (orders : List Directed) → ClusterStands old s → IsTurned old.control orders control
-    → HasTurned s (fold order_sent (turning s control orders) orders)
+    → HasTurned s (fold order_sent (turned_to s control orders) orders)
 turned_so old control s orders stands turned = record {
   control = control;
   orders = orders;

@@ -2,7 +2,7 @@
 use Rattle.std.proofs.Common.{◌≡◌, ℕ, zero, suc, ◌+◌, ◌<◌, ◌≤◌, List, [], ◌∷◌, ◌++◌, get_or, length, refl, ap, sym, subst, ◌∙◌, arith, Option, None, Some, Global, Vec}
 use Rattle.std.specs.Prelude.{OnOk, Result, Ok, Err, slice_get, slice_set}
 use Rattle.std.specs.Option.{option_map_or}
-use Rattle.std.proofs.lemmas.List.{length-set}
+use Rattle.std.proofs.lemmas.List.{length-set, nil_from_length}
 use Rattle.nim_lockstep.specs.Cluster.{ClusterState, Node}
 use Rattle.nim_lockstep.specs.Events.{at_node}
 use Rattle.nim_cluster.specs.declared.cluster.Cluster.{Cluster}
@@ -24,10 +24,6 @@ past (x ∷ xs) (suc i) above = past xs i (omega (arith, above))
 pub same_got : {X : Type 0} (xs : List X) (i : ℕ) (x y : X) → i < length xs → x ≡ get_or xs i x → y ≡ get_or xs i y → x ≡ y
 same_got xs i x y below here there =
     let same : Some x ≡ Some y = sym (got xs i x below here) ∙ got xs i y below there in cc
-
-pub empty_of : {X : Type 0} (xs : List X) → length xs ≡ 0 → xs ≡ []
-empty_of [] none = refl
-empty_of (x ∷ xs) none = absurd (omega (arith, none))
 
 pub set_same : {X : Type 0} (xs : List X) (i : ℕ) (x : X) → slice_get xs i ≡ Some x → slice_set xs i x ≡ xs
 set_same [] i x at = refl

@@ -10,7 +10,8 @@ use Rattle.nim_command.specs.declared.last_uses.LastUses.{LastUses}
 use Rattle.nim_command.specs.Before.{Footprint, is_before, is_rewritten}
 use Rattle.nim_command.specs.LastUses.{IsPastOf, is_in, is_last, is_last_user, is_writer, readers_of, writer_of}
 use Rattle.nim_command.specs.Slots.{is_among}
-use Rattle.nim_command.proofs.Lists.{any_and, any_nothing, any_or, any_same}
+use Rattle.nim_base.proofs.Lists.{any_same, guarded}
+use Rattle.nim_command.proofs.Lists.{any_and, any_nothing, any_or}
 use Rattle.nim_command.proofs.Walk.{same_slot}
 
 first_more : (e u w : Bool) → ((e && (u && true)) || false) ≡ ((if w then false else false) || (u && e))
@@ -88,10 +89,6 @@ past_more old new kept past f reads writes place are_reads are_writes at before 
 abbrev pub is_waited : ℕ → List Footprint → Footprint → ℕ → Bool
 is_waited from [] later p = false
 is_waited from (f ∷ fs) later p = (p == from && is_before f fs later) || is_waited (suc from) fs later p
-
-guarded : (t q r : Bool) → (t ≡ true → q ≡ r) → (t && q) ≡ (t && r)
-guarded true q r same = same refl
-guarded false q r same = refl
 
 both_ways : (a b : ℕ) (t u : Bool) → (a == b) ≡ t → (b == a) ≡ u → t ≡ u
 both_ways a b true u is back = sym (eq-eqb b a (sym (eqb-true a b is))) ∙ back

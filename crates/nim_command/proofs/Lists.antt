@@ -2,20 +2,7 @@
 use Rattle.std.proofs.Common.{◌≡◌, Bool, true, false, List, [], ◌∷◌, refl, ap, ap₂, sym, ◌∙◌}
 use Rattle.std.specs.Prelude.{◌&&◌, ◌||◌, if◌then◌else◌}
 use Rattle.std.specs.List.{filter, list_any}
-
-first_counts : {X : Type 0} (p q : X → Bool) (x : X) (rest : List X) (found : Bool) → list_any p rest ≡ found → (b : Bool)
-    → list_any p (if b then x ∷ rest else rest) ≡ ((b && p x) || found)
-first_counts p q x rest found same true = ap (λ (b : Bool). p x || b) same
-first_counts p q x rest found same false = same
-
--- a test of the items that pass another one
-pub any_filter : {X : Type 0} (p q : X → Bool) (xs : List X) → list_any p (filter q xs) ≡ list_any (λ x. q x && p x) xs
-any_filter p q [] = refl
-any_filter {X} p q (x ∷ xs) = first_counts p q x (filter q xs) (list_any (λ (y : X). q y && p y) xs) (any_filter p q xs) (q x)
-
-pub any_same : {X : Type 0} (p q : X → Bool) → ((x : X) → p x ≡ q x) → (xs : List X) → list_any p xs ≡ list_any q xs
-any_same p q same [] = refl
-any_same p q same (x ∷ xs) = ap₂ (λ (a b : Bool). a || b) (same x) (any_same p q same xs)
+use Rattle.nim_base.proofs.Lists.{any_same}
 
 pub any_nothing : {X : Type 0} (p : X → Bool) → ((x : X) → p x ≡ false) → (xs : List X) → list_any p xs ≡ false
 any_nothing p none [] = refl

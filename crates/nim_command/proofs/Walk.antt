@@ -5,7 +5,8 @@ use Rattle.std.specs.List.{filter}
 use Rattle.std.proofs.lemmas.Bool.{eqb-true}
 use Rattle.nim_base.specs.declared.number.Slot.{Slot}
 use Rattle.nim_command.specs.Slots.{is_among}
-use Rattle.nim_command.proofs.Lists.{any_and, any_filter, any_same}
+use Rattle.nim_base.proofs.Lists.{any_filter, any_same}
+use Rattle.nim_command.proofs.Lists.{any_and}
 
 pub not_either : (w u : Bool) → not (w || u) ≡ (not u && not w)
 not_either true true = refl

@@ -1,27 +1,25 @@
 -- What objects hold at first is what they hold at the start of a job.
-use Rattle.std.proofs.Common.{◌≡◌, ℕ, ◌+◌, zero, suc, true, List, [], ◌∷◌, length, map, replicate, get_or, pos, refl, ap, ap₂, sym, ◌∙◌, arith}
+use Rattle.std.proofs.Common.{◌≡◌, ℕ, ◌+◌, zero, suc, true, List, [], ◌∷◌, length, map, replicate, get_or, refl, ap, ap₂, sym, ◌∙◌, arith}
 use Rattle.std.specs.Prelude.{◌==◌}
 use Rattle.std.specs.List.{list_all, range_with_len}
 use Rattle.std.proofs.lemmas.Bool.{and_parts, eqb-true}
-use Rattle.std.proofs.lemmas.List.{length-append, length-replicate}
-use Rattle.std.proofs.lemmas.List.FromFn.{length-map-range_with_len}
-use Rattle.std.proofs.lemmas.List.Sums.{sum_by-cons}
 use Rattle.nim_base.specs.declared.number.Object.{Object}
-use Rattle.nim_base.specs.Value.{empty_grid, filled, iota_of}
+use Rattle.nim_base.specs.Value.{empty_grid, filled}
 use Rattle.nim_job.specs.declared.job.Init.{Init}
 use Rattle.nim_job.specs.declared.job.Init.TheVariants.{Fill, Iota, Loaded}
 use Rattle.nim_job.specs.declared.job.Job.{Job}
 use Rattle.nim_job.specs.declared.job.Var.{Var}
 use Rattle.nim_job.specs.Machine.{Machine, start_machine}
-use Rattle.nim_job.specs.Objects.{first_cell, initial_parts, initial_values, objects_of}
+use Rattle.nim_job.specs.Objects.{initial_parts, initial_values, objects_of}
 use Rattle.nim_job.specs.Saved.{driver_in}
 use Rattle.nim_job.specs.Serial.{driver_at}
 use Rattle.nim_job.specs.Step.{State, start}
-use Rattle.nim_job.specs.Whole.{has_init, is_filled, is_loaded, is_whole}
+use Rattle.nim_job.specs.Whole.{has_init, is_loaded, is_whole}
 use Rattle.nim_job.proofs.Whole.{whole_inits}
 use Rattle.nim_control.specs.declared.checkpoint.Checkpoint.{Checkpoint}
 use Rattle.nim_control.specs.Checkpoints.{IsCheckpointAt, at_first, first_value, version_read}
 use Rattle.nim_control.specs.Given.{objects_from}
+use Rattle.nim_job.proofs.TaskLeaves.{length-initial, length-parts}
 
 -- ---- lists
 
@@ -57,25 +55,6 @@ parts_by_number v (Loaded values) is =
     ∙ by_number at_first (λ (part : ℕ). at_first (first_value v.shape (Loaded values) part)) empty_grid values 0
     (λ k. let same : 0 + k ≡ k = omega arith in ap (λ (part : ℕ). at_first (first_value v.shape (Loaded values) part)) same)
 
--- a value a part
-length_parts : (v : Var) (init : Init) → has_init v.parts v.shape init ≡ true → length (initial_parts v init) ≡ v.parts
-length_parts v (Fill number) is = length-replicate v.parts (filled v.shape number)
-length_parts v Iota is = length-map-range_with_len (λ part. iota_of v.shape (pos (first_cell v.shape part))) 0 v.parts
-length_parts v (Loaded values) is = eqb-true (length values) v.parts (and_parts (length values == v.parts) (list_all (is_loaded v.shape) values) is).0
-
--- a value an object
-length_initial : (vars : List Var) → list_all is_filled vars ≡ true → length (initial_values vars) ≡ objects_of vars
-length_initial [] all = refl
-length_initial (v ∷ vars) all =
-    let both = and_parts (is_filled v) (list_all is_filled vars) all in
-    omega (
-      arith,
-      length-append (initial_parts v v.init) (initial_values vars),
-      length_parts v v.init both.0,
-      length_initial vars both.1,
-      sum_by-cons (λ (w : Var). w.parts) v vars,
-    )
-
 -- ---- the start
 
 starts : (job : Job) → driver_at job 0 ≡ start job
@@ -93,7 +72,7 @@ all_read : (job : Job) → is_whole job ≡ true → map (version_read job 0) (o
 all_read job whole =
     let object : ℕ → Object = λ (part : ℕ). record { 0 = 0 + part } in
     sym (of_each (version_read job 0) object (range_with_len 0 (objects_of job.vars)))
-    ∙ ap (λ (n : ℕ). map (λ (part : ℕ). version_read job 0 (object part)) (range_with_len 0 n)) (sym (length_initial job.vars (whole_inits job whole)))
+    ∙ ap (λ (n : ℕ). map (λ (part : ℕ). version_read job 0 (object part)) (range_with_len 0 n)) (sym (length-initial job.vars (whole_inits job whole)))
     ∙ by_number at_first (λ (part : ℕ). version_read job 0 (object part)) empty_grid (initial_values job.vars) 0 (read_first job)
 
 -- a checkpoint whose driver is the machine's of a job that was just made, with what the objects hold at first

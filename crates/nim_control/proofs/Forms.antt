@@ -13,8 +13,8 @@ use Rattle.nim_job.specs.Objects.{objects_of}
 use Rattle.nim_job.specs.Tasks.{block_forms_of, block_tasks_of, forms_of, task_with_args}
 use Rattle.nim_job.specs.Whole.{is_whole_task, is_whole}
 use Rattle.nim_job.proofs.Whole.{tasks_there}
-use Rattle.nim_course.proofs.Blocks.{block_few}
 use Rattle.nim_control.specs.Form.{forms_in}
+use Rattle.nim_job.proofs.FewTasks.{block_few}
 
 -- what was made of a block are its tasks; where it isn't there, none
 made_once : (vars : List Var) (blocks : List Block) (block : ℕ)

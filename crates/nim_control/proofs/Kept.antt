@@ -1,6 +1,6 @@
 -- Which workers and objects a map of versions has stays, whatever is put into it.
-use Rattle.std.proofs.Common.{◌≡◌, ℕ, ◌≤◌, suc, zero, Bool, true, false, List, [], ◌∷◌, length, refl, ap, sym, ◌∙◌, arith}
-use Rattle.std.specs.Prelude.{if◌then◌else◌, max, replicate, slice_index_or, slice_set, Result, Ok, Err, Some, IfOk, OnErr}
+use Rattle.std.proofs.Common.{◌≡◌, ℕ, ◌≤◌, Bool, true, List, [], ◌∷◌, length, refl, ap, sym, ◌∙◌, arith}
+use Rattle.std.specs.Prelude.{replicate, Result, Ok, Err, IfOk, OnErr}
 use Rattle.std.specs.List.{fold, list_any}
 use Rattle.std.proofs.lemmas.List.{length-replicate}
 use Rattle.nim_base.specs.declared.number.Slot.{Slot}
@@ -8,29 +8,15 @@ use Rattle.nim_base.specs.declared.number.Worker.{Worker}
 use Rattle.nim_command.specs.declared.command.Command.{Command}
 use Rattle.nim_command.specs.declared.command.Kind.{Kind}
 use Rattle.nim_place.specs.declared.placement.Placement.{Placement}
-use Rattle.nim_place.specs.Versions.{Versions, after_commands, after_kind, is_kept, no_versions, place_of, puts_of, version_of, with_version}
+use Rattle.nim_place.specs.Versions.{Versions, after_commands, after_kind, no_versions, puts_of, version_of, with_version}
 use Rattle.nim_control.specs.Sites.{AreSites, Sites, SitesStay}
+use Rattle.nim_base.proofs.Lists.{some_set}
+use Rattle.nim_reuse.proofs.Stays.{put_stays, same_stays, then_stays}
 
 -- a map has the workers and objects of another
 pub record MapStays (old new : Versions) : Type 0 where
   pub workers : new.workers ≡ old.workers
   pub objects : new.objects ≡ old.objects
-
-map_stays : (old new : Versions) → new ≡ old → MapStays old new
-map_stays old new same = record { workers = ap (λ (v : Versions). v.workers) same; objects = ap (λ (v : Versions). v.objects) same }
-
-put_stays : (worker : Worker) (version : ℕ) (versions : Versions) (slot : Slot) → MapStays versions (with_version worker version versions slot)
-put_stays worker version versions slot = either (is_kept versions worker slot) where
-  either : (b : Bool)
-      → MapStays versions (if b then record versions {
-        held = slice_set versions.held (place_of versions worker slot) (Some version);
-        latest = slice_set versions.latest slot.0 (max (slice_index_or versions.latest slot.0 0) version);
-      } else versions)
-  either true = record { workers = refl; objects = refl }
-  either false = record { workers = refl; objects = refl }
-
-then_stays : (a b c : Versions) → MapStays a b → MapStays b c → MapStays a c
-then_stays a b c one two = record { workers = two.workers ∙ one.workers; objects = two.objects ∙ one.objects }
 
 puts_stay : (worker : Worker) (version : ℕ) (slots : List Slot) (versions : Versions) → MapStays versions (fold (with_version worker version) versions slots)
 puts_stay worker version [] versions = record { workers = refl; objects = refl }
@@ -51,14 +37,14 @@ commands_stay (c ∷ commands) versions =
 -- a command was taken in
 pub taken_stays : (worker : Worker) (kind : Kind) (old new : Versions) → new ≡ after_kind worker old kind → MapStays old new
 taken_stays worker kind old new is =
-    then_stays old (after_kind worker old kind) new (kind_stays worker old kind) (map_stays (after_kind worker old kind) new is)
+    then_stays old (after_kind worker old kind) new (kind_stays worker old kind) (same_stays (after_kind worker old kind) new is)
 
 -- a task was scheduled, or memory was refused
 pub scheduled_stays : {X E : Type 0} (result : Result X E) (commands : X → List (Worker × Command)) (old new : Versions)
     → IfOk result (λ (x : X). new ≡ after_commands old (commands x)) → OnErr result (new ≡ old) → MapStays old new
 scheduled_stays (Ok x) commands old new ok err =
-    then_stays old (after_commands old (commands x)) new (commands_stay (commands x) old) (map_stays (after_commands old (commands x)) new ok)
-scheduled_stays (Err e) commands old new ok err = map_stays old new err
+    then_stays old (after_commands old (commands x)) new (commands_stay (commands x) old) (same_stays (after_commands old (commands x)) new ok)
+scheduled_stays (Err e) commands old new ok err = same_stays old new err
 
 -- sites stay with it
 pub sites_still : (place : Placement) (live : List Bool) (old new : Versions) → AreSites (record { place = place; live = live; versions = old })
@@ -76,10 +62,6 @@ stay_with seen old new is stay = record {
 
 -- ---- new ones
 
-any_live : (n : ℕ) → 1 ≤ n → list_any (λ (flag : Bool). flag) (replicate n true) ≡ true
-any_live zero some = absurd (omega (arith, some))
-any_live (suc n) some = refl
-
 pub new_are : (place : Placement) (workers objects n : ℕ) (live : List Bool) (versions : Versions) → 1 ≤ workers → workers ≤ 16 → n ≡ workers
     → live ≡ replicate n true → versions ≡ no_versions workers objects → AreSites (record { place = place; live = live; versions = versions })
 new_are place workers objects n live versions some few same flags map_is =
@@ -87,6 +69,6 @@ new_are place workers objects n live versions some few same flags map_is =
     record {
       some = omega (arith, long, same, some);
       few = omega (arith, long, same, few);
-      live = ap (list_any (λ (flag : Bool). flag)) flags ∙ any_live n (omega (arith, same, some));
+      live = ap (list_any (λ (flag : Bool). flag)) flags ∙ some_set n (omega (arith, same, some));
       workers = ap (λ (v : Versions). v.workers) map_is ∙ sym same ∙ sym long;
     }

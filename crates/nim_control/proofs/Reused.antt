@@ -1,22 +1,21 @@
 -- An instance of a block is given: as a whole, or task by task and then recorded.
 use Rattle.std.proofs.Common.{◌≡◌, ℕ, ◌≤◌, zero, suc, Bool, true, false, ℤ, List, [], ◌∷◌, ◌++◌, length, map, refl, ap, ap₂, sym, subst, ◌∙◌, arith}
-use Rattle.std.specs.Prelude.{◌&&◌, if◌then◌else◌, nat_le, slice_index_or, slice_set, replicate, Result, Ok, Err, IfOk, OnOk}
+use Rattle.std.specs.Prelude.{if◌then◌else◌, slice_index_or, slice_set, replicate, Result, Ok, Err, IfOk, OnOk}
 use Rattle.std.specs.List.{list_all, list_any}
-use Rattle.std.proofs.lemmas.Bool.{and_from, and_parts, both_ways, le-leb, lt-ltb}
+use Rattle.std.proofs.lemmas.Bool.{both_ways, lt-ltb}
 use Rattle.std.proofs.lemmas.Bool.Decides.{nat_tests}
 use Rattle.nim_base.specs.declared.number.Worker.{Worker}
 use Rattle.nim_base.specs.declared.task.Func.{Func}
 use Rattle.nim_base.specs.declared.task.Func.TheVariants.{Set as Sets, Add, Sub, Max, Sum, Total, Count, Stencil, Merge, Split}
-use Rattle.nim_base.specs.declared.task.Task.{Task}
 use Rattle.nim_base.specs.declared.task.TaskForm.{TaskForm}
 use Rattle.nim_base.specs.Apply.{has_counts, most_reads, result_count}
 use Rattle.nim_job.specs.Tasks.{task_with_args}
-use Rattle.nim_job.specs.Whole.{is_object_within, is_whole_task}
+use Rattle.nim_job.specs.Whole.{is_whole_task}
 use Rattle.nim_place.specs.declared.placement.Placement.{Placement}
 use Rattle.nim_place.specs.Directed.{Directed}
 use Rattle.nim_place.specs.Versions.{Versions}
 use Rattle.nim_template.specs.declared.template.ControllerTemplate.{ControllerTemplate}
-use Rattle.nim_template.specs.Fits.{are_below, is_fit}
+use Rattle.nim_template.specs.Fits.{is_fit}
 use Rattle.nim_reuse.specs.declared.decided.Decided.{Decided}
 use Rattle.nim_reuse.specs.declared.decided.Decided.TheVariants.{Open, Recorded, Installed}
 use Rattle.nim_reuse.specs.declared.instance.InstanceAt.{InstanceAt}
@@ -30,8 +29,8 @@ use Rattle.nim_course.specs.Summaries.{reused_counted, single_counted}
 use Rattle.nim_control.specs.Form.{AreUsable}
 use Rattle.nim_control.specs.Given.{AreTasks, IsGiven, IsToGive, IsToRun, awaiting}
 use Rattle.nim_control.specs.Sites.{Sites, SitesStay, controller_sites}
+use Rattle.nim_course.proofs.Blocks.{all_fit}
 use Rattle.nim_control.proofs.Given.{flights_are}
-use Rattle.nim_control.proofs.Instances.{counts_writes, writes_some}
 
 -- ---- what may be used
 
@@ -129,32 +128,6 @@ few_reads func = omega arith
 
 counts_reads : (func : Func) (params reads writes : ℕ) → has_counts func params reads writes ≡ true → reads ≤ most_reads func
 counts_reads func params reads writes is = grind (arith, nat_tests)
-
--- a form whose task fits
-form_fits : (objects : ℕ) (args : List ℤ) (form : TaskForm) → is_whole_task objects (task_with_args args form) ≡ true → is_fit objects form ≡ true
-form_fits objects args form is =
-    let task : Task = task_with_args args form in
-    let counts : has_counts task.func (length task.params) (length task.reads) (length task.writes) ≡ true = grind (arith, nat_tests) in
-    let reads : list_all (is_object_within objects) task.reads ≡ true = grind (arith, nat_tests) in
-    let writes : list_all (is_object_within objects) task.writes ≡ true = grind (arith, nat_tests) in
-    let wrote = counts_writes task.func (length task.params) (length task.reads) (length task.writes) counts in
-    let read = counts_reads task.func (length task.params) (length task.reads) (length task.writes) counts in
-    let some : nat_le 1 (length form.writes) ≡ true = le-leb 1 (length form.writes) (omega (arith, wrote, writes_some task.func)) in
-    let few : nat_le (length form.writes) 2 ≡ true = le-leb (length form.writes) 2 (omega (arith, wrote, few_writes task.func)) in
-    let eight : nat_le (length form.reads) 8 ≡ true = le-leb (length form.reads) 8 (omega (arith, read, few_reads task.func)) in
-    let two = and_from (nat_le 1 (length form.writes)) (nat_le (length form.writes) 2) some few in
-    let three = and_from (nat_le 1 (length form.writes) && nat_le (length form.writes) 2) (nat_le (length form.reads) 8) two eight in
-    let four = and_from (nat_le 1 (length form.writes) && nat_le (length form.writes) 2 && nat_le (length form.reads) 8) (are_below objects form.writes)
-    three writes in
-    and_from (nat_le 1 (length form.writes) && nat_le (length form.writes) 2 && nat_le (length form.reads) 8 && are_below objects form.writes)
-    (are_below objects form.reads) four reads
-
-pub all_fit : (objects : ℕ) (args : List ℤ) (forms : List TaskForm) → list_all (is_whole_task objects) (map (task_with_args args) forms) ≡ true
-    → list_all (is_fit objects) forms ≡ true
-all_fit objects args [] all = refl
-all_fit objects args (form ∷ forms) all =
-    let each = and_parts (is_whole_task objects (task_with_args args form)) (list_all (is_whole_task objects) (map (task_with_args args) forms)) all in
-    and_from (is_fit objects form) (list_all (is_fit objects) forms) (form_fits objects args form each.0) (all_fit objects args forms each.1)
 
 -- ---- results
 

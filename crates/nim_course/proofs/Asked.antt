@@ -183,7 +183,7 @@ limit_leads c given pending idle is =
 
 -- ---- whatever it asks
 
-plain : (c next : Controller) (given : List Directed) → Leads c.job next given → Leads c.job next (given ++ [])
+pub plain : (c next : Controller) (given : List Directed) → Leads c.job next given → Leads c.job next (given ++ [])
 plain c next given leads = subst (Leads c.job next) (sym (append-nil given)) leads
 
 each_leads : (c : Controller) (given : List Directed) (ask : Ask) → c.outcome ≡ None → c.pending ≡ Pending.Idle → IsIdle c given

@@ -1,5 +1,5 @@
 -- The orders that begin an epoch lead to the position 0.
-use Rattle.std.proofs.Common.{◌≡◌, ℕ, ◌+◌, ◌<◌, ◌≤◌, suc, zero, Bool, true, false, List, [], ◌∷◌, ◌++◌, length, map, replicate, refl, ap, sym, subst, ◌∙◌, arith, Option, None}
+use Rattle.std.proofs.Common.{◌≡◌, ℕ, ◌+◌, ◌<◌, ◌≤◌, Bool, true, false, List, [], ◌∷◌, ◌++◌, length, map, replicate, refl, ap, sym, subst, ◌∙◌, arith, Option, None}
 use Rattle.std.specs.Prelude.{◌*◌, if◌then◌else◌, slice_index_or}
 use Rattle.std.specs.List.{AllByRecursion, list_any}
 use Rattle.std.specs.Option.{option_map}
@@ -32,11 +32,12 @@ use Rattle.nim_course.specs.Controller.{Controller}
 use Rattle.nim_place.specs.Directed.{Directed, by_number, directed}
 use Rattle.nim_course.specs.Leads.{AreRight, IsToBegin}
 use Rattle.nim_course.specs.OrdersGiven.{epoch_orders, first_commands, single_for}
+use Rattle.nim_base.proofs.Lists.{replicate_or}
 use Rattle.nim_course.proofs.Alone.{AreLed, ComeTo, alone_comes, right_more}
 use Rattle.nim_reuse.proofs.Stands.{decisions_stand}
-use Rattle.nim_course.proofs.Homes.{live_below}
 use Rattle.nim_course.proofs.Runs.{AreQuiet, quiet_homes, quiet_once}
 use Rattle.nim_place.proofs.Directed.{more_directed}
+use Rattle.nim_place.proofs.LiveOnce.{live_within}
 use Rattle.nim_course.proofs.Firsts.{AreFirst, all_first, first_count}
 
 -- ---- what they come to
@@ -49,14 +50,14 @@ first_puts : (job : Job) (live : List Bool) (number : ℕ) (cs : List (Worker ×
     → PutEach (read_version job 0) (length live) number cs
 first_puts job live number [] are = tt
 first_puts job live number (c ∷ cs) are =
-    (live_below live c.0 are.0.lives, are.0.plain.puts, are.0.plain.version, first_puts job live (number + 1) cs are.1)
+    (live_within live c.0 are.0.lives, are.0.plain.puts, are.0.plain.version, first_puts job live (number + 1) cs are.1)
 
 -- each is of a worker, and puts no version past the first one
 first_low : (job : Job) (live : List Bool) (number : ℕ) (cs : List (Worker × Command)) → AreFirst job live number cs
     → AllByRecursion (λ (c : Worker × Command). (c.0.0 < length live) × (version_of c.1.kind ≤ 0)) cs
 first_low job live number [] are = tt
 first_low job live number (c ∷ cs) are =
-    ((live_below live c.0 are.0.lives, omega (arith, are.0.plain.version)), first_low job live (number + 1) cs are.1)
+    ((live_within live c.0 are.0.lives, omega (arith, are.0.plain.version)), first_low job live (number + 1) cs are.1)
 
 -- one after another, at so many workers
 record CameTo (job : Job) (live : List Bool) (epoch : ℕ) (to_come : Key → Bool) (given : List Directed) (commands : List (Worker × Command))
@@ -73,7 +74,7 @@ firsts_come job live epoch number to_come given commands versions [] came are =
     (subst (λ (all : List (Worker × Command)). CameTo job live epoch to_come given all versions) (sym (append-nil commands)) came)
 firsts_come job live epoch number to_come given commands versions (c ∷ cs) came are =
     let next : Versions = after_kind c.0 versions c.1.kind in
-    let below : c.0.0 < versions.workers = omega (arith, came.workers, live_below live c.0 are.0.lives) in
+    let below : c.0.0 < versions.workers = omega (arith, came.workers, live_within live c.0 are.0.lives) in
     let stands = came.come.so_far.stands in
     let one : CameTo job live epoch to_come (given ++ single_for epoch c ∷ []) (commands ++ c ∷ []) next =
     record {
@@ -97,11 +98,6 @@ firsts_come job live epoch number to_come given commands versions (c ∷ cs) cam
 
 -- ---- the Resets
 
-read_replicate : {X : Type 0} (n k : ℕ) (x : X) → slice_index_or (replicate n x) k x ≡ x
-read_replicate zero k x = refl
-read_replicate (suc n) zero x = refl
-read_replicate (suc n) (suc k) x = read_replicate n k x
-
 -- a new map stands for nothing
 none_stand : (workers objects : ℕ) → MapStands [] (no_versions workers objects)
 none_stand workers objects = record {
@@ -111,8 +107,8 @@ none_stand workers objects = record {
       sym (ap (option_map (λ (version : ℕ). (object_of slot, version)))
       (cond_both (is_kept (no_versions workers objects) worker slot)
       (slice_index_or (replicate (objects * workers) None) (place_of (no_versions workers objects) worker slot) None) None
-      (λ (o : Option ℕ). o ≡ None) (λ is. read_replicate (objects * workers) (place_of (no_versions workers objects) worker slot) None) (λ is. refl)));
-  latest = λ object there. read_replicate objects object.0 0;
+      (λ (o : Option ℕ). o ≡ None) (λ is. replicate_or (objects * workers) (place_of (no_versions workers objects) worker slot) None) (λ is. refl)));
+  latest = λ object there. replicate_or objects object.0 0;
 }
 
 resets_come : (job : Job) (live : List Bool) (epoch : ℕ) (to_come : Key → Bool) (given : List Directed) → AreRight job live given

@@ -1,8 +1,8 @@
 -- What the parts of variables hold at first may be made, or put there.
 use Rattle.std.proofs.Common.{◌≡◌, ℕ, ◌+◌, ◌<◌, ◌≤◌, suc, zero, Bool, true, false, List, [], ◌∷◌, ◌++◌, length, get_or, map, replicate, refl, ap, sym, subst, ◌∙◌, arith, Option, Some, pos}
-use Rattle.std.specs.Prelude.{◌%◌, ◌==◌, slice_get, IsSomeAnd}
+use Rattle.std.specs.Prelude.{slice_get, IsSomeAnd}
 use Rattle.std.specs.List.{list_all, list_any, range_with_len}
-use Rattle.std.proofs.lemmas.Bool.{and_from, and_parts, eqb-true, lt-ltb}
+use Rattle.std.proofs.lemmas.Bool.{and_from, and_parts, lt-ltb}
 use Rattle.std.proofs.lemmas.List.{append-nil, length-append, length-replicate}
 use Rattle.std.proofs.lemmas.List.FromFn.{get_or-map-range_with_len, length-map-range_with_len}
 use Rattle.std.proofs.lemmas.List.Sums.{sum_by-cons}
@@ -18,14 +18,13 @@ use Rattle.nim_command.specs.Created.{created}
 use Rattle.nim_command.specs.Holds.{Content}
 use Rattle.nim_command.specs.Numbers.{main_slot}
 use Rattle.nim_command.specs.Slots.{object_of}
-use Rattle.nim_order.proofs.Items.{get_front}
 use Rattle.nim_job.specs.declared.job.Init.{Init}
 use Rattle.nim_job.specs.declared.job.Init.TheVariants.{Fill, Iota, Loaded}
 use Rattle.nim_job.specs.declared.job.Job.{Job}
 use Rattle.nim_job.specs.declared.job.Var.{Var}
 use Rattle.nim_job.specs.Objects.{first_cell, initial_parts, initial_values, objects_of, shapes_of}
 use Rattle.nim_job.specs.Versions.{version_value}
-use Rattle.nim_job.specs.Whole.{has_init, is_filled, is_loaded, is_object_within, is_whole}
+use Rattle.nim_job.specs.Whole.{is_filled, is_object_within, is_whole}
 use Rattle.nim_job.proofs.Whole.{vars_sizes, whole_inits, whole_vars}
 use Rattle.nim_plan.specs.Legal.{IsLegalKind, is_version}
 use Rattle.nim_place.specs.Extends.{is_live}
@@ -35,6 +34,9 @@ use Rattle.nim_place.specs.Versions.{Versions, puts_of, version_of}
 use Rattle.nim_course.specs.Controller.{Controller}
 use Rattle.nim_place.specs.TaskRuns.{position_run}
 use Rattle.nim_course.specs.OrdersGiven.{first_command, first_commands, first_kind}
+use Rattle.nim_base.proofs.Lists.{get_behind, get_front}
+use Rattle.nim_job.proofs.TaskLeaves.{length-parts}
+use Rattle.nim_place.proofs.Legal.{main_of}
 use Rattle.nim_course.proofs.Homes.{home_live}
 
 -- ---- what a part holds at first
@@ -45,19 +47,10 @@ first_value shape (Fill number) part = filled shape number
 first_value shape Iota part = iota_of shape (pos (first_cell shape part))
 first_value shape (Loaded values) part = get_or values part empty_grid
 
-length_parts : (v : Var) (init : Init) → has_init v.parts v.shape init ≡ true → length (initial_parts v init) ≡ v.parts
-length_parts v (Fill number) is = length-replicate v.parts (filled v.shape number)
-length_parts v Iota is = length-map-range_with_len (λ part. iota_of v.shape (pos (first_cell v.shape part))) 0 v.parts
-length_parts v (Loaded values) is = eqb-true (length values) v.parts (and_parts (length values == v.parts) (list_all (is_loaded v.shape) values) is).0
-
 get_replicate : {X : Type 0} (n : ℕ) (x : X) (ys : List X) (k : ℕ) → k < n → slice_get (replicate n x ++ ys) k ≡ Some x
 get_replicate zero x ys k below = absurd (omega (arith, below))
 get_replicate (suc n) x ys zero below = refl
 get_replicate (suc n) x ys (suc k) below = get_replicate n x ys k (omega (arith, below))
-
-get_behind : {X : Type 0} (xs ys : List X) (k : ℕ) → slice_get (xs ++ ys) (length xs + k) ≡ slice_get ys k
-get_behind [] ys k = let same : 0 + k ≡ k = omega arith in ap (slice_get ys) same
-get_behind (x ∷ xs) ys k = let next : length (x ∷ xs) + k ≡ suc (length xs + k) = omega arith in ap (slice_get (x ∷ (xs ++ ys))) next ∙ get_behind xs ys k
 
 part_value : (v : Var) (init : Init) (part : ℕ) → part < v.parts
     → get_or (initial_parts v init) part (first_value v.shape init part) ≡ first_value v.shape init part
@@ -78,15 +71,11 @@ part_value v (Loaded values) part below = either part values where
 part_found : (v : Var) (others : List Grid) (part : ℕ) → is_filled v ≡ true → part < v.parts
     → slice_get (initial_parts v v.init ++ others) part ≡ Some (first_value v.shape v.init part)
 part_found v others part is below =
-    let within : part < length (initial_parts v v.init) = omega (arith, below, length_parts v v.init is) in
+    let within : part < length (initial_parts v v.init) = omega (arith, below, length-parts v v.init is) in
     get_front (initial_parts v v.init) others part within
     ∙ slice_get-get_or (initial_parts v v.init) part (first_value v.shape v.init part) within ∙ ap (λ (g : Grid). Some g) (part_value v v.init part below)
 
 -- ---- one part
-
--- the main slot of an object is of it
-main_of : (object : Object) → object.0 < 512 → object_of (main_slot object) ≡ object
-main_of object below = let same : object.0 % 512 ≡ object.0 = omega (arith, below) in ap (λ (n : ℕ). record { 0 = n }) same
 
 -- a value of the object's shape may be made where it is the first one
 made_legal : (job : Job) (object : Object) (shape : Shape) (value : Grid) (made : Shape → Grid) → object.0 < 512
@@ -173,7 +162,7 @@ from_rest job first v vars is are = λ k below.
           ∙ ap (λ (n : ℕ). slice_get (replicate v.parts v.shape ++ shapes_of vars) (n + k)) (sym (length-replicate v.parts v.shape))
           ∙ get_behind (replicate v.parts v.shape) (shapes_of vars) k,
       ap (slice_get (initial_values job.vars)) later ∙ there.1
-          ∙ ap (λ (n : ℕ). slice_get (initial_parts v v.init ++ initial_values vars) (n + k)) (sym (length_parts v v.init is))
+          ∙ ap (λ (n : ℕ). slice_get (initial_parts v v.init ++ initial_values vars) (n + k)) (sym (length-parts v v.init is))
           ∙ get_behind (initial_parts v v.init) (initial_values vars) k,
     )
 

@@ -9,7 +9,7 @@ use Rattle.nim_job.specs.Machine.{Machine, answered}
 use Rattle.nim_job.specs.Objects.{objects_of}
 use Rattle.nim_job.specs.Tasks.{block_forms_of, block_tasks_of}
 use Rattle.nim_job.specs.Whole.{is_whole}
-use Rattle.nim_job.proofs.FewTasks.{few_tasks}
+use Rattle.nim_job.proofs.FewTasks.{block_few, few_tasks}
 use Rattle.nim_job.proofs.Whole.{tasks_there}
 use Rattle.nim_plan.specs.Paired.{Key}
 use Rattle.nim_place.specs.Extends.{HaveNone}
@@ -25,7 +25,7 @@ use Rattle.nim_course.specs.OrdersGiven.{after_instance, flight_of, instance_ord
 use Rattle.nim_course.specs.Summaries.{counted_on, single_counted}
 use Rattle.nim_course.proofs.Alone.{AreLed}
 use Rattle.nim_course.proofs.Asking.{AreNext, asks_count, goes_on, position_there, run_goes, run_next}
-use Rattle.nim_course.proofs.Blocks.{block_few, forms_few, forms_fit, steps_few}
+use Rattle.nim_course.proofs.Blocks.{forms_few, forms_fit, steps_few}
 use Rattle.nim_reuse.proofs.Stands.{decisions_stand}
 use Rattle.nim_course.proofs.Standing.{GoesOn, goes_leads}
 use Rattle.nim_course.proofs.Tasks.{AreReady, first_to_come, is_to_come, none_from, tasks_lead}

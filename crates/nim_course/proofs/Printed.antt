@@ -15,7 +15,7 @@ use Rattle.nim_message.specs.declared.report.FromWorker.TheVariants.{Value, Ran,
 use Rattle.nim_job.specs.declared.ask.Ask.{Ask}
 use Rattle.nim_job.specs.declared.item.Item.{Item}
 use Rattle.nim_job.specs.Driver.{Driver, output_limit}
-use Rattle.nim_job.specs.Machine.{Machine, after_ask, appended, ask_of, asked_now, before_ask, items_asked, quiet_steps}
+use Rattle.nim_job.specs.Machine.{Machine, appended, ask_of, asked_now, before_ask, items_asked, quiet_steps}
 use Rattle.nim_job.specs.Quiet.{is_quiet, quiet_step}
 use Rattle.nim_job.specs.Step.{part_texts}
 use Rattle.nim_place.specs.Extends.{is_live}
@@ -30,6 +30,7 @@ use Rattle.nim_course.specs.Moves.{AreFree, IsTurned, after_moves, asked, does_w
 use Rattle.nim_course.specs.OrdersGiven.{fetched_of}
 use Rattle.nim_course.specs.Printed.{Happened, IsAmong, IsOfValues, LeadsTo, PrintedPart, PrintsWhatIsTold, Reported, Turned, part_text, value_of, values_by}
 use Rattle.nim_course.specs.Reports.{after_report, flight_after, flight_through, is_asked, reported, value_reported, told_at}
+use Rattle.nim_course.proofs.Asking.{asking_prints_nothing}
 use Rattle.nim_course.proofs.Standing.{held_parts}
 
 -- ---- values among others
@@ -108,25 +109,22 @@ asked_prints m =
     cond_both m.full m (items_asked m m.driver.todo) (λ (n : Machine). n.driver.output ≡ m.driver.output) (λ full. refl)
     (λ open_still. items_print m m.driver.todo)
 
-ask_prints : (m : Machine) → (after_ask m).driver.output ≡ m.driver.output
-ask_prints m = asked_prints (before_ask m) ∙ before_prints m
-
 same_text : (values : List Grid) (text other : List ℕ) → other ≡ text → IsOfValues values text → IsOfValues values other
 same_text values text other same is = subst (IsOfValues values) (sym same) is
 
 asked_tells : (values : List Grid) (c : Controller) (ask : Ask) → Tells values c → Tells values (asked c ask)
 asked_tells values c (Ask.Run block args) tells =
-    record { printed = same_text values _ _ (ask_prints c.machine) tells.printed; fetched = tells.fetched }
+    record { printed = same_text values _ _ (asking_prints_nothing c.machine) tells.printed; fetched = tells.fetched }
 asked_tells values c (Ask.Get object row cell) tells =
-    record { printed = same_text values _ _ (ask_prints c.machine) tells.printed; fetched = none_told values c.versions (object ∷ []) }
+    record { printed = same_text values _ _ (asking_prints_nothing c.machine) tells.printed; fetched = none_told values c.versions (object ∷ []) }
 asked_tells values c Ask.Checkpoint tells =
-    record { printed = same_text values _ _ (ask_prints c.machine) tells.printed; fetched = tells.fetched }
+    record { printed = same_text values _ _ (asking_prints_nothing c.machine) tells.printed; fetched = tells.fetched }
 asked_tells values c (Ask.Output var) tells =
-    record { printed = same_text values _ _ (ask_prints c.machine) tells.printed; fetched = none_told values c.versions (objects_in c var) }
+    record { printed = same_text values _ _ (asking_prints_nothing c.machine) tells.printed; fetched = none_told values c.versions (objects_in c var) }
 asked_tells values c Ask.Finished tells =
-    record { printed = same_text values _ _ (ask_prints c.machine) tells.printed; fetched = tells.fetched }
+    record { printed = same_text values _ _ (asking_prints_nothing c.machine) tells.printed; fetched = tells.fetched }
 asked_tells values c Ask.Limit tells =
-    record { printed = same_text values _ _ (ask_prints c.machine) tells.printed; fetched = tells.fetched }
+    record { printed = same_text values _ _ (asking_prints_nothing c.machine) tells.printed; fetched = tells.fetched }
 
 -- ---- what is printed
 

@@ -45,9 +45,9 @@ use Rattle.nim_reuse.specs.Reuse.{decisions_at, is_new, orders_at, orders_by, pa
 use Rattle.nim_course.specs.Summaries.{is_run, runs_among, tasks_for}
 use Rattle.nim_patch.proofs.OneWorker.{patch_out}
 use Rattle.nim_place.proofs.Directed.{to_append}
+use Rattle.nim_place.proofs.LiveOnce.{live_within}
 use Rattle.nim_template.proofs.Entries.{own_commands}
 use Rattle.nim_template.proofs.OneWorker.{counts, in_for, out_for}
-use Rattle.nim_course.proofs.Homes.{live_below}
 use Rattle.nim_course.proofs.PutTasks.{ComeToTasks, runs_more, to_own}
 
 -- ---- the commands
@@ -327,4 +327,4 @@ again_adds place live objects forms at args given versions decisions worker task
     subst (λ (os : List ToWorker). ComeToTasks at.epoch os (tasks + sum_by (tasks_for after worker) (orders_to worker.0 orders)))
     (sym (to_append worker.0 given orders))
     (again_for after worker (length live) at args (is_new decided) (patched_at place live at versions decisions) versions template (orders_to worker.0 given)
-    tasks (live_below live worker there) ready.1 (ap (λ (d : Decided). tasks_decided d worker.0) kept))
+    tasks (live_within live worker there) ready.1 (ap (λ (d : Decided). tasks_decided d worker.0) kept))

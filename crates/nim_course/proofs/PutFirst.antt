@@ -36,7 +36,8 @@ use Rattle.nim_course.specs.Moves.{objects_in, orders_asked}
 use Rattle.nim_course.specs.OrdersGiven.{fetch_at, fetch_commands, instance_orders, single_for, task_commands}
 use Rattle.nim_course.specs.PutLists.{HasNoFirst, is_first}
 use Rattle.nim_course.specs.Summaries.{counted_on}
-use Rattle.nim_course.proofs.PutTasks.{IsSingleOf, all_behind, directed_all}
+use Rattle.nim_base.proofs.Lists.{each_append}
+use Rattle.nim_course.proofs.PutTasks.{IsSingleOf, directed_all}
 
 -- ---- Singles without such a command
 
@@ -111,7 +112,7 @@ task_none versions task number position place live =
     let owner : Worker = owner_of place task versions.objects live in
     let moved = moves versions owner [] task.reads in
     let run : Worker × Command = (owner, run_of task number position moved) in
-    all_behind (λ (c : Worker × Command). is_first c.1.kind ≡ false) (copies_of versions number owner moved) (run ∷ [])
+    each_append (λ (c : Worker × Command). is_first c.1.kind ≡ false) (copies_of versions number owner moved) (run ∷ [])
     (copies_none versions number owner [] task.reads) (refl, tt)
 
 -- a worker's commands
@@ -135,7 +136,7 @@ instance_plain c number versions [] = tt
 instance_plain c number versions (task ∷ tasks) =
     let commands : List (Worker × Command) = task_commands c number versions task in
     let none : NoneFirst commands = task_none versions task number _ c.place c.live in
-    all_behind (λ (d : Directed). IsPlainOf c.epoch d.1) (directed (length c.live) (singles_of c.epoch c.instance commands))
+    each_append (λ (d : Directed). IsPlainOf c.epoch d.1) (directed (length c.live) (singles_of c.epoch c.instance commands))
     (instance_orders c (number + 1) (after_commands versions commands) tasks)
     (directed_all (IsPlainOf c.epoch) (length c.live) (singles_of c.epoch c.instance commands)
     (λ number. single_plain c.epoch c.instance (commands_for (worker_of number) commands) (for_none (worker_of number) commands none)))
@@ -230,10 +231,10 @@ again_none workers at args new patched versions template =
     let c : List Directed = directed workers (patch_runs patched at.epoch at.instance copies versions) in
     let d : List Directed = directed workers (instances_of at.epoch at.instance template at.base args after) in
     All-from_recursion P (orders_by workers at args new patched versions template)
-    (all_behind P (a ++ (b ++ c)) d
-    (all_behind P a (b ++ c)
+    (each_append P (a ++ (b ++ c)) d
+    (each_append P a (b ++ c)
     (directed_all HasNoFirst workers (template_installs new at.epoch template) (installs_first new at.epoch template))
-    (all_behind P b c (directed_all HasNoFirst workers (patch_installs patched at.epoch copies) (patch_first patched at.epoch copies))
+    (each_append P b c (directed_all HasNoFirst workers (patch_installs patched at.epoch copies) (patch_first patched at.epoch copies))
     (directed_all HasNoFirst workers (patch_runs patched at.epoch at.instance copies versions)
     (run_first patched at.epoch at.instance copies versions))))
     (directed_all HasNoFirst workers (instances_of at.epoch at.instance template at.base args after)

@@ -28,8 +28,8 @@ use Rattle.nim_course.specs.Moves.{asked, after_pending, orders_of, orders_asked
 use Rattle.nim_course.specs.OrdersGiven.{epoch_orders, first_commands, single_for}
 use Rattle.nim_course.specs.PutLists.{ArePut, HasNoFirst, IsMove, is_begin, last_block, line_for, nths_given, orders_by_moves, uses_by}
 use Rattle.nim_course.specs.Summaries.{tasks_for}
-use Rattle.nim_course.proofs.Homes.{live_below}
 use Rattle.nim_place.proofs.Directed.{to_append}
+use Rattle.nim_place.proofs.LiveOnce.{live_within}
 use Rattle.nim_course.proofs.PutCounts.{control_after, control_counted, line_counts, line_of, lines_each, lines_many, orders_keep}
 use Rattle.nim_course.proofs.PutDecisions.{IsQuiet, RestOn, quiet_begin, quiet_cell, quiet_ended, quiet_idle, quiet_parts, quiet_rests}
 use Rattle.nim_course.proofs.PutFirst.{ArePlainOf, alone_singles, asked_plain, plain_none, plain_singles}
@@ -154,7 +154,7 @@ start_tasks c decisions = λ worker there.
     let firsts : List Directed = map (single_for c.epoch) (first_commands c 0 c.job.vars) in
     let reset : ToWorker = Reset c.epoch (worker_of worker.0) (length c.live) (shapes_of c.job.vars) in
     let own : orders_to worker.0 resets ≡ reset ∷ [] =
-    to_own (length c.live) lists worker.0 (live_below c.live worker there) ∙ ap (λ (b : Bool). if b then reset ∷ [] else []) there in
+    to_own (length c.live) lists worker.0 (live_within c.live worker there) ∙ ap (λ (b : Bool). if b then reset ∷ [] else []) there in
     let begun : ComeToTasks c.epoch (orders_to worker.0 resets) 0 =
     subst (λ (os : List ToWorker). ComeToTasks c.epoch os 0) (sym own) (record { begun = refl; epoch = refl; runs = refl }) in
     let all = more_singles decisions worker c.epoch resets firsts 0 begun (alone_singles c.epoch (first_commands c 0 c.job.vars)) in

@@ -16,6 +16,7 @@ use Rattle.nim_place.specs.Directed.{Directed, directed, for_worker, orders_to}
 use Rattle.nim_place.specs.Extends.{worker_of}
 use Rattle.nim_reuse.specs.Decisions.{Decisions}
 use Rattle.nim_course.specs.Summaries.{is_run, runs_among, tasks_for}
+use Rattle.nim_base.proofs.Lists.{each_append}
 use Rattle.nim_place.proofs.Directed.{to_append, to_directed}
 use Rattle.nim_place.proofs.Singles.{single_counts}
 
@@ -90,11 +91,6 @@ to_all P number (d ∷ ds) all = either (d.0.0 == number) all.0 (to_all P number
   either true own rest = (own, rest)
   either false own rest = rest
 
--- behind others
-pub all_behind : {X : Type 0} (P : X → Type 0) (xs ys : List X) → AllByRecursion P xs → AllByRecursion P ys → AllByRecursion P (xs ++ ys)
-all_behind P [] ys first last = last
-all_behind P (x ∷ xs) ys first last = (first.0, all_behind P xs ys first.1 last)
-
 -- what is true of each worker's list is true of all orders
 each_for : (P : ToWorker → Type 0) (worker : Worker) (orders : List ToWorker) → AllByRecursion P orders
     → AllByRecursion (λ (d : Directed). P d.1) (map (λ (order : ToWorker). (worker, order)) orders)
@@ -106,7 +102,7 @@ each_among : (P : ToWorker → Type 0) (lists : ℕ → List ToWorker) (first co
     → AllByRecursion (λ (d : Directed). P d.1) (flat_map (for_worker lists) (range_with_len first count))
 each_among P lists first zero all = tt
 each_among P lists first (suc count) all =
-    all_behind (λ (d : Directed). P d.1) (for_worker lists first) (flat_map (for_worker lists) (range_with_len (first + 1) count))
+    each_append (λ (d : Directed). P d.1) (for_worker lists first) (flat_map (for_worker lists) (range_with_len (first + 1) count))
     (each_for P (worker_of first) (lists first) (all first)) (each_among P lists (first + 1) count all)
 
 -- and so for all
@@ -115,7 +111,7 @@ pub directed_all : (P : ToWorker → Type 0) (workers : ℕ) (lists : ℕ → Li
 directed_all P workers lists all = each_among P lists 0 workers all
 
 -- lists of so many workers, and of no more
-abbrev cut : ℕ → (ℕ → List ToWorker) → ℕ → List ToWorker
+abbrev pub cut : ℕ → (ℕ → List ToWorker) → ℕ → List ToWorker
 cut workers lists = λ number. if nat_lt number workers then lists number else []
 
 -- those of the workers stay

@@ -21,8 +21,8 @@ use Rattle.nim_course.specs.Leads.{HasAsked, Leads, IsDriverAt}
 use Rattle.nim_course.specs.Moves.{AreFree, IsTurned, after_moves, does_wait, after_pending, is_held_up, moved, orders_of_moves, orders_of, orders_of_block, orders_with, with_block}
 use Rattle.nim_course.specs.PutLists.{ArePut, ControllersPut, line_for}
 use Rattle.nim_course.specs.Reports.{after_report, flight_after, flight_through, reported, value_reported}
+use Rattle.nim_place.proofs.LiveOnce.{live_within}
 use Rattle.nim_course.proofs.Asking.{run_allowed}
-use Rattle.nim_course.proofs.Homes.{live_below}
 use Rattle.nim_course.proofs.Standing.{held_parts}
 use Rattle.nim_course.proofs.Turns.{moves_lead}
 use Rattle.nim_course.proofs.PutBlocks.{again_step, first_step}
@@ -158,7 +158,7 @@ start_put job setup = record {
     control = refl;
     workers = length-replicate setup.workers _ ∙ sym (length-replicate setup.workers true);
     lines = λ worker there.
-        (let below = live_below (replicate setup.workers true) worker there in
+        (let below = live_within (replicate setup.workers true) worker there in
         get_replicate setup.workers worker.0 (line_for [] worker) (omega (arith, below, length-replicate setup.workers true)));
   };
   first = λ is. refl;

@@ -1,7 +1,6 @@
 -- The move that asks for an instance of a block that was recorded.
 use Rattle.std.proofs.Common.{◌≡◌, ℕ, ◌+◌, ◌<◌, zero, suc, true, false, ℤ, List, [], ◌∷◌, ◌++◌, drop, length, map, take, refl, ap, ap₂, sym, subst, ◌∙◌, arith, None, Some}
 use Rattle.std.specs.Prelude.{◌==◌, ◌&&◌, nat_le, slice_get}
-use Rattle.std.proofs.Math.Path.{fun_ext}
 use Rattle.std.proofs.lemmas.Bool.Decides.{nat_tests}
 use Rattle.std.proofs.lemmas.List.{length-map}
 use Rattle.std.proofs.lemmas.List.Elements.{All-append}
@@ -22,7 +21,6 @@ use Rattle.nim_place.specs.Extends.{HaveNone, longer}
 use Rattle.nim_place.specs.TaskOrders.{IsAt}
 use Rattle.nim_place.specs.TaskRuns.{RunsAtHome}
 use Rattle.nim_place.specs.Versions.{Versions}
-use Rattle.nim_place.proofs.Directed.{to_append}
 use Rattle.nim_template.specs.Again.{IsBefore}
 use Rattle.nim_template.specs.Given.{AreTasksAt}
 use Rattle.nim_reuse.specs.declared.instance.InstanceAt.{InstanceAt}
@@ -40,6 +38,7 @@ use Rattle.nim_course.proofs.Alone.{AreLed, none_weaker, right_more}
 use Rattle.nim_course.proofs.Asking.{AreNext, position_there}
 use Rattle.nim_course.proofs.Blocks.{steps_few}
 use Rattle.nim_reuse.proofs.GoesOn.{instances_go_on}
+use Rattle.nim_reuse.proofs.Lists.{number_append}
 use Rattle.nim_course.proofs.Instances.{behind_leads, few_begun, numbers_counted, tasks_ready}
 use Rattle.nim_course.proofs.Runs.{once_more}
 use Rattle.nim_course.proofs.Standing.{GoesOn}
@@ -85,10 +84,6 @@ not_further e i f j none = grind (arith, nat_tests)
 
 -- ---- the orders
 
--- the orders so far and some more
-more_orders : (given orders : List Directed) → by_number (given ++ orders) ≡ longer (by_number given) (by_number orders)
-more_orders given orders = fun_ext (λ number. to_append number given orders)
-
 -- the recorded block may be reused
 may_go : (c : Controller) (given : List Directed) (block : ℕ) (args : List ℤ) → GoesOn c given
     → (leading : AreLeading c.job c.place c.live c.epoch c.position (is_key_from c.epoch c.instance) given c.versions c.decisions)
@@ -132,7 +127,7 @@ reused_led c given block args behind instance on ready leading gone is counts =
       tasks = tasks_at c.job c.position args forms (template_at c.place c.live at c.versions c.decisions).forms gone.has_forms
           (subst (λ (p : ℕ). AreNext c.job p (block_tasks_of c.job block args)) here ready.next);
     } in
-    let same : by_number (given ++ orders) ≡ longer (by_number given) (by_number orders) = more_orders given orders in
+    let same : by_number (given ++ orders) ≡ longer (by_number given) (by_number orders) = number_append given orders in
     record {
       right = right_more c.job c.live given (given ++ orders) (by_number orders) on.right same (gone.legal c.job leading.at tasks) gone.covered
           (gone.paired.paired on.right.paired

@@ -4,27 +4,15 @@ use Rattle.std.specs.Prelude.{◌==◌, ◌&&◌, ◌||◌, if◌then◌else◌,
 use Rattle.std.specs.List.{AllByRecursion, list_any}
 use Rattle.std.proofs.lemmas.Bool.Decides.{nat_tests}
 use Rattle.std.proofs.lemmas.List.Elements.{All-append, All-from_recursion}
-use Rattle.std.proofs.lemmas.List.Sums.{sum_by-append, sum_by-cons}
+use Rattle.std.proofs.lemmas.List.Sums.{sum_by-cons}
 use Rattle.nim_base.specs.declared.number.Worker.{Worker}
 use Rattle.nim_command.specs.declared.command.Command.{Command}
-use Rattle.nim_command.specs.declared.command.Kind.{Kind}
-use Rattle.nim_command.specs.declared.command.Kind.TheVariants.{Create, Load, Send, Receive, Copy, Run, Fetch}
 use Rattle.nim_job.specs.declared.job.Job.{Job}
 use Rattle.nim_place.specs.declared.placement.Placement.{Placement}
 use Rattle.nim_place.specs.TaskRuns.{AreRunOnce, RunsAtHome, position_run, times_run}
+use Rattle.nim_reuse.proofs.NoRuns.{none_home, times_append}
 
 -- ---- commands that run nothing
-
--- a command that runs nothing stands anywhere
-quiet_home : (job : Job) (place : Placement) (live : List Bool) (worker : Worker) (kind : Kind) → position_run kind ≡ []
-    → RunsAtHome job place live worker kind
-quiet_home job place live worker (Run position func params reads writes) none = absurd cc
-quiet_home job place live worker (Create slot iota number) none = tt
-quiet_home job place live worker (Load slot version value) none = tt
-quiet_home job place live worker (Send slot peer entry) none = tt
-quiet_home job place live worker (Receive slot version) none = tt
-quiet_home job place live worker (Copy from to) none = tt
-quiet_home job place live worker (Fetch slot ticket) none = tt
 
 -- commands that run nothing
 abbrev pub AreQuiet : List (Worker × Command) → Type 0
@@ -33,7 +21,7 @@ AreQuiet commands = AllByRecursion (λ (c : Worker × Command). position_run c.1
 quiet_each : (job : Job) (place : Placement) (live : List Bool) (commands : List (Worker × Command)) → AreQuiet commands
     → AllByRecursion (λ (one : Worker × Command). RunsAtHome job place live one.0 one.1.kind) commands
 quiet_each job place live [] quiet = tt
-quiet_each job place live (c ∷ cs) quiet = (quiet_home job place live c.0 c.1.kind quiet.0, quiet_each job place live cs quiet.1)
+quiet_each job place live (c ∷ cs) quiet = (none_home job place live c.0 c.1.kind quiet.0, quiet_each job place live cs quiet.1)
 
 pub quiet_homes : (job : Job) (place : Placement) (live : List Bool) (commands : List (Worker × Command)) → AreQuiet commands
     → All (λ (one : Worker × Command). RunsAtHome job place live one.0 one.1.kind) commands
@@ -51,9 +39,6 @@ homes_more job place live commands more homes quiet =
 -- whether a command runs it, as a number
 abbrev weight : ℕ → Worker × Command → ℕ
 weight position c = cond (list_any (λ (p : ℕ). p == position) (position_run c.1.kind)) 1 0
-
-times_append : (position : ℕ) (xs ys : List (Worker × Command)) → times_run position (xs ++ ys) ≡ times_run position xs + times_run position ys
-times_append position xs ys = sum_by-append (weight position) xs ys
 
 quiet_times : (position : ℕ) (commands : List (Worker × Command)) → AreQuiet commands → times_run position commands ≡ 0
 quiet_times position [] quiet = refl

@@ -11,6 +11,7 @@ use Rattle.nim_course.specs.declared.pending.Pending.{Pending}
 use Rattle.nim_course.specs.Controller.{Controller}
 use Rattle.nim_place.specs.Directed.{Directed}
 use Rattle.nim_course.specs.Leads.{AreLeadingFor, AreRight, EndsBy, IsFetchedAt, Leads, IsDriverAt, instances_begun, does_fetch}
+use Rattle.nim_base.proofs.Lists.{some_none}
 
 -- a controller that goes on leads its job
 pub record GoesOn (c : Controller) (given : List Directed) : Type 0 where
@@ -24,9 +25,6 @@ pub record GoesOn (c : Controller) (given : List Directed) : Type 0 where
   pub leading : AreLeadingFor c.job c given c.pending
   pub instances : instances_begun c c.pending ≤ c.machine.driver.count
   pub all_run : c.pending ≡ Pending.Ended → c.position ≡ length (tasks_of c.job)
-
-some_apart : {X : Type 0} (x : X) → Some x ≡ None → ⊥
-some_apart x is = absurd cc
 
 none_ends : (P : Outcome → Type 0) (o : Option Outcome) → o ≡ None → IfSome o P
 none_ends P o none = subst (λ (p : Option Outcome). IfSome p P) (sym none) tt
@@ -45,7 +43,7 @@ goes_leads c given none on = record {
   leading = on.leading;
   instances = on.instances;
   all_run = on.all_run;
-  done = λ is. absurd (some_apart Outcome.Done (sym is ∙ none));
+  done = λ is. absurd (some_none Outcome.Done (sym is ∙ none));
 }
 
 pub leads_goes : (c : Controller) (given : List Directed) → c.outcome ≡ None → Leads c.job c given → GoesOn c given
@@ -83,7 +81,7 @@ pub record IsOver (c : Controller) (given : List Directed) (outcome : Outcome) :
 
 pub over_leads : (c : Controller) (given : List Directed) (outcome : Outcome) → IsOver c given outcome → Leads c.job c given
 over_leads c given outcome over =
-    let going : c.outcome ≡ None → ⊥ = λ still. some_apart outcome (sym over.ended ∙ still) in
+    let going : c.outcome ≡ None → ⊥ = λ still. some_none outcome (sym over.ended ∙ still) in
     record {
       whole = over.whole;
       is_job = refl;

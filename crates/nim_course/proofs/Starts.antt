@@ -1,6 +1,6 @@
 -- A controller that was just made leads its job.
-use Rattle.std.proofs.Common.{◌≡◌, ℕ, ◌≤◌, suc, zero, Bool, true, List, [], ◌∷◌, map, replicate, refl, ap, sym, subst, arith}
-use Rattle.std.specs.List.{AllByRecursion, flat_map, list_any}
+use Rattle.std.proofs.Common.{◌≡◌, ℕ, ◌≤◌, Bool, true, List, [], ◌∷◌, map, replicate, refl, ap, sym, subst, arith}
+use Rattle.std.specs.List.{flat_map}
 use Rattle.std.proofs.lemmas.List.{length-replicate}
 use Rattle.std.proofs.lemmas.List.Elements.{All-from_recursion, All-map, All-nil}
 use Rattle.nim_base.specs.declared.number.Worker.{Worker}
@@ -16,6 +16,7 @@ use Rattle.nim_place.specs.Versions.{no_versions}
 use Rattle.nim_course.specs.declared.setup.Setup.{Setup}
 use Rattle.nim_course.specs.Controller.{new_controller}
 use Rattle.nim_course.specs.Leads.{AreRight, IsFetchedAt, Leads}
+use Rattle.nim_base.proofs.Lists.{each_all, some_set}
 use Rattle.nim_course.proofs.Asking.{begins_open}
 use Rattle.nim_course.proofs.Standing.{goes_leads}
 
@@ -24,10 +25,6 @@ use Rattle.nim_course.proofs.Standing.{goes_leads}
 nothing_legal : (job : Job) → IsLegal job []
 unfolding IsLegal
 nothing_legal job = tt
-
-all_each : {X : Type 0} (P : X → Type 0) → ((x : X) → P x) → (xs : List X) → AllByRecursion P xs
-all_each P each [] = tt
-all_each P each (x ∷ xs) = (each x, all_each P each xs)
 
 -- nobody sends anything
 nothing_sent : (to : Worker) (workers : List Worker)
@@ -41,7 +38,7 @@ nothing_paired live =
     let all : List Given = live_lists live (λ (number : ℕ). []) in
     All-map (IsPairedAt all) none (live_workers live)
     (All-from_recursion (λ (worker : Worker). IsPairedAt all (none worker)) (live_workers live)
-    (all_each (λ (worker : Worker). IsPairedAt all (none worker)) (λ worker. record {
+    (each_all (λ (worker : Worker). IsPairedAt all (none worker)) (λ worker. record {
       sent = subst (λ (keys : List Key). EachOnce keys []) (sym (nothing_sent worker (live_workers live))) (All-nil _);
       received = All-nil _;
     }) (live_workers live)))
@@ -56,10 +53,6 @@ nothing_right job live = record {
 
 -- ---- the start
 
-some_live : (workers : ℕ) → 1 ≤ workers → list_any (λ (flag : Bool). flag) (replicate workers true) ≡ true
-some_live zero least = absurd (omega (arith, least))
-some_live (suc workers) least = refl
-
 new_leads : (job : Job) (setup : Setup) → is_whole job ≡ true → 1 ≤ setup.workers → setup.workers ≤ 16
     → Leads job (new_controller job setup) []
 new_leads job setup whole least most =
@@ -68,7 +61,7 @@ new_leads job setup whole least most =
       driver = begins_open job (start_machine job) 0 refl refl;
       fetched = All-nil (IsFetchedAt job 0);
       unfetched = λ fetches. refl;
-      some = some_live setup.workers least;
+      some = some_set setup.workers least;
       few = omega (arith, most, length-replicate setup.workers true);
       right = nothing_right job (replicate setup.workers true);
       leading = record {

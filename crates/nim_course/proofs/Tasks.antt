@@ -41,9 +41,10 @@ use Rattle.nim_course.specs.OrdersGiven.{after_instance, instance_orders}
 use Rattle.nim_course.proofs.Alone.{AreLed, decided_more, none_weaker, right_more}
 use Rattle.nim_course.proofs.Asking.{AreNext}
 use Rattle.nim_course.proofs.Counts.{counts_of, reads_few, task_counts, writes_some}
-use Rattle.nim_course.proofs.Homes.{live_below, owner_live}
+use Rattle.nim_course.proofs.Homes.{owner_live}
 use Rattle.nim_course.proofs.Runs.{AreQuiet, once_before, once_more, quiet_homes, run_once}
 use Rattle.nim_place.proofs.Directed.{more_directed}
+use Rattle.nim_place.proofs.LiveOnce.{live_within}
 
 -- ---- keys that are still to come
 
@@ -120,7 +121,7 @@ task_leads job place live epoch instance number position given versions decision
     let owner : Worker = owner_of place task versions.objects live in
     let owns : is_live live owner ≡ true =
     owner_live place task versions.objects live some (omega (arith, counts.1, writes_some task.func)) in
-    let below : owner.0 < versions.workers = omega (arith, live_below live owner owns, leading.before.rows) in
+    let below : owner.0 < versions.workers = omega (arith, live_within live owner owns, leading.before.rows) in
     let moved = moves versions owner [] task.reads in
     let copies : List (Worker × Command) = copies_of versions number owner moved in
     let run : Worker × Command = (owner, run_of task number position moved) in

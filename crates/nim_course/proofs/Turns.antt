@@ -1,5 +1,5 @@
 -- A controller leads its job after a move, and so after a turn.
-use Rattle.std.proofs.Common.{◌≡◌, ℕ, zero, suc, Bool, true, false, ℤ, List, [], ◌++◌, refl, sym, subst, None}
+use Rattle.std.proofs.Common.{◌≡◌, ℕ, zero, suc, Bool, true, false, ℤ, List, ◌++◌, refl, sym, subst, None}
 use Rattle.std.proofs.lemmas.List.{append-nil, append_assoc}
 use Rattle.nim_job.specs.declared.job.Job.{Job}
 use Rattle.nim_reuse.specs.Decisions.{is_recorded}
@@ -10,7 +10,7 @@ use Rattle.nim_place.specs.Directed.{Directed}
 use Rattle.nim_course.specs.Leads.{Leads}
 use Rattle.nim_course.specs.Moves.{AreFree, IsTurned, after_moves, does_wait, after_pending, is_held_up, moved, orders_of_moves, orders_of, orders_of_block, orders_with, with_block}
 use Rattle.nim_course.specs.Summaries.{orders_counted}
-use Rattle.nim_course.proofs.Asked.{asked_leads}
+use Rattle.nim_course.proofs.Asked.{asked_leads, plain}
 use Rattle.nim_course.proofs.Begun.{begun_leads}
 use Rattle.nim_course.proofs.Instances.{instance_leads}
 use Rattle.nim_course.proofs.Kept.{counted_leads, due_leads}
@@ -19,9 +19,6 @@ use Rattle.nim_course.proofs.Standing.{GoesOn, held_parts, leads_goes}
 use Rattle.nim_course.proofs.Values.{cell_leads, ended_leads, parts_lead}
 
 -- ---- one move
-
-plain : (c next : Controller) (given : List Directed) → Leads c.job next given → Leads c.job next (given ++ [])
-plain c next given leads = subst (Leads c.job next) (sym (append-nil given)) leads
 
 -- an instance of a block is given, as a whole where the block was recorded
 block_leads : (c : Controller) (given : List Directed) (block : ℕ) (args : List ℤ) → c.outcome ≡ None → c.pending ≡ Block block args → GoesOn c given

@@ -15,6 +15,7 @@ use Rattle.nim_command.specs.Ruled.{entries_by_rule, entry_footprint}
 use Rattle.nim_place.proofs.Places.{both_true}
 use Rattle.nim_template.specs.Ascends.{does_ascend}
 use Rattle.nim_edit.specs.Cells.{kind_at}
+use Rattle.nim_base.proofs.Lists.{some_none, some_same}
 
 -- ---- numbers that ascend
 
@@ -78,12 +79,6 @@ ruled_ascend low past [] are = tt
 ruled_ascend low past (entry ∷ entries) are = (are.0, ruled_ascend (entry.id + 1) (past ++ entry_footprint entry ∷ []) entries are.1)
 
 -- ---- equal halves
-
-some_none : {X : Type 0} (x : X) → Some x ≡ None → ⊥
-some_none {X} x same = false≢true (sym (ap (λ (o : Option X). is_some o) same))
-
-some_same : {X : Type 0} (x y : X) → Some x ≡ Some y → x ≡ y
-some_same {X} x y same = ap (λ (o : Option X). elim o [ None ↦ x | Some z ↦ z ]) same
 
 pub same_bare : (low : ℕ) (xs ys : List Entry) → Ascend low xs → Ascend low ys → ((number : ℕ) → kind_at xs number ≡ kind_at ys number)
     → map bare xs ≡ map bare ys

@@ -22,7 +22,7 @@ use Rattle.nim_plan.specs.Legal.{is_version}
 use Rattle.nim_place.specs.Sound.{AreFound, Frame, Plane, sent_to, step_of, plane_left, with_slots}
 use Rattle.nim_place.proofs.History.{one_left}
 use Rattle.nim_place.proofs.Legal.{main_of}
-use Rattle.nim_template.proofs.Planes.{AreSent, Below, below_append, below_more, first_sent, skip_all}
+use Rattle.nim_template.proofs.Planes.{AreSent, Below, below_append, below_more, first_sent, plane_of, skip_all}
 use Rattle.nim_edit.proofs.InOrder.{placed_command}
 use Rattle.nim_edit.proofs.LateEntries.{at_worker}
 use Rattle.nim_edit.proofs.Leaves.{same_version}
@@ -31,10 +31,6 @@ use Rattle.nim_edit.proofs.Puts.{FirstRead, Indexed}
 use Rattle.nim_edit.proofs.SamePlanes.{at_slots, same_worker_slots}
 
 -- ---- slots and frames
-
--- these slots, and these frames
-abbrev pub plane_with : (Worker → Slot → Content) → List Frame → Plane
-plane_with slots frames = record { slots = slots; frames = frames }
 
 -- the scratch slot of an object is of it
 pub scratch_of : (object : Object) → object.0 < 512 → object_of (scratch_slot object) ≡ object
@@ -72,10 +68,10 @@ sent_frames version task owner (f ∷ fs) =
 pub sends_on : (job : Job) (before : Object → ℕ) (base : ℕ) (args : List ℤ) (version : Object → ℕ) (task : ℕ) (home owner : Worker)
     (slots : Worker → Slot → Content) (frames : List Frame) (fs : List FirstRead)
     → AllByRecursion (λ (f : FirstRead). slots home (main_slot f.object) ≡ version_content version f.object) fs
-    → AreSent job (plane_with slots frames)
+    → AreSent job (plane_of slots frames)
     (map (placed_command before base args) (at_worker home (map (forward_send task owner) (filter (λ (r : FirstRead). not r.there) fs))))
     (sent_frames version task owner fs)
-sends_on job before base args version task home owner slots frames [] held = record { found = tt; after = ap (plane_with slots) (sym (append-nil frames)) }
+sends_on job before base args version task home owner slots frames [] held = record { found = tt; after = ap (plane_of slots) (sym (append-nil frames)) }
 sends_on job before base args version task home owner slots frames (f ∷ fs) held =
     shown f.there (λ past. sends_on job before base args version task home owner slots past fs held.1) where
       placed : List FirstRead → List (Worker × Command)
@@ -93,15 +89,15 @@ sends_on job before base args version task home owner slots frames (f ∷ fs) he
       next : List Frame
       next = frames ++ frame (slots home (main_slot f.object)) ∷ []
 
-      shown : (b : Bool) → ((past : List Frame) → AreSent job (plane_with slots past) (placed lacking) more)
-          → AreSent job (plane_with slots frames) (placed (if not b then f ∷ lacking else lacking))
+      shown : (b : Bool) → ((past : List Frame) → AreSent job (plane_of slots past) (placed lacking) more)
+          → AreSent job (plane_of slots frames) (placed (if not b then f ∷ lacking else lacking))
           (if b then more else frame (version_content version f.object) ∷ more)
       shown true rest = rest frames
       shown false rest = record {
         found = (none_is (f.object, version f.object) (slots home (main_slot f.object)) held.0, (rest next).found);
         after =
             (rest next).after
-            ∙ ap (plane_with slots)
+            ∙ ap (plane_of slots)
             (append_assoc frames (frame (slots home (main_slot f.object)) ∷ []) more
             ∙ ap (λ (c : Content). frames ++ frame c ∷ more) held.0);
       }
@@ -275,21 +271,21 @@ back_frames task home version index (object ∷ objects) =
 pub sends_back : (job : Job) (before : Object → ℕ) (base : ℕ) (args : List ℤ) (task : ℕ) (home owner : Worker) (version : ℕ)
     (slots : Worker → Slot → Content) (frames : List Frame) (index : ℕ) (objects : List Object)
     → AllByRecursion (λ (o : Object). slots owner (scratch_slot o) ≡ Some (o, version)) objects
-    → AreSent job (plane_with slots frames) (map (placed_command before base args) (at_worker owner (return_sends task home index objects)))
+    → AreSent job (plane_of slots frames) (map (placed_command before base args) (at_worker owner (return_sends task home index objects)))
     (back_frames task home version index objects)
 sends_back job before base args task home owner version slots frames index [] held =
-    record { found = tt; after = ap (plane_with slots) (sym (append-nil frames)) }
+    record { found = tt; after = ap (plane_of slots) (sym (append-nil frames)) }
 sends_back job before base args task home owner version slots frames index (object ∷ objects) held =
     let frame : Content → Frame = λ content. record { to = home; entry = entry_number task 6 index; content = content } in
     let more : List Frame = back_frames task home version (index + 1) objects in
-    let rest : AreSent job (plane_with slots (frames ++ frame (slots owner (scratch_slot object)) ∷ []))
+    let rest : AreSent job (plane_of slots (frames ++ frame (slots owner (scratch_slot object)) ∷ []))
     (map (placed_command before base args) (at_worker owner (return_sends task home (index + 1) objects))) more =
     sends_back job before base args task home owner version slots (frames ++ frame (slots owner (scratch_slot object)) ∷ []) (index + 1) objects held.1 in
     record {
       found = (none_is (object, version) (slots owner (scratch_slot object)) held.0, rest.found);
       after =
           rest.after
-          ∙ ap (plane_with slots)
+          ∙ ap (plane_of slots)
           (append_assoc frames (frame (slots owner (scratch_slot object)) ∷ []) more
           ∙ ap (λ (c : Content). frames ++ frame c ∷ more) held.0);
     }

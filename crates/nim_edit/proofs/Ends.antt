@@ -27,13 +27,6 @@ use Rattle.nim_edit.proofs.Puts.{FirstRead}
 
 -- ---- two lists
 
-pub both_ends : (xs ys : List (Worker × Command)) → ends_sent xs ≡ ends_received xs → ends_sent ys ≡ ends_received ys
-    → ends_sent (xs ++ ys) ≡ ends_received (xs ++ ys)
-both_ends xs ys first second =
-    flat_map-append (λ (c : Worker × Command). end_sent c.1.kind) xs ys
-    ∙ ap₂ (λ (es fs : Ends). es ++ fs) first second
-    ∙ sym (flat_map-append (λ (c : Worker × Command). end_received c.0 c.1.id c.1.kind) xs ys)
-
 -- ---- a part of what was built
 
 -- a test of numbers that early numbers of one task pass together

@@ -1,11 +1,10 @@
 -- A move that is taken leaves a template in form.
 use Rattle.std.proofs.Common.{◌≡◌, ℕ, ◌<◌, Bool, true, false, List, [], ◌∷◌, ◌++◌, length, get_or, refl, ap, ap₂, sym, subst, ◌∙◌, arith}
-use Rattle.std.proofs.Common.{Option, None, Some, inl, inr}
+use Rattle.std.proofs.Common.{Option, None, Some}
 use Rattle.std.specs.Prelude.{◌==◌, nat_le, not, if◌then◌else◌, slice_index_or, slice_set}
 use Rattle.std.specs.List.{fold, list_all}
-use Rattle.std.specs.Option.{is_some}
-use Rattle.std.proofs.lemmas.Bool.{cases_lt, eqb-false, eqb-true, false≢true, leb-false, lt-ltb}
-use Rattle.std.proofs.lemmas.List.{get_or-set_other, get_or-set_same, get_or_past, length-set}
+use Rattle.std.proofs.lemmas.Bool.{eqb-false, eqb-true, leb-false, lt-ltb}
+use Rattle.std.proofs.lemmas.List.{get_or-set_other, get_or-set_same, length-set}
 use Rattle.std.proofs.lemmas.List.Recursion.{and_set}
 use Rattle.std.proofs.lemmas.List.FromFn.{get_or-map-range_with_len, length-map-range_with_len}
 use Rattle.std.proofs.lemmas.List.Sums.{fold-append}
@@ -22,6 +21,8 @@ use Rattle.nim_edit.specs.Form.{IsInForm, is_worker_below}
 use Rattle.nim_edit.specs.Halves.{edited_half, halves_for}
 use Rattle.nim_edit.specs.Moves.{edits_away, edits_home, edits_of, mask_for, migrated, spec_of, with_edit, worker_at}
 use Rattle.nim_edit.specs.Refusals.{are_too_many, refusal_of}
+use Rattle.nim_base.proofs.Lists.{some_none}
+use Rattle.nim_place.proofs.LiveOnce.{live_within}
 use Rattle.nim_edit.proofs.Migrations.{IsMove, aside_half, away_half, gone_half, here_half, home_half, same_list}
 
 -- ---- edits at workers
@@ -235,14 +236,7 @@ migrated_form template task to move = record {
 
 -- ---- moves that are taken
 
-live_below : (live : List Bool) (worker : Worker) → is_live live worker ≡ true → worker.0 < length live
-live_below live worker is = elim (cases_lt worker.0 (length live)) [
-  | inl below ↦ below
-  | inr past ↦ absurd (false≢true (sym (get_or_past live worker.0 false past) ∙ is))
 ]
-
-some_not : {X : Type 0} (x : X) → Some x ≡ None → ⊥
-some_not {X} x same = false≢true (sym (ap (λ (o : Option X). is_some o) same))
 
 -- where no rule applies
 pub not_refused : (template : WorkerTemplate) (task : ℕ) (to : Worker) (live : List Bool) → nat_le (length template.forms) task ≡ false
@@ -265,13 +259,13 @@ taken_move template task to live form long taken =
       either : (a b c d : Bool) → nat_le (length template.forms) task ≡ a → is_live live to ≡ b → ((worker_at template.owners task).0 == to.0) ≡ c
           → (if a then Some NoSuchTask else if not b then Some NotLive else if c then Some SamePlace else if d then Some TooMany else None) ≡ None
           → IsMove template task to
-      either true b c d one two three none = absurd (some_not NoSuchTask none)
-      either false false c d one two three none = absurd (some_not NotLive none)
-      either false true true d one two three none = absurd (some_not SamePlace none)
+      either true b c d one two three none = absurd (some_none NoSuchTask none)
+      either false false c d one two three none = absurd (some_none NotLive none)
+      either false true true d one two three none = absurd (some_none SamePlace none)
       either false true false d one two three none = record {
         form = form;
         within = leb-false (length template.forms) task one;
-        below = subst (λ (n : ℕ). to.0 < n) long (live_below live to two);
+        below = subst (λ (n : ℕ). to.0 < n) long (live_within live to two);
         apart = three;
       }
 
@@ -281,8 +275,8 @@ pub owned_still : (template : WorkerTemplate) (task : ℕ) (to : Worker) (live :
 owned_still template task to live taken all = all_set (is_live live) template.owners task to all (lives (is_live live to) refl) where
   either : (a b c d : Bool) → (if a then Some NoSuchTask else if not b then Some NotLive else if c then Some SamePlace else if d then Some TooMany else None)
       ≡ None → b ≡ true
-  either true b c d none = absurd (some_not NoSuchTask none)
-  either false false c d none = absurd (some_not NotLive none)
+  either true b c d none = absurd (some_none NoSuchTask none)
+  either false false c d none = absurd (some_none NotLive none)
   either false true c d none = refl
 
   lives : (b : Bool) → is_live live to ≡ b → is_live live to ≡ true

@@ -9,12 +9,12 @@ use Rattle.nim_command.specs.declared.template.WorkerTemplate.{WorkerTemplate}
 use Rattle.nim_command.specs.Ruled.{entries_by_rule}
 use Rattle.nim_command.specs.Waits.{commands_of}
 use Rattle.nim_order.specs.Orders.{AreEntriesByRule}
-use Rattle.nim_order.proofs.Sessions.{orders_cover}
+use Rattle.nim_order.proofs.Sessions.{entries_ruled, orders_cover}
 use Rattle.nim_place.specs.Extends.{is_live, longer}
 use Rattle.nim_place.proofs.Keys.{received_in, sent_in}
 use Rattle.nim_template.specs.Given.{InstallsExtend, install_with, installs_of}
 use Rattle.nim_template.specs.Instance.{half_of}
-use Rattle.nim_template.proofs.OneWorker.{IsOutFor, entries_ruled, install_legal, install_ruled, out_for}
+use Rattle.nim_template.proofs.OneWorker.{IsOutFor, install_legal, install_ruled, out_for}
 use Rattle.nim_template.proofs.SameKeys.{SendSame, same_none, same_paired}
 use Rattle.nim_edit.specs.Form.{IsInForm}
 use Rattle.nim_edit.proofs.ByRule.{halves_ruled}

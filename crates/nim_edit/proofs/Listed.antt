@@ -4,7 +4,7 @@ use Rattle.std.proofs.Common.{◌≡◌, ℕ, ◌+◌, ◌≤◌, ◌<◌, Bool,
 use Rattle.std.proofs.Common.{Option, None, Some}
 use Rattle.std.specs.Prelude.{◌*◌, ◌%◌, ◌^◌, ◌||◌, nat_le, nat_lt, ℤ}
 use Rattle.std.specs.List.{AllByRecursion, list_all, list_any}
-use Rattle.std.proofs.lemmas.Bool.{false≢true, le-leb, leb-true, lt-ltb, ltb-true}
+use Rattle.std.proofs.lemmas.Bool.{false≢true, le-leb, leb-true, lt-ltb, ltb-true, or_left, or_right}
 use Rattle.std.proofs.lemmas.List.{append-nil}
 use Rattle.std.proofs.lemmas.List.Elements.{recursion_from_All}
 use Rattle.std.proofs.Math.Nat.{mul-le-mul_left}
@@ -29,7 +29,7 @@ use Rattle.nim_place.specs.Stands.{commands_for}
 use Rattle.nim_place.specs.Versions.{Versions, after_commands, is_current, no_versions}
 use Rattle.nim_place.proofs.GoesOn.{before_within, position_few}
 use Rattle.nim_place.proofs.Held.{for_append}
-use Rattle.nim_place.proofs.Moves.{AreIndexed, AreMoves, moves_facts, moves_indexed, or_left, or_right}
+use Rattle.nim_place.proofs.Moves.{AreIndexed, AreMoves, moves_facts, moves_indexed}
 use Rattle.nim_place.proofs.Places.{both_true}
 use Rattle.nim_template.specs.declared.template.ControllerTemplate.{ControllerTemplate}
 use Rattle.nim_template.specs.Built.{all_slots, built, end_of, needs_of}
@@ -39,7 +39,7 @@ use Rattle.nim_template.specs.Tasks.{scheduled_from, task_with, without_before}
 use Rattle.nim_template.specs.Walk.{empty_walk, home_of}
 use Rattle.nim_template.proofs.Again.{home_within, needs_are, start_walked}
 use Rattle.nim_template.proofs.AtEntry.{AreGood, IsAtEntry, at_entry, entry_map}
-use Rattle.nim_template.proofs.ByRank.{RanksAscend, ascends_lower, ascends_then, in_order, order_of}
+use Rattle.nim_template.proofs.ByRank.{RanksAscend, ascends_lower, ascends_plain, ascends_then, in_order, order_of}
 use Rattle.nim_template.proofs.Chosen.{command_at, plain}
 use Rattle.nim_template.proofs.Closes.{AreNeeds}
 use Rattle.nim_template.proofs.Fits.{few_reads, read_below}
@@ -47,6 +47,7 @@ use Rattle.nim_template.proofs.Given.{tasks_from}
 use Rattle.nim_template.proofs.Halves.{for_plain}
 use Rattle.nim_template.proofs.InTurn.{AreTasksFrom}
 use Rattle.nim_template.proofs.InOrder.{shorts}
+use Rattle.nim_template.proofs.IsSound.{needs_good}
 use Rattle.nim_template.proofs.Left.{IsDoneBy, closing_of, done_by}
 use Rattle.nim_template.proofs.Numbers.{closings_few, filter_few, slots_long}
 use Rattle.nim_template.proofs.Plain.{received_plain, sent_plain}
@@ -66,20 +67,6 @@ abbrev pub Closings : Type 0
 Closings = TypeOf (closings (no_versions 0 0) [])
 
 -- ---- what is begun with
-
-needs_good : (version : Object → ℕ) (slots : Worker → Slot → Content) (workers objects : ℕ) (offsets : Versions) (needs : List (Worker × Object))
-    → offsets.workers ≡ workers → offsets.objects ≡ objects → AreNeeds offsets needs
-    → AllByRecursion (λ (one : Worker × Object). slots one.0 (main_slot one.1) ≡ Some (one.1, version one.1)) needs
-    → AreGood version slots workers objects needs
-needs_good version slots workers objects offsets [] rows columns are held = tt
-needs_good version slots workers objects offsets (need ∷ needs) rows columns are held =
-    let row = are.0 in
-    let column = are.1 in (
-      omega (arith, rows, row),
-      omega (arith, columns, column),
-      held.0,
-      needs_good version slots workers objects offsets needs rows columns are.3 held.1,
-    )
 
 -- ---- copies
 
@@ -129,10 +116,6 @@ plain_copied tasks (c ∷ cs) are = (are.0, are.1, are.2, plain_copied tasks cs 
 plain_ascends : (low high : ℕ) (cs : List (Worker × Command)) → RanksAscend low high (map plain cs) → RanksAscend low high cs
 plain_ascends low high [] are = are
 plain_ascends low high (c ∷ cs) are = (are.0, are.1, plain_ascends (order_of c.1 + 1) high cs are.2)
-
-ascends_plain : (low high : ℕ) (cs : List (Worker × Command)) → RanksAscend low high cs → RanksAscend low high (map plain cs)
-ascends_plain low high [] are = are
-ascends_plain low high (c ∷ cs) are = (are.0, are.1, ascends_plain (order_of c.1 + 1) high cs are.2)
 
 -- ---- the commands of tasks
 

@@ -36,7 +36,7 @@ use Rattle.nim_place.proofs.Held.{for_append}
 use Rattle.nim_place.proofs.Keys.{new_received, new_sent}
 use Rattle.nim_place.proofs.Legal.{main_of}
 use Rattle.nim_place.proofs.LiveOnce.{live_once}
-use Rattle.nim_place.proofs.Pairs.{Once, each_append, each_flat, each_weaker, longer_paired}
+use Rattle.nim_place.proofs.Pairs.{Once, each_flat, each_weaker, longer_paired}
 use Rattle.nim_template.specs.declared.template.ControllerTemplate.{ControllerTemplate}
 use Rattle.nim_template.specs.Again.{IsBefore, are_current}
 use Rattle.nim_template.specs.Built.{all_slots, built as as_built, end_of, half_for, needs_of}
@@ -61,6 +61,7 @@ use Rattle.nim_template.proofs.Ranked.{ranked_for, ranked_from}
 use Rattle.nim_template.proofs.Sames.{AllBelow, AreSame, same_left}
 use Rattle.nim_template.proofs.Sizes.{like_commands}
 use Rattle.nim_edit.specs.Form.{IsInForm, WasBuilt}
+use Rattle.nim_base.proofs.Lists.{each_append}
 use Rattle.nim_edit.proofs.Ascending.{in_order_ascends}
 use Rattle.nim_edit.proofs.Forms.{halves_long}
 use Rattle.nim_edit.proofs.InOrder.{AreOfHalf, commands_halves, commands_in_order, commands_onward, in_order_same, task_commands}

@@ -26,7 +26,6 @@ use Rattle.nim_place.specs.Schedule.{moves, receive_of, send_of}
 use Rattle.nim_place.specs.Stands.{MapStands, StandsOn, is_aside}
 use Rattle.nim_place.specs.Versions.{Versions, after_commands, after_kind, latest_of, puts_of, version_of, with_version}
 use Rattle.nim_place.proofs.History.{stands_more}
-use Rattle.nim_place.proofs.Pairs.{each_append}
 use Rattle.nim_place.proofs.Puts.{IsPut, IsWhole, put_all}
 use Rattle.nim_template.specs.Closing.{closed_for, closing_entries, closing_from, closing_number, closings, copy_from}
 use Rattle.nim_template.specs.Walk.{home_of, offset_for}
@@ -38,6 +37,7 @@ use Rattle.nim_template.proofs.Planes.{Has, current_there, taken_is}
 use Rattle.nim_template.proofs.Ranked.{ranked_from}
 use Rattle.nim_template.proofs.Sames.{AllBelow}
 use Rattle.nim_edit.specs.Moves.{mask_for, spec_of, worker_at}
+use Rattle.nim_base.proofs.Lists.{each_append}
 use Rattle.nim_edit.proofs.Ascending.{late_is}
 use Rattle.nim_edit.proofs.InOrder.{commands_onward, early_commands, late_commands, placed_command, task_commands}
 use Rattle.nim_edit.proofs.LateEntries.{at_worker}

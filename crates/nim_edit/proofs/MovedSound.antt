@@ -3,7 +3,7 @@ use Rattle.std.proofs.Common.{◌≡◌, ℕ, zero, suc, ◌+◌, ◌≤◌, ◌
 use Rattle.std.proofs.Common.{None, Some}
 use Rattle.std.specs.Prelude.{◌*◌, ◌^◌, ◌-◌, All, slice_index_or, ℤ}
 use Rattle.std.specs.List.{AllByRecursion, flat_map, list_all, list_any, range_with_len}
-use Rattle.std.proofs.lemmas.List.{append-nil, append_assoc}
+use Rattle.std.proofs.lemmas.List.{append-nil, append_assoc, nil_from_length}
 use Rattle.std.proofs.lemmas.List.Concat.{flat_map-append}
 use Rattle.std.proofs.lemmas.List.Elements.{All-from_recursion, recursion_from_All}
 use Rattle.nim_base.specs.declared.number.Object.{Object}
@@ -13,10 +13,8 @@ use Rattle.nim_base.specs.declared.task.TaskForm.{TaskForm}
 use Rattle.nim_command.specs.declared.command.Command.{Command}
 use Rattle.nim_command.specs.declared.entry.Entry.{Entry}
 use Rattle.nim_command.specs.declared.template.WorkerTemplate.{WorkerTemplate}
-use Rattle.nim_command.specs.Expansion.{version_at}
-use Rattle.nim_command.specs.Holds.{Content, content_at}
+use Rattle.nim_command.specs.Holds.{Content}
 use Rattle.nim_command.specs.Numbers.{main_slot}
-use Rattle.nim_command.specs.Slots.{object_of}
 use Rattle.nim_job.specs.declared.job.Job.{Job}
 use Rattle.nim_job.specs.Serial.{tasks_of}
 use Rattle.nim_job.specs.Tasks.{task_with_args as job_task}
@@ -39,14 +37,14 @@ use Rattle.nim_template.proofs.IsSound.{built_sound}
 use Rattle.nim_template.proofs.Plain.{found_plain, plain_found, received_plain, runs_plain, sent_plain, walked_plain}
 use Rattle.nim_template.proofs.Planes.{found_append, walked_append}
 use Rattle.nim_template.proofs.Ranked.{runs_of}
-use Rattle.nim_template.proofs.RankedEnds.{Ends, ends_once, ends_received, ends_sent}
+use Rattle.nim_template.proofs.RankedEnds.{Ends, both_ends, ends_once, ends_received, ends_sent}
 use Rattle.nim_edit.specs.Form.{IsInForm, WasBuilt}
 use Rattle.nim_edit.specs.Halves.{halves_for}
 use Rattle.nim_edit.specs.Moves.{worker_at}
 use Rattle.nim_edit.proofs.Ascending.{in_order_ascends}
 use Rattle.nim_edit.proofs.Between.{after_entries, none_under_it, under}
 use Rattle.nim_edit.proofs.Built.{at_home}
-use Rattle.nim_edit.proofs.Ends.{both_ends, onward_ends}
+use Rattle.nim_edit.proofs.Ends.{onward_ends}
 use Rattle.nim_edit.proofs.InOrder.{AreOfHalf, commands_halves, commands_in_order, commands_onward, in_order_same, task_commands}
 use Rattle.nim_edit.proofs.Listed.{AreCopied, IsListed, listed_is}
 use Rattle.nim_edit.proofs.OneTask.{built_ascend, one_task}
@@ -59,6 +57,7 @@ use Rattle.nim_place.specs.Stands.{commands_for}
 use Rattle.nim_template.specs.Tasks.{without_before}
 use Rattle.nim_template.proofs.Halves.{for_plain}
 use Rattle.nim_template.proofs.Sames.{AreSame}
+use Rattle.nim_template.proofs.Says.{SaysOf}
 use Rattle.nim_edit.proofs.NoTasks.{none_asked}
 
 -- ---- all tasks
@@ -102,13 +101,9 @@ tasks_done template job base args slots listed from (suc n) p q is all at found 
 
 -- ---- a block with tasks
 
--- what an effect says of a slot
-abbrev SaysNow : (Worker → Slot → Content) → (Object → ℕ) → ℕ → Worker × Slot × ℕ → Type 0
-SaysNow slots version base item = slots item.0 item.1 ≡ content_at item.1 (version_at base (version (object_of item.1)) item.2)
-
 says_same : (first second : Worker → Slot → Content) (version : Object → ℕ) (base : ℕ) (items : List (Worker × Slot × ℕ))
     → ((worker : Worker) (slot : Slot) → slot.0 < 512 → second worker slot ≡ first worker slot) → AreMain items
-    → AllByRecursion (SaysNow first version base) items → AllByRecursion (SaysNow second version base) items
+    → AllByRecursion (SaysOf first version base) items → AllByRecursion (SaysOf second version base) items
 says_same first second version base [] same main says = tt
 says_same first second version base (item ∷ items) same main says =
     (same item.0 item.1 main.0 ∙ says.0, says_same first second version base items same main.1 says.1)
@@ -160,12 +155,12 @@ ranked_some place objects live recorded template given others forms_are was some
             ∙ owned_is base 0 n template.owners form.owners (worker_at template.owners) (λ i less. ap (worker_at template.owners) (omega arith))
             ∙ ap (λ (k : ℕ). owned_from k template.owners) (omega arith);
         effect =
-            subst (All (SaysNow (plane_left start now).slots before base)) (sym was.effect)
-            (All-from_recursion (SaysNow (plane_left start now).slots before base) made.effect
+            subst (All (SaysOf (plane_left start now).slots before base)) (sym was.effect)
+            (All-from_recursion (SaysOf (plane_left start now).slots before base) made.effect
             (says_same (plane_left start listed).slots (plane_left start now).slots before base made.effect same_slots
             (effect_main (after_closings (end_of place objects live recorded.forms).offsets
             (needs_of (end_of place objects live recorded.forms).needed (all_slots (length live) objects))) (length live) objects objects_few)
-            (recursion_from_All (SaysNow (plane_left start listed).slots before base) made.effect does.effect)));
+            (recursion_from_All (SaysOf (plane_left start listed).slots before base) made.effect does.effect)));
         rest = λ worker slot low unaffected.
             same_slots worker slot low
             ∙ does.rest worker slot low (ap (λ (items : List (Worker × Slot × ℕ)). is_affected items worker slot) (sym was.effect) ∙ unaffected);
@@ -302,10 +297,6 @@ ranked_some place objects live recorded template given others forms_are was some
 
 -- ---- a block without tasks
 
-no_items : {X : Type 0} (xs : List X) → length xs ≡ 0 → xs ≡ []
-no_items [] none = refl
-no_items (x ∷ xs) none = absurd (omega (arith, none))
-
 ranked_none : (place : Placement) (objects : ℕ) (live : List Bool) (recorded : ControllerTemplate) (template : WorkerTemplate)
     → recorded.forms ≡ [] → WasBuilt place objects live recorded template
     → list_any (λ (flag : Bool). flag) live ≡ true → length live ≤ 16 → objects ≤ 512 → length recorded.forms ≤ 1024
@@ -318,8 +309,8 @@ ranked_none place objects live recorded template none was some workers_few objec
             found = does.found;
             matched = does.matched;
             owners = was.form.owners;
-            runs = does.runs ∙ ap (owned_from base) (no_items made.owners made_none ∙ sym owners_none);
-            effect = subst (All (SaysNow (plane_left (first_plane slots) listed).slots (read_version job base) base)) (sym was.effect) does.effect;
+            runs = does.runs ∙ ap (owned_from base) (nil_from_length made.owners made_none ∙ sym owners_none);
+            effect = subst (All (SaysOf (plane_left (first_plane slots) listed).slots (read_version job base) base)) (sym was.effect) does.effect;
             rest = λ worker slot low unaffected.
                 does.rest worker slot low (ap (λ (items : List (Worker × Slot × ℕ)). is_affected items worker slot) (sym was.effect) ∙ unaffected);
           });
@@ -342,10 +333,10 @@ ranked_none place objects live recorded template none was some workers_few objec
       formless = ap (λ (forms : List TaskForm). length forms) (was.forms ∙ none)
 
       owners_none : template.owners ≡ []
-      owners_none = no_items template.owners (was.form.owners ∙ formless)
+      owners_none = nil_from_length template.owners (was.form.owners ∙ formless)
 
       homes_none : template.homes ≡ []
-      homes_none = no_items template.homes (was.form.homes ∙ formless)
+      homes_none = nil_from_length template.homes (was.form.homes ∙ formless)
 
       made_none : length made.owners ≡ 0
       made_none = ap (λ (homes : List Worker). length homes) (sym was.homes ∙ homes_none)

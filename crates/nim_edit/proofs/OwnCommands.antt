@@ -21,7 +21,7 @@ use Rattle.nim_template.specs.Fits.{is_fit}
 use Rattle.nim_template.specs.Walk.{home_of}
 use Rattle.nim_template.proofs.Entries.{own_commands}
 use Rattle.nim_template.proofs.InTurn.{home_lives}
-use Rattle.nim_template.proofs.Sames.{AllBelow}
+use Rattle.nim_template.proofs.Sames.{AllBelow, below_append}
 use Rattle.nim_edit.proofs.InOrder.{commands_of_one}
 
 -- ---- the commands of one worker
@@ -61,15 +61,11 @@ at_below : (workers number : ℕ) (cs : List Command) → number < workers
 at_below workers number [] below = tt
 at_below workers number (c ∷ cs) below = (below, at_below workers number cs below)
 
-both_below : (workers : ℕ) (xs ys : List (Worker × Command)) → AllBelow workers xs → AllBelow workers ys → AllBelow workers (xs ++ ys)
-both_below workers [] ys first second = second
-both_below workers (x ∷ xs) ys first second = (first.0, both_below workers xs ys first.1 second)
-
 pub from_below : (before : Object → ℕ) (base : ℕ) (args : List ℤ) (workers number : ℕ) (halves : List (List Entry)) → number + length halves ≤ workers
     → AllBelow workers (commands_from before base args number halves)
 from_below before base args workers number [] few = tt
 from_below before base args workers number (half ∷ halves) few =
-    both_below workers (commands_of_half before base args (record { 0 = number }) half) (commands_from before base args (number + 1) halves)
+    below_append workers (commands_of_half before base args (record { 0 = number }) half) (commands_from before base args (number + 1) halves)
     (at_below workers number (own_commands before base args half) (omega (arith, few)))
     (from_below before base args workers (number + 1) halves (omega (arith, few)))
 

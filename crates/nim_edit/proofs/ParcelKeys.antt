@@ -19,11 +19,12 @@ use Rattle.nim_plan.specs.Paired.{Key, is_key, entry_key, received, sent}
 use Rattle.nim_place.specs.Extends.{is_live}
 use Rattle.nim_place.specs.Sound.{is_end}
 use Rattle.nim_place.specs.Stands.{commands_for}
+use Rattle.nim_base.proofs.Lists.{each_append, each_two}
 use Rattle.nim_place.proofs.History.{holds_last}
 use Rattle.nim_place.proofs.Keys.{new_received, new_sent}
-use Rattle.nim_place.proofs.Pairs.{count_append, count_first, each_append, same_keys}
+use Rattle.nim_place.proofs.Pairs.{count_append, count_first, same_keys}
 use Rattle.nim_place.proofs.TaskPairs.{itself}
-use Rattle.nim_template.proofs.ByRank.{RanksAscend, order_of}
+use Rattle.nim_template.proofs.ByRank.{RanksAscend, for_step, order_of}
 use Rattle.nim_template.proofs.RankedEnds.{ends_once, ends_received}
 use Rattle.nim_edit.proofs.Ascending.{order_bounds}
 use Rattle.nim_edit.proofs.Parcels.{Held, Parcel, held_with, parcel, parcels, step_at, taking, takings, version_in}
@@ -68,18 +69,6 @@ one_sent group to from held before (Copy first second) is = refl
 one_sent group to from held before (Run position func params reads writes) is = refl
 one_sent group to from held before (Fetch slot ticket) is = refl
 
--- the commands of one worker, the first of all aside
-for_first : (worker : Worker) (c : Worker × Command) (cs : List (Worker × Command)) (b : Bool) → (c.0.0 == worker.0) ≡ b
-    → commands_for worker (c ∷ cs) ≡ (if b then c.1 ∷ commands_for worker cs else commands_for worker cs)
-for_first worker c cs b is = ap (λ (d : Bool). map (λ (x : Worker × Command). x.1) (if d then c ∷ mine else mine)) is ∙ either b where
-  mine : List (Worker × Command)
-  mine = filter (λ (d : Worker × Command). d.0.0 == worker.0) cs
-
-  either : (d : Bool) → map (λ (x : Worker × Command). x.1) (if d then c ∷ mine else mine)
-      ≡ (if d then c.1 ∷ commands_for worker cs else commands_for worker cs)
-  either true = refl
-  either false = refl
-
 pub sent_for : (group : Group) (to worker : Worker) (held : Held) (past : List Command) (cs : List (Worker × Command)) → held worker ≡ holds past (length past)
     → new_sent to group past (commands_for worker cs) ≡ keys_to group to (parcels_from worker held cs)
 sent_for group to worker held past [] is = refl
@@ -93,7 +82,7 @@ sent_for group to worker held past (c ∷ cs) is =
           → new_sent to group more (commands_for worker cs) ≡ keys_to group to rest)
           → new_sent to group past (commands_for worker (c ∷ cs)) ≡ keys_to group to ((if c.0.0 == worker.0 then parcel held c.0 c.1.kind else []) ++ rest)
       either true here goes =
-          ap (new_sent to group past) (for_first worker c cs true here)
+          ap (new_sent to group past) (for_step worker c cs true here)
           ∙ ap₂ (λ (xs ys : List Key). xs ++ ys)
           (one_sent group to c.0 held (holds past (length past)) c.1.kind
           (ap (λ (n : ℕ). held (record { 0 = n })) (eqb-true c.0.0 worker.0 here) ∙ is))
@@ -102,7 +91,7 @@ sent_for group to worker held past (c ∷ cs) is =
           ∙ sym (keys_append group to (parcel held c.0 c.1.kind) rest)
           ∙ ap (λ (b : Bool). keys_to group to ((if b then parcel held c.0 c.1.kind else []) ++ rest)) (sym here)
       either false apart goes =
-          ap (new_sent to group past) (for_first worker c cs false apart)
+          ap (new_sent to group past) (for_step worker c cs false apart)
           ∙ goes past (fun_ext (λ slot. step_at c held worker slot false apart ∙ ap (λ (h : Slot → Content). h slot) is))
           ∙ ap (λ (b : Bool). keys_to group to ((if b then parcel held c.0 c.1.kind else []) ++ rest)) (sym apart)
 
@@ -133,11 +122,11 @@ received_for group to (c ∷ cs) = either (c.0.0 == to.0) refl (received_for gro
   either : (b : Bool) → (c.0.0 == to.0) ≡ b → new_received group (commands_for to cs) ≡ keys_to group to (takings cs)
       → new_received group (commands_for to (c ∷ cs)) ≡ keys_to group to (taking c.0 c.1.id c.1.kind ++ takings cs)
   either true here rest =
-      ap (new_received group) (for_first to c cs true here)
+      ap (new_received group) (for_step to c cs true here)
       ∙ ap₂ (λ (xs ys : List Key). xs ++ ys) (one_taken group to c.0 c.1.id c.1.kind true here) rest
       ∙ sym (keys_append group to (taking c.0 c.1.id c.1.kind) (takings cs))
   either false apart rest =
-      ap (new_received group) (for_first to c cs false apart)
+      ap (new_received group) (for_step to c cs false apart)
       ∙ ap₂ (λ (xs ys : List Key). xs ++ ys) (one_taken group to c.0 c.1.id c.1.kind false apart) rest
       ∙ sym (keys_append group to (taking c.0 c.1.id c.1.kind) (takings cs))
 
@@ -321,10 +310,6 @@ keys_least group to all (p ∷ ps) within = (λ mine. first mine, keys_least gro
       let is = ap (λ (b : Bool). count_by q (map (key_at group) (if b then p ∷ for_to to ps else for_to to ps))) apart in
       omega (arith, there, is)
 
-each_both : {X : Type 0} (P Q R : X → Type 0) → ((x : X) → P x → Q x → R x) → (xs : List X) → AllByRecursion P xs → AllByRecursion Q xs → AllByRecursion R xs
-each_both P Q R f [] first second = tt
-each_both P Q R f (x ∷ xs) first second = (f x first.0 second.0, each_both P Q R f xs first.1 second.1)
-
 ends_each : (es : List (Worker × ℕ × Object)) (ps : List Parcel)
     → AllByRecursion (λ (e : Worker × ℕ × Object). count_by (is_end e) es ≡ 1) (map end_of ps)
     → AllByRecursion (λ (p : Parcel). count_by (is_end (end_of p)) es ≡ 1) ps
@@ -335,7 +320,7 @@ ends_each es (p ∷ ps) all = (all.0, ends_each es ps all.1)
 pub taken_once : (group : Group) (to : Worker) (low high : ℕ) (cs : List (Worker × Command)) → RanksAscend low high cs
     → AllByRecursion (λ (p : Parcel). (p.0.0 == to.0) ≡ true → count_by (is_key (key_at group p)) (keys_to group to (takings cs)) ≡ 1) (takings cs)
 taken_once group to low high cs are =
-    each_both (λ (p : Parcel). (p.0.0 == to.0) ≡ true → 1 ≤ count_by (is_key (key_at group p)) (keys_to group to ts))
+    each_two (λ (p : Parcel). (p.0.0 == to.0) ≡ true → 1 ≤ count_by (is_key (key_at group p)) (keys_to group to ts))
     (λ (p : Parcel). count_by (is_end (end_of p)) (map end_of ts) ≡ 1)
     (λ (p : Parcel). (p.0.0 == to.0) ≡ true → count_by (is_key (key_at group p)) (keys_to group to ts) ≡ 1)
     (λ p least one mine.
@@ -395,9 +380,9 @@ all_of_live live (c ∷ cs) none = (lives (is_live live c.0) refl, all_of_live l
   lives : (b : Bool) → is_live live c.0 ≡ b → b ≡ true
   lives true is = refl
   lives false is =
-      absurd (some_first c.1 (commands_for c.0 cs) (sym (for_first c.0 c cs true (eq-eqb c.0.0 c.0.0 refl)) ∙ none c.0 is))
+      absurd (some_first c.1 (commands_for c.0 cs) (sym (for_step c.0 c cs true (eq-eqb c.0.0 c.0.0 refl)) ∙ none c.0 is))
 
   others : (worker : Worker) → is_live live worker ≡ false → (b : Bool) → (c.0.0 == worker.0) ≡ b → commands_for worker cs ≡ []
   others worker dead true here =
-      absurd (some_first c.1 (commands_for worker cs) (sym (for_first worker c cs true here) ∙ none worker dead))
-  others worker dead false apart = sym (for_first worker c cs false apart) ∙ none worker dead
+      absurd (some_first c.1 (commands_for worker cs) (sym (for_step worker c cs true here) ∙ none worker dead))
+  others worker dead false apart = sym (for_step worker c cs false apart) ∙ none worker dead

@@ -1,6 +1,6 @@
 -- What workers send and receive in turn, each frame with the version that the sender's slot holds.
 use Rattle.std.proofs.Common.{◌≡◌, ℕ, ◌<◌, ◌≤◌, Bool, true, false, List, [], ◌∷◌, ◌++◌, map, refl, ap, ap₂, sym, subst, ◌∙◌, arith}
-use Rattle.std.proofs.Common.{Option, Some}
+use Rattle.std.proofs.Common.{Some}
 use Rattle.std.specs.Prelude.{◌==◌, ◌&&◌, if◌then◌else◌}
 use Rattle.std.specs.List.{fold}
 use Rattle.std.specs.Option.{option_map_or}
@@ -20,7 +20,7 @@ use Rattle.nim_place.specs.Versions.{Versions, after_commands, held_at, latest_o
 use Rattle.nim_place.proofs.Held.{AreHeld, moves_held}
 use Rattle.nim_place.proofs.Legal.{main_of}
 use Rattle.nim_place.proofs.Puts.{IsPut, IsWhole, kept_for, put_all, whole_after}
-use Rattle.nim_template.proofs.Planes.{Has, current_there, taken_is}
+use Rattle.nim_template.proofs.Planes.{Has, current_there, pick_held, taken_is}
 
 -- ---- slots and frames
 
@@ -116,13 +116,6 @@ Puts now held owner version puts =
     (worker : Worker) (slot : Slot) → slot.0 < 512
     → now worker slot ≡ (if is_among puts slot && (owner.0 == worker.0) then content_at slot version else held worker slot)
 
-picked : (d : Bool) (version found : ℕ) (object : Object) (old : Option ℕ) (was now : Content) → now ≡ (if d then Some (object, version) else was)
-    → Some found ≡ (if d then Some version else old) → (old ≡ Some found → was ≡ Some (object, found)) → now ≡ Some (object, found)
-picked true version found object old was now is put before = is ∙ ap (with_object object) (sym put) where
-  with_object : Object → Option ℕ → Content
-  with_object o content = option_map_or (λ (v : ℕ). Some (o, v)) content now
-picked false version found object old was now is put before = is ∙ before (sym put)
-
 pub has_puts : (held now : Held) (versions : Versions) (owner : Worker) (version : ℕ) (puts : List Slot) → Has versions held → IsWhole versions
     → owner.0 < versions.workers → versions.objects ≤ 512 → Puts now held owner version puts → Has (fold (with_version owner version) versions puts) now
 has_puts held now versions owner version puts has whole below few is worker object found lower inside there =
@@ -130,7 +123,7 @@ has_puts held now versions owner version puts has whole below few is worker obje
     let low : worker.0 < versions.workers = omega (arith, put.workers, lower) in
     let deep : object.0 < versions.objects = omega (arith, put.objects, inside) in
     let slot : Slot = main_slot object in
-    picked (is_among puts slot && (owner.0 == worker.0)) version found object (held_at versions worker slot) (held worker slot) (now worker slot)
+    pick_held (is_among puts slot && (owner.0 == worker.0)) version found object (held_at versions worker slot) (held worker slot) (now worker slot)
     (is worker slot (omega (arith, deep, few))
     ∙ ap (λ (o : Object). if is_among puts slot && (owner.0 == worker.0) then Some (o, version) else held worker slot)
     (main_of object (omega (arith, deep, few))))

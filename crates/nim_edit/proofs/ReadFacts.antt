@@ -28,6 +28,7 @@ use Rattle.nim_template.specs.Tasks.{task_with}
 use Rattle.nim_template.proofs.InTurn.{AreTasksFrom}
 use Rattle.nim_edit.specs.Masks.{mask_of}
 use Rattle.nim_edit.specs.Moves.{no_task, offset_behind, read_behind}
+use Rattle.nim_base.proofs.Lists.{same_first, same_rest}
 use Rattle.nim_edit.proofs.Elsewhere.{version_content}
 use Rattle.nim_edit.proofs.Puts.{FirstRead}
 
@@ -151,28 +152,16 @@ offset_is job base args object forms are room =
 
 -- ---- reads
 
-same_head : {X : Type 0} (x y : X) (xs ys : List X) → x ∷ xs ≡ y ∷ ys → x ≡ y
-same_head {X} x y xs ys same = ap head same where
-  head : List X → X
-  head [] = x
-  head (z ∷ zs) = z
-
-same_tail : {X : Type 0} (x y : X) (xs ys : List X) → x ∷ xs ≡ y ∷ ys → xs ≡ ys
-same_tail {X} x y xs ys same = ap tail same where
-  tail : List X → List X
-  tail [] = []
-  tail (z ∷ zs) = zs
-
 -- what a run finds at the home
 pub reads_there : (version : Object → ℕ) (slots : Slot → Content) (past : List TaskForm) (objects : List Object)
     → map slots (read_slots false (map (read_behind past) objects)) ≡ map Some (map (λ (o : Object). (o, version o)) objects)
     → AllByRecursion (λ (r : Object × ℕ). slots (main_slot r.0) ≡ version_content version r.0) (map (read_behind past) objects)
 reads_there version slots past [] same = tt
 reads_there version slots past (object ∷ objects) same = (
-  same_head (slots (main_slot object)) (version_content version object) (map slots (read_slots false (map (read_behind past) objects)))
+  same_first (slots (main_slot object)) (version_content version object) (map slots (read_slots false (map (read_behind past) objects)))
       (map Some (map (λ (o : Object). (o, version o)) objects)) same,
   reads_there version slots past objects
-      (same_tail (slots (main_slot object)) (version_content version object) (map slots (read_slots false (map (read_behind past) objects)))
+      (same_rest (slots (main_slot object)) (version_content version object) (map slots (read_slots false (map (read_behind past) objects)))
       (map Some (map (λ (o : Object). (o, version o)) objects)) same),
 )
 

@@ -3,7 +3,7 @@
 use Rattle.std.proofs.Common.{◌≡◌, ℕ, ◌+◌, ◌≤◌, ◌<◌, Bool, true, false, List, [], ◌∷◌, ◌++◌, refl, ap, ap₂, sym, ◌∙◌, arith}
 use Rattle.std.specs.Prelude.{◌*◌, ◌%◌, ◌==◌, ◌&&◌, ◌||◌, if◌then◌else◌, nat_le, nat_lt}
 use Rattle.std.specs.List.{filter}
-use Rattle.std.proofs.lemmas.Bool.{eqb-true, false≢true, leb-true, ltb-true, ne_eqb}
+use Rattle.std.proofs.lemmas.Bool.{eqb-true, false≢true, leb-true, ltb-true}
 use Rattle.std.proofs.lemmas.List.{append-nil}
 use Rattle.std.proofs.lemmas.List.Elements.{filter-append}
 use Rattle.nim_base.specs.declared.number.Slot.{Slot}
@@ -15,7 +15,7 @@ use Rattle.nim_command.specs.Holds.{Content, put_at}
 use Rattle.nim_command.specs.Numbers.{task_of}
 use Rattle.nim_job.specs.declared.job.Job.{Job}
 use Rattle.nim_place.specs.Sound.{AreFound, Frame, IsFound, Plane, sent_to, step_of, plane_left, with_slots}
-use Rattle.nim_template.proofs.Planes.{Below, below_append}
+use Rattle.nim_template.proofs.Planes.{Below, below_append, skip_first}
 use Rattle.nim_edit.proofs.Listed.{IsCopyOf, is_early}
 
 -- whether a frame is for an early entry
@@ -27,16 +27,6 @@ pub record IsSamePlane (p q : Plane) : Type 0 where
   pub slots : (worker : Worker) (slot : Slot) → slot.0 < 512 → q.slots worker slot ≡ p.slots worker slot
   pub early : filter is_first q.frames ≡ p.frames
 
--- a frame for another entry isn't found
-pub skip_frame : (frame : Frame) (frames : List Frame) (worker : Worker) (entry : ℕ) → (frame.entry ≡ entry → ⊥)
-    → sent_to (frame ∷ frames) worker entry ≡ sent_to frames worker entry
-skip_frame frame frames worker entry apart =
-    ap (λ (b : Bool). if (frame.to.0 == worker.0) && b then frame.content else sent_to frames worker entry) (ne_eqb frame.entry entry apart)
-    ∙ either (frame.to.0 == worker.0) where
-      either : (b : Bool) → (if b && false then frame.content else sent_to frames worker entry) ≡ sent_to frames worker entry
-      either true = refl
-      either false = refl
-
 -- what was sent to an early entry is among the frames for early ones
 sent_early : (frames : List Frame) (worker : Worker) (entry : ℕ) → is_early entry ≡ true
     → sent_to frames worker entry ≡ sent_to (filter is_first frames) worker entry
@@ -47,7 +37,7 @@ sent_early (frame ∷ frames) worker entry early = either (is_first frame) refl 
   either true is rest =
       ap (λ (c : Content). if (frame.to.0 == worker.0) && (frame.entry == entry) then frame.content else c) rest
   either false is rest =
-      skip_frame frame frames worker entry (λ same. false≢true (sym is ∙ ap is_early same ∙ early)) ∙ rest
+      skip_first frame frames worker entry (λ same. false≢true (sym is ∙ ap is_early same ∙ early)) ∙ rest
 
 -- one frame more at the end
 frame_more : (frames : List Frame) (frame : Frame) (b : Bool) → is_first frame ≡ b

@@ -15,7 +15,6 @@ use Rattle.nim_place.specs.declared.placement.Placement.{Placement}
 use Rattle.nim_place.specs.Schedule.{is_one_of, moves, receive_of, scheduled, send_of}
 use Rattle.nim_place.specs.Versions.{Versions, after_commands, holder, is_current, latest_of}
 use Rattle.nim_place.proofs.Moves.{AreIndexed, moves_indexed}
-use Rattle.nim_place.proofs.Pairs.{each_append}
 use Rattle.nim_place.proofs.Places.{both_true}
 use Rattle.nim_template.specs.Fits.{is_fit}
 use Rattle.nim_template.specs.Tasks.{task_with}
@@ -29,6 +28,7 @@ use Rattle.nim_template.proofs.Sizes.{AreLike, form_like, like_needs}
 use Rattle.nim_template.proofs.TasksRun.{found_holder}
 use Rattle.nim_template.proofs.Walks.{IsWalked, form_walked, has_any, needs_walked}
 use Rattle.nim_edit.specs.Moves.{no_task, offset_behind, read_behind, worker_at}
+use Rattle.nim_base.proofs.Lists.{each_append}
 use Rattle.nim_edit.proofs.Ascending.{order_bounds}
 use Rattle.nim_edit.proofs.InOrder.{commands_onward, commands_under}
 use Rattle.nim_edit.proofs.Listed.{Walk}

@@ -14,12 +14,12 @@ use Rattle.nim_command.specs.Numbers.{counted_from, entry_number, task_of}
 use Rattle.nim_place.specs.Sound.{run_by}
 use Rattle.nim_template.specs.Fits.{are_below, is_fit}
 use Rattle.nim_template.proofs.Ranked.{runs_of}
-use Rattle.nim_template.proofs.RankedEnds.{ends_received, ends_sent}
+use Rattle.nim_template.proofs.RankedEnds.{both_ends, ends_received, ends_sent}
 use Rattle.nim_edit.specs.Form.{IsInForm}
 use Rattle.nim_edit.specs.Masks.{is_left}
 use Rattle.nim_edit.specs.Moves.{mask_for, no_task, spec_of, worker_at}
 use Rattle.nim_edit.proofs.Ascending.{late_is}
-use Rattle.nim_edit.proofs.Ends.{away_ends, both_ends, early_ends}
+use Rattle.nim_edit.proofs.Ends.{away_ends, early_ends}
 use Rattle.nim_edit.proofs.InOrder.{early_commands, late_commands, task_commands}
 use Rattle.nim_edit.proofs.Listed.{AreCopied}
 use Rattle.nim_edit.proofs.Migrations.{all_at}

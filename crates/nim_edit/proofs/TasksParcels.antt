@@ -26,7 +26,6 @@ use Rattle.nim_place.proofs.Finds.{after_copies, latest_there}
 use Rattle.nim_place.proofs.Given.{all_stand, copies_fit, schedule_stands}
 use Rattle.nim_place.proofs.GoesOn.{schedule_runs}
 use Rattle.nim_place.proofs.Moves.{moves_facts}
-use Rattle.nim_place.proofs.Pairs.{each_append}
 use Rattle.nim_place.proofs.Places.{both_true}
 use Rattle.nim_place.proofs.Puts.{IsWhole}
 use Rattle.nim_template.specs.Again.{IsBefore}
@@ -42,6 +41,7 @@ use Rattle.nim_template.proofs.StaysBefore.{maps_stay_before}
 use Rattle.nim_edit.specs.Form.{IsInForm}
 use Rattle.nim_edit.specs.Masks.{is_left}
 use Rattle.nim_edit.specs.Moves.{mask_for, no_task, offset_behind, spec_for, spec_of, worker_at}
+use Rattle.nim_base.proofs.Lists.{each_append}
 use Rattle.nim_edit.proofs.Ascending.{late_is}
 use Rattle.nim_edit.proofs.InOrder.{commands_onward, commands_under, early_commands, late_commands, task_commands}
 use Rattle.nim_edit.proofs.MovedParcels.{IsAtHome, IsMovedWell, away_well, home_well}

@@ -16,6 +16,7 @@ use Rattle.std.proofs.lemmas.Map.Lookups.{exact_signed}
 use Rattle.nim_base.specs.Value.{Grid, cells_of, rows_of}
 use Rattle.nim_base.specs.Functions.{at_column, different, grouped, grid_row, plus, sum_at, sum_of_cells, with_number}
 use Rattle.nim_funcs.specs.Groups.{sum_under, sums_grid, with_rows, with_summand}
+use Rattle.nim_base.proofs.Lists.{is_equal}
 use Rattle.nim_funcs.proofs.CellRows.{length-cells_of, rows_of-cells_of}
 
 -- a number put before, at or after the first
@@ -53,13 +54,8 @@ again false new old other = refl
 pub int_eq-refl : (number : ℤ) → int_eq number number ≡ true
 int_eq-refl number = ap is_eq (tied_itself int_cmp_total number)
 
-eq-order : (order : Ordering) → is_eq order ≡ true → order ≡ Equal
-eq-order Less is = absurd (true≢false (sym is))
-eq-order Equal is = refl
-eq-order Greater is = absurd (true≢false (sym is))
-
 pub same_number : (first second : ℤ) → int_eq first second ≡ true → first ≡ second
-same_number first second is = exact_signed first second (eq-order (int_cmp first second) is)
+same_number first second is = exact_signed first second (is_equal (int_cmp first second) is)
 
 -- two tests that don't both pass may come in any order
 apart : {X : Type 0} (first second : Bool) (new old other : X) → (first ≡ true → second ≡ true → ⊥)

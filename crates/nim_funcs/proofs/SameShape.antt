@@ -6,11 +6,8 @@ use Rattle.std.proofs.lemmas.List.{get_or-drop, get_or-take, length-drop, length
 use Rattle.std.proofs.lemmas.List.FromFn.{fill_by_all}
 use Rattle.nim_base.specs.Value.{Grid, cell_of, rows_of}
 use Rattle.nim_base.specs.Functions.{grid_by, pairwise, row_by}
+use Rattle.nim_base.proofs.Rows.{length-rows_of}
 use Rattle.nim_funcs.proofs.CellRows.{row_at}
-
-length-rows_of : (n width : ℕ) (cells : List ℤ) → length (rows_of n width cells) ≡ n
-length-rows_of zero width cells = refl
-length-rows_of (suc n) width cells = ap suc (length-rows_of n width (drop width cells))
 
 -- the end of a row of cells
 row_end : (n width r : ℕ) → r < n → r * width + width ≤ n * width

@@ -18,7 +18,6 @@ use Rattle.nim_message.specs.declared.frame.Data.{Data}
 use Rattle.nim_message.specs.declared.order.ToWorker.{ToWorker}
 use Rattle.nim_message.specs.Orders.{Session}
 use Rattle.nim_order.specs.Progress.{GainsPlace, IsReleasedAt, is_one_of}
-use Rattle.nim_order.proofs.Items.{all_weaker, get_front}
 use Rattle.nim_order.proofs.Longer.{front_stays, members_append, released_longer}
 use Rattle.nim_order.proofs.Orders.{one_more}
 use Rattle.nim_store.specs.declared.key.Key.{Key}
@@ -26,8 +25,8 @@ use Rattle.nim_store.specs.Keys.{key_cmp, key_of}
 use Rattle.nim_store.proofs.Frames.{exact_keys, keys_total}
 use Rattle.nim_history.specs.History.{Asked, MayComplete, WorkerState, Completed, after_asked, after_happening, asked_at, completed, framed, has_frame, key_for, ordered}
 use Rattle.nim_history.specs.InTurn.{AreBeside, HaveOtherFrames, InTurn, IsBeside, MayAllComplete, is_reset, key_at}
+use Rattle.nim_base.proofs.Lists.{all_weaker, get_front, is_equal}
 use Rattle.nim_history.proofs.Completed.{completed_session}
-use Rattle.nim_history.proofs.Inbox.{alike_is}
 use Rattle.nim_history.proofs.Ordered.{GrowsTo, order_grows, ordered_is}
 
 -- A worker that has come further than another: more was asked for behind the same, the same commands are complete, and
@@ -235,7 +234,7 @@ frame_stays state (Some gone) place others there = either (asked_at state.sessio
   keyed None other there = refl
   keyed (Some key) other there = removed_there state.inbox gone key (apart (is_eq (key_cmp key gone)) refl) there where
     apart : (b : Bool) → is_eq (key_cmp key gone) ≡ b → b ≡ false
-    apart true same = absurd (other (ap Some (exact_keys key gone (alike_is (key_cmp key gone) same))))
+    apart true same = absurd (other (ap Some (exact_keys key gone (is_equal (key_cmp key gone) same))))
     apart false same = refl
 
   either : (o : Option Asked) → asked_at state.session.groups place ≡ o → option_map_or (has_frame state) o false ≡ true

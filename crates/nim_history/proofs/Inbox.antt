@@ -4,8 +4,6 @@ use Rattle.std.specs.Prelude.{IfSome}
 use Rattle.std.specs.FinMap as map
 use Rattle.std.specs.FinMap.{get-empty, get-insert, get-remove, get-retain_keys}
 use Rattle.std.specs.Ordering.{is_eq}
-use Rattle.std.specs.declared.cmp.Ordering.{Ordering}
-use Rattle.std.specs.declared.cmp.Ordering.TheVariants.{Less, Equal, Greater}
 use Rattle.nim_base.specs.Value.{Grid}
 use Rattle.nim_message.specs.declared.frame.Data.{Data}
 use Rattle.nim_job.specs.declared.job.Job.{Job}
@@ -14,6 +12,7 @@ use Rattle.nim_plan.specs.Good.{IsGoodFrame}
 use Rattle.nim_plan.specs.Legal.{is_version}
 use Rattle.nim_store.specs.declared.key.Key.{Key}
 use Rattle.nim_store.specs.Keys.{is_not_before, key_cmp, key_of}
+use Rattle.nim_base.proofs.Lists.{is_equal}
 use Rattle.nim_store.proofs.Frames.{exact_keys, keys_total}
 
 -- the value of the version that a key names
@@ -23,11 +22,6 @@ pub record IsTrueAt (job : Job) (key : Key) (grid : Grid) : Type 0 where
 
 abbrev pub IsTrueInbox : Job → map.FinMap key_cmp Grid → Type 0
 IsTrueInbox job inbox = (key : Key) → IfSome (map.get inbox key) (IsTrueAt job key)
-
-pub alike_is : (r : Ordering) → is_eq r ≡ true → r ≡ Equal
-alike_is Less same = absurd cc
-alike_is Equal same = refl
-alike_is Greater same = absurd cc
 
 pub empty_true : (job : Job) → IsTrueInbox job map.empty
 empty_true job key = subst (λ (o : Option Grid). IfSome o (IsTrueAt job key)) (sym (get-empty key_cmp key)) tt
@@ -40,7 +34,7 @@ frame_true job inbox frame good all key =
     (either (is_eq (key_cmp key (key_of frame))) refl) where
       either : (b : Bool) → is_eq (key_cmp key (key_of frame)) ≡ b → IfSome (cond b (Some frame.value) (map.get inbox key)) (IsTrueAt job key)
       either true same =
-          subst (λ (k : Key). IsTrueAt job k frame.value) (sym (exact_keys key (key_of frame) (alike_is (key_cmp key (key_of frame)) same)))
+          subst (λ (k : Key). IsTrueAt job k frame.value) (sym (exact_keys key (key_of frame) (is_equal (key_cmp key (key_of frame)) same)))
           (record { version = good.0; value = good.1 })
       either false other = all key
 

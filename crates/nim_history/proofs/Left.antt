@@ -10,10 +10,11 @@ use Rattle.std.proofs.lemmas.Option.{none-some, same_Some, slice_get_within}
 use Rattle.nim_command.specs.declared.command.Command.{Command}
 use Rattle.nim_command.specs.Waits.{Group, Member, members_from, members_of}
 use Rattle.nim_order.specs.Progress.{is_one_of}
-use Rattle.nim_order.proofs.Items.{filter_range, get_front}
+use Rattle.nim_order.proofs.Items.{filter_range}
 use Rattle.nim_order.proofs.Longer.{members_append}
 use Rattle.nim_order.proofs.Orders.{one_more}
 use Rattle.nim_history.specs.History.{asked_at, is_of_group, left_in_group}
+use Rattle.nim_base.proofs.Lists.{get_behind, get_front, range_append}
 
 -- a group that a member is of
 record IsIn (number : ℕ) (groups : List Group) (m : Member) : Type 0 where
@@ -59,17 +60,6 @@ asked_is groups place m there =
 
 pub asked_none : (groups : List Group) (place : ℕ) → slice_get (members_of groups) place ≡ None → asked_at groups place ≡ None
 asked_none groups place none = rw none refl
-
--- numbers of a range that pass a test
-range_joined : (a n m : ℕ) → range_with_len a (n + m) ≡ range_with_len a n ++ range_with_len (a + n) m
-range_joined a zero m =
-    let none : 0 + m ≡ m = omega arith in
-    let same : a ≡ a + 0 = omega arith in ap (range_with_len a) none ∙ ap (λ (from : ℕ). range_with_len from m) same
-range_joined a (suc n) m =
-    let next : suc n + m ≡ suc (n + m) = omega arith in
-    let same : a + 1 + n ≡ a + suc n = omega arith in
-    ap (range_with_len a) next
-    ∙ ap (λ (rest : List ℕ). a ∷ rest) (range_joined (a + 1) n m ∙ ap (λ (from : ℕ). range_with_len (a + 1) n ++ range_with_len from m) same)
 
 none_pass : (p : ℕ → Bool) (a n : ℕ) → ((k : ℕ) → a ≤ k → k < a + n → p k ≡ false) → length (filter p (range_with_len a n)) ≡ 0
 none_pass p a zero none = refl
@@ -128,11 +118,6 @@ of_first number [] asked k within = absurd (omega (arith, within))
 of_first number (command ∷ commands) asked zero within = refl
 of_first number (command ∷ commands) asked (suc k) within = of_first number commands asked k (omega (arith, within))
 
-get_behind : {X : Type 0} (xs ys : List X) (k : ℕ) → slice_get (xs ++ ys) (length xs + k) ≡ slice_get ys k
-get_behind [] ys k = let same : 0 + k ≡ k = omega arith in ap (slice_get ys) same
-get_behind {X} (x ∷ xs) ys k =
-    let next : suc (length xs) + k ≡ suc (length xs + k) = omega arith in ap (slice_get (x ∷ xs ++ ys)) next ∙ get_behind xs ys k
-
 of_last : (groups : List Group) (next : Group) (number k : ℕ) → k < length next.commands
     → is_of_group (groups ++ next ∷ []) number (length (members_of groups) + k) ≡ (length groups == number)
 of_last groups next number k within =
@@ -167,7 +152,7 @@ left_parts groups next number ran =
     let all : ℕ → Bool = is_left (groups ++ next ∷ []) number ran in
     let many : ℕ = length (members_of groups) in
     ap (λ (n : ℕ). length (filter all (range_with_len 0 n))) (length_more groups next)
-    ∙ ap (λ (places : List ℕ). length (filter all places)) (range_joined 0 many (length next.commands))
+    ∙ ap (λ (places : List ℕ). length (filter all places)) (range_append 0 many (length next.commands))
     ∙ ap length (filter-append all (range_with_len 0 many) (range_with_len (0 + many) (length next.commands)))
     ∙ length-append (filter all (range_with_len 0 many)) (filter all (range_with_len (0 + many) (length next.commands)))
     ∙ ap (λ (places : List ℕ). length places + length (filter all (range_with_len (0 + many) (length next.commands))))

@@ -17,8 +17,8 @@ use Rattle.nim_message.specs.declared.order.ToWorker.TheVariants.{Single, Instal
 use Rattle.nim_message.specs.Orders.{Session, after_order, instance_group, is_current, patch_group, with_group, with_half, with_patch}
 use Rattle.nim_job.specs.declared.job.Job.{Job}
 use Rattle.nim_job.specs.Objects.{shapes_of}
-use Rattle.nim_order.proofs.Items.{get_front}
 use Rattle.nim_plan.specs.Legal.{AreLegal, IsLegalKind, IsLegalOrder}
+use Rattle.nim_base.proofs.Lists.{get_front}
 
 -- what slots hold before a command depends on the commands before it alone
 holds_front : (xs ys : List Command) (n : ℕ) → n ≤ length xs → (slot : Slot) → holds (xs ++ ys) n slot ≡ holds xs n slot

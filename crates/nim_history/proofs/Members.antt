@@ -24,12 +24,12 @@ abbrev kinds_of : List Command → List Kind
 kinds_of commands = map (λ (c : Command). c.kind) commands
 
 -- the commands of members are those of their groups
-of_group : (number : ℕ) (commands : List Command)
+pub of_group : (number : ℕ) (commands : List Command)
     → map (λ (m : Member). m.command) (map (λ command. record { group = number; command = command }) commands) ≡ commands
 of_group number [] = refl
 of_group number (command ∷ commands) = ap (λ (rest : List Command). command ∷ rest) (of_group number commands)
 
-members_commands : (number : ℕ) (groups : List Group) → map (λ (m : Member). m.command) (members_from number groups) ≡ commands_of groups
+pub members_commands : (number : ℕ) (groups : List Group) → map (λ (m : Member). m.command) (members_from number groups) ≡ commands_of groups
 members_commands number [] = refl
 members_commands number (group ∷ groups) =
     map-append (λ (m : Member). m.command) (map (λ command. record { group = number; command = command }) group.commands) (members_from (number + 1) groups)

@@ -2,7 +2,7 @@
 use Rattle.std.proofs.Common.{◌≡◌, ◌≢◌, ℕ, suc, zero, Bool, true, false, ℤ, List, [], ◌∷◌, length, ◌++◌, map, sym, Option, None, Some, All}
 use Rattle.std.specs.Prelude.{slice_get, if◌then◌else◌}
 use Rattle.std.specs.Option.{option_map_or}
-use Rattle.std.proofs.lemmas.List.Elements.{All-append, All-cons, All-nil}
+use Rattle.std.proofs.lemmas.List.Elements.{All-append, All-nil}
 use Rattle.nim_base.specs.declared.number.Slot.{Slot}
 use Rattle.nim_base.specs.declared.task.Func.{Func}
 use Rattle.nim_base.specs.Apply.{has_counts}
@@ -21,12 +21,9 @@ use Rattle.nim_history.specs.declared.out.Out.{Out}
 use Rattle.nim_history.specs.History.{Asked, WorkerState, left_in_group, outs_of, through_outs}
 use Rattle.nim_history.specs.Kept.{content_seen, contents_read, frame_of, held_version, is_single, own_outs, held_or_empty}
 use Rattle.nim_history.specs.Truth.{IsGoodOut, IsTrueHeld, ReadsRight, values_read}
+use Rattle.nim_base.proofs.Lists.{only_one}
 use Rattle.nim_history.proofs.TrueRuns.{run_true, some_then}
 use Rattle.nim_history.proofs.TrueSlots.{IsTrueTo}
-
--- a list of one
-only_one : {X : Type 0} (P : X → Type 0) (x : X) → P x → All P (x ∷ [])
-only_one P x is = All-cons P x [] is (All-nil P)
 
 -- a slot that isn't empty has a true version
 seen_right : (job : Job) (now : Slot → Option Held) (slot : Slot) (content : Content) → IsTrueTo job (now slot) content → content ≢ None

@@ -26,7 +26,7 @@ use Rattle.nim_job.specs.Whole.{is_whole_block, is_whole_task, is_whole}
 use Rattle.nim_job.proofs.Whole.{tasks_there, whole_blocks}
 
 -- as many tasks as the stages have
-length_forms : (vars : List Var) (stages : List Stage) → length (forms_of vars stages) ≡ sum_by (task_count vars) stages
+pub length_forms : (vars : List Var) (stages : List Stage) → length (forms_of vars stages) ≡ sum_by (task_count vars) stages
 length_forms vars [] = refl
 length_forms vars (stage ∷ stages) =
     omega (
@@ -37,16 +37,16 @@ length_forms vars (stage ∷ stages) =
       sum_by-cons (task_count vars) stage stages,
     )
 
-block_tasks_few : (vars : List Var) (block : Block) → is_whole_block vars block ≡ true → sum_by (task_count vars) block.stages ≤ 1024
+pub block_tasks_few : (vars : List Var) (block : Block) → is_whole_block vars block ≡ true → sum_by (task_count vars) block.stages ≤ 1024
 block_tasks_few vars block is = grind (arith, nat_tests)
 
-tasks_at : (vars : List Var) (blocks : List Block) (block : ℕ) → list_all (is_whole_block vars) blocks ≡ true
+pub tasks_at : (vars : List Var) (blocks : List Block) (block : ℕ) → list_all (is_whole_block vars) blocks ≡ true
     → sum_by (task_count vars) (option_map_or (λ (b : Block). b.stages) (slice_get blocks block) []) ≤ 1024
 tasks_at vars [] block all = omega arith
 tasks_at vars (b ∷ blocks) zero all = block_tasks_few vars b (and_parts (is_whole_block vars b) (list_all (is_whole_block vars) blocks) all).0
 tasks_at vars (b ∷ blocks) (suc block) all = tasks_at vars blocks block (and_parts (is_whole_block vars b) (list_all (is_whole_block vars) blocks) all).1
 
-block_few : (job : Job) (block : ℕ) (args : List ℤ) → is_whole job ≡ true → length (block_tasks_of job block args) ≤ 1024
+pub block_few : (job : Job) (block : ℕ) (args : List ℤ) → is_whole job ≡ true → length (block_tasks_of job block args) ≤ 1024
 block_few job block args whole =
     omega (
       arith,

@@ -12,6 +12,7 @@ use Rattle.nim_job.specs.declared.stmt.Stmt.{Stmt}
 use Rattle.nim_job.specs.Quiet.{is_quiet}
 use Rattle.nim_job.specs.Serial.{is_nil}
 use Rattle.nim_job.specs.Levels.{IsOpen, Spot, is_loop, is_settled, stmt_next, enter, is_path, moved_on, no_spot, spot_from, spot_of, todo_of}
+use Rattle.nim_base.proofs.Lists.{get_some}
 use Rattle.nim_job.proofs.Moves.{is_while, todo_taken, todo_turns}
 use Rattle.nim_job.proofs.Paths.{first_level, spot_last, stmt_within}
 
@@ -21,11 +22,6 @@ snoc_of : {X : Type 0} (xs : List X) → 0 < length xs → (front : List X) × (
 snoc_of [] some = absurd (omega (arith, some))
 snoc_of (x ∷ []) some = ([], x, refl)
 snoc_of (x ∷ y ∷ xs) some = let rest = snoc_of (y ∷ xs) (omega arith) in (x ∷ rest.0, rest.1, ap (λ zs. x ∷ zs) rest.2)
-
-get_some : {X : Type 0} (xs : List X) (i : ℕ) → i < length xs → (x : X) × (slice_get xs i ≡ Some x)
-get_some [] i within = absurd (omega (arith, within))
-get_some (x ∷ xs) zero within = (x, refl)
-get_some (x ∷ xs) (suc i) within = get_some xs i (omega (arith, within))
 
 -- where a path is settled something is to do: the next statement, or further turns of a loop, which ask nothing
 abbrev Front : List Stmt → List Level → Type 0

@@ -29,12 +29,6 @@ pub any_mapped : {X A : Type 0} (p : A → Bool) (f : X → A) (xs : List X) (i 
     → true ≡ list_any p (map f xs)
 any_mapped p f xs i d within passes = sym (list_any-map p f xs ∙ list_any_at (λ x. p (f x)) xs i d within passes)
 
-pub list_all_weaker : {X : Type 0} (p q : X → Bool) → ((x : X) → p x ≡ true → q x ≡ true) → (xs : List X) → list_all p xs ≡ true → list_all q xs ≡ true
-list_all_weaker p q weaker [] all = refl
-list_all_weaker p q weaker (x ∷ xs) all =
-    let parts = and_parts (p x) (list_all p xs) all in
-    and_from (q x) (list_all q xs) (weaker x parts.0) (list_all_weaker p q weaker xs parts.1)
-
 pub list_all-flat_map : {X A : Type 0} (p : A → Bool) (f : X → List A) (q : X → Bool) → ((x : X) → q x ≡ true → list_all p (f x) ≡ true) → (xs : List X)
     → list_all q xs ≡ true → list_all p (flat_map f xs) ≡ true
 list_all-flat_map p f q each [] all = refl

@@ -31,7 +31,7 @@ is_sound job stmt = fold-Stmt Bool (sound_stmt job) stmt
 abbrev Fine : Job → Stmt → Type 0
 Fine job stmt = (depth k behind : ℕ) → depth ≤ 16 → scan_of job stmt depth k ≡ Some behind → (is_sound job stmt ≡ true) × (depth + depth_of stmt ≤ 16)
 
-then_parts : (f : ℕ → Option ℕ) (o : Option ℕ) (behind : ℕ) → option_and_then f o ≡ Some behind → (n : ℕ) × (o ≡ Some n) × (f n ≡ Some behind)
+pub then_parts : (f : ℕ → Option ℕ) (o : Option ℕ) (behind : ℕ) → option_and_then f o ≡ Some behind → (n : ℕ) × (o ≡ Some n) × (f n ≡ Some behind)
 then_parts f None behind is = absurd cc
 then_parts f (Some n) behind is = (n, refl, is)
 
@@ -115,7 +115,7 @@ step job (Stmt-F.Output var) =
 every_fine : (job : Job) (stmt : Stmt) → Fine job stmt
 every_fine job = ind-Stmt (Fine job) (λ x y is. subst (λ (z : Stmt-F Stmt). Fine job (roll-Stmt z)) is (step job y))
 
-set_some : (o : Option ℕ) → is_some o ≡ true → (n : ℕ) × (o ≡ Some n)
+pub set_some : (o : Option ℕ) → is_some o ≡ true → (n : ℕ) × (o ≡ Some n)
 set_some None is = absurd cc
 set_some (Some n) is = (n, refl)
 

@@ -37,7 +37,7 @@ length-after_tasks shapes values (task ∷ tasks) =
     length-after_tasks shapes (after_task shapes values task) tasks
     ∙ length-written values task.writes (apply_of task.func task.params (map (value_at values) task.reads) (map (shape_at shapes) task.writes))
 
-length-parts : (v : Var) (init : Init) → has_init v.parts v.shape init ≡ true → length (initial_parts v init) ≡ v.parts
+pub length-parts : (v : Var) (init : Init) → has_init v.parts v.shape init ≡ true → length (initial_parts v init) ≡ v.parts
 length-parts v (Fill number) is = length-replicate v.parts (filled v.shape number)
 length-parts v Iota is = length-map-range_with_len (λ part. iota_of v.shape (pos (first_cell v.shape part))) 0 v.parts
 length-parts v (Loaded values) is = eqb-true (length values) v.parts (and_parts (length values == v.parts) (list_all (is_loaded v.shape) values) is).0

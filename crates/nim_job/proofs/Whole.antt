@@ -23,7 +23,8 @@ use Rattle.nim_job.specs.declared.job.Job.{Job}
 use Rattle.nim_job.specs.Objects.{parts_of, objects_of, first_object, shapes_of}
 use Rattle.nim_job.specs.Tasks.{part_of, object_meant, form_of, task_count, stage_forms, stages_of, task_with_args, block_forms_of, block_tasks_of}
 use Rattle.nim_job.specs.Whole.{is_var, are_vars, is_filled, is_place, is_ref, has_refs, are_distinct, has_distinct, is_stage, is_whole_block, is_checked, is_whole, is_object_within, is_whole_task}
-use Rattle.nim_job.proofs.Lists.{list_all_weaker, list_all-flat_map}
+use Rattle.nim_base.proofs.Lists.{all_weaker}
+use Rattle.nim_job.proofs.Lists.{list_all-flat_map}
 
 pub whole_checked : (job : Job) → is_whole job ≡ true → is_checked job ≡ true
 whole_checked job whole = (and_parts (is_checked job) (list_all is_filled job.vars) whole).0
@@ -68,7 +69,7 @@ ref_of vars each ref is =
 
 -- with `each` or not, the variables are there
 pub refs_of : (vars : List Var) (each : Bool) (refs : List Ref) → list_all (is_ref vars each) refs ≡ true → list_all (is_ref vars true) refs ≡ true
-refs_of vars each refs are = list_all_weaker (is_ref vars each) (is_ref vars true) (ref_of vars each) refs are
+refs_of vars each refs are = all_weaker (is_ref vars each) (is_ref vars true) (ref_of vars each) refs are
 
 stage_parts : (vars : List Var) (args : ℕ) (stage : Stage) → is_stage vars args stage ≡ true
     → (has_counts stage.func (length stage.params) (length stage.reads) (length stage.writes) ≡ true)
@@ -101,7 +102,7 @@ stages_at : (vars : List Var) (blocks : List Block) (block : ℕ) → list_all (
     → list_all (has_shape vars) (option_map_or (λ (b : Block). b.stages) (slice_get blocks block) []) ≡ true
 stages_at vars [] block all = refl
 stages_at vars (b ∷ blocks) zero all =
-    list_all_weaker (is_stage vars b.args) (has_shape vars) (stage_shape vars b.args) b.stages
+    all_weaker (is_stage vars b.args) (has_shape vars) (stage_shape vars b.args) b.stages
     (block_stages vars b (and_parts (is_whole_block vars b) (list_all (is_whole_block vars) blocks) all).0)
 stages_at vars (b ∷ blocks) (suc block) all = stages_at vars blocks block (and_parts (is_whole_block vars b) (list_all (is_whole_block vars) blocks) all).1
 
@@ -113,7 +114,7 @@ shape_refs vars stage is =
 -- the stages of a block name variables that are there
 pub stages_refs : (job : Job) (block : ℕ) → is_whole job ≡ true → list_all (has_refs job.vars) (stages_of job block) ≡ true
 stages_refs job block whole =
-    list_all_weaker (has_shape job.vars) (has_refs job.vars) (shape_refs job.vars) (stages_of job block)
+    all_weaker (has_shape job.vars) (has_refs job.vars) (shape_refs job.vars) (stages_of job block)
     (stages_at job.vars job.blocks block (whole_blocks job whole))
 
 -- the parts of a variable that is there
@@ -159,7 +160,7 @@ objects_there : (vars : List Var) (i : ℕ) (refs : List Ref) → list_all is_va
     → list_all (is_object_within (objects_of vars)) (map (object_meant vars i) refs) ≡ true
 objects_there vars i refs all are =
     list_all-map (is_object_within (objects_of vars)) (object_meant vars i) refs
-    ∙ list_all_weaker (is_ref vars true) (λ ref. is_object_within (objects_of vars) (object_meant vars i ref))
+    ∙ all_weaker (is_ref vars true) (λ ref. is_object_within (objects_of vars) (object_meant vars i ref))
     (λ ref is. object_there vars i ref all is) refs are
 
 task_there : (vars : List Var) (args : List ℤ) (stage : Stage) (i : ℕ) → list_all is_var vars ≡ true → HasShape vars stage
@@ -182,7 +183,7 @@ tasks_there job block args whole =
     list_all-map (is_whole_task (objects_of job.vars)) (task_with_args args) (block_forms_of job block)
     ∙ list_all-flat_map test (stage_forms job.vars) (has_shape job.vars)
     (λ stage is. list_all-map test (form_of job.vars stage) (range_with_len 0 (task_count job.vars stage))
-    ∙ list_all_weaker (λ i. are_distinct (map (object_meant job.vars i) stage.writes)) (λ i. test (form_of job.vars stage i))
+    ∙ all_weaker (λ i. are_distinct (map (object_meant job.vars i) stage.writes)) (λ i. test (form_of job.vars stage i))
     (λ i. task_there job.vars args stage i all (shape_parts job.vars stage is)) (range_with_len 0 (task_count job.vars stage))
     (shape_parts job.vars stage is).distinct)
     (stages_of job block) (stages_at job.vars job.blocks block (whole_blocks job whole))

@@ -11,7 +11,7 @@ use Rattle.nim_base.specs.declared.task.Task.{Task}
 use Rattle.nim_command.specs.declared.template.WorkerTemplate.{WorkerTemplate}
 use Rattle.nim_command.specs.Waits.{Group}
 use Rattle.nim_message.specs.Orders.{session_of}
-use Rattle.nim_order.proofs.Items.{any_of_filter, any_of_range}
+use Rattle.nim_order.proofs.Items.{any_of_filter}
 use Rattle.nim_job.specs.declared.job.Job.{Job}
 use Rattle.nim_place.specs.Directed.{Directed, orders_to}
 use Rattle.nim_place.specs.Extends.{worker_of}
@@ -28,6 +28,7 @@ use Rattle.nim_history.specs.History.{Asked, asked_at}
 use Rattle.nim_history.proofs.InTurn.{asked_still}
 use Rattle.nim_lockstep.specs.declared.ran.Ran.{Ran}
 use Rattle.nim_lockstep.specs.InStep.{was_run}
+use Rattle.nim_base.proofs.Lists.{any_of_range}
 use Rattle.nim_lockstep.proofs.Apart.{all_live, apart_for}
 use Rattle.nim_lockstep.proofs.Course.{KeepsTo}
 use Rattle.nim_lockstep.proofs.Flights.{more_awaited, reused_awaited, single_awaited}

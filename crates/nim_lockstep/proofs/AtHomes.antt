@@ -23,9 +23,9 @@ use Rattle.nim_course.specs.Controller.{Controller}
 use Rattle.nim_place.specs.Directed.{Directed, orders_to}
 use Rattle.nim_course.specs.Leads.{AreLeading, AreLeadingFor, Leads, is_key_from}
 use Rattle.nim_place.specs.TaskRuns.{RunsAtHome}
-use Rattle.nim_course.proofs.Homes.{live_below}
 use Rattle.nim_lockstep.specs.Cluster.{ClusterState}
 use Rattle.nim_lockstep.specs.InStep.{AreAtHomes}
+use Rattle.nim_place.proofs.LiveOnce.{live_within}
 use Rattle.nim_lockstep.proofs.UnderWay.{BeginOnce, IsOnCourse}
 
 -- those of one worker are at its tasks' homes
@@ -61,7 +61,7 @@ homes_for : (job : Job) (c : Controller) (given : List Directed) (workers : ℕ)
 homes_for job c given workers Begin are leading once = λ worker there.
     let Home : Command → Type 0 = λ command. RunsAtHome job c.place c.live worker command.kind in
     let below : worker.0 < workers =
-    omega (arith, live_below c.live worker there, ap (λ (flags : List Bool). length flags) are, length-replicate workers true) in
+    omega (arith, live_within c.live worker there, ap (λ (flags : List Bool). length flags) are, length-replicate workers true) in
     subst (λ (os : List ToWorker). All Home (commands_of (session_of os).groups)) (sym (once worker.0 below)) (All-nil Home)
 homes_for job c given workers Idle are leading once =
     leading_homes job c.place c.live c.epoch c.position (is_key_from c.epoch c.instance) given c.versions c.decisions leading

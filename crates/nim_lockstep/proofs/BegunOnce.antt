@@ -16,7 +16,6 @@ use Rattle.nim_place.specs.Extends.{is_live, longer, worker_of}
 use Rattle.nim_place.specs.Orders.{resets_of}
 use Rattle.nim_place.specs.Versions.{latest_of}
 use Rattle.nim_place.proofs.Directed.{more_directed, to_append}
-use Rattle.nim_place.proofs.Pairs.{each_append}
 use Rattle.nim_template.specs.Given.{instance_with}
 use Rattle.nim_template.specs.Instance.{half_of}
 use Rattle.nim_patch.specs.Patches.{after_copies}
@@ -28,6 +27,7 @@ use Rattle.nim_course.specs.Moves.{orders_asked, orders_of_block, orders_with}
 use Rattle.nim_course.specs.OrdersGiven.{epoch_orders, first_commands, instance_orders, single_for}
 use Rattle.nim_course.specs.PutLists.{is_begin}
 use Rattle.nim_history.specs.InTurn.{is_reset}
+use Rattle.nim_base.proofs.Lists.{each_append}
 use Rattle.nim_lockstep.proofs.Reused.{before_each, copies_for, order_last, orders_before, reused_to, template_for}
 use Rattle.nim_lockstep.proofs.Singles.{asked_each, each_to, instance_each, singles_each}
 use Rattle.nim_lockstep.proofs.UnderWay.{BeginOnce}

@@ -20,7 +20,7 @@ use Rattle.nim_course.specs.Moves.{IsTurned, after_moves, asked, after_pending, 
 use Rattle.nim_course.specs.OrdersGiven.{epoch_orders}
 use Rattle.nim_course.specs.PutLists.{is_begin}
 use Rattle.nim_course.specs.Reports.{after_report, flight_after, flight_through, reported, value_reported}
-use Rattle.nim_course.proofs.Homes.{live_below}
+use Rattle.nim_place.proofs.LiveOnce.{live_within}
 use Rattle.nim_lockstep.proofs.BegunOnce.{HasBegun, begun_once, epoch_begins, more_begun, move_plain, once_begun}
 use Rattle.nim_lockstep.proofs.UnderWay.{BeginOnce}
 
@@ -74,7 +74,7 @@ once_moved : (c : Controller) (given : List Directed) (pending : Pending) (numbe
     → BeginOnce pending (orders_to number given) → BeginOnce (after_pending c pending).pending (orders_to number (given ++ orders_with c pending))
 once_moved c given pending number is there once = either (is_begin pending) refl where
   below : number < length c.live
-  below = live_below c.live (worker_of number) there
+  below = live_within c.live (worker_of number) there
 
   either : (b : Bool) → is_begin pending ≡ b → BeginOnce (after_pending c pending).pending (orders_to number (given ++ orders_with c pending))
   either true first = begins pending first once where

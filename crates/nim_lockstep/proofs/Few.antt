@@ -21,13 +21,13 @@ use Rattle.nim_lockstep.specs.Cluster.{ClusterState, Node, new_node, unbegun}
 use Rattle.nim_lockstep.specs.Events.{HasTurned, IsPassed, IsStep, noted, order_sent, passed}
 use Rattle.nim_lockstep.specs.Few.{HasFewDone, EventsAreFew, commands_to, done_in}
 use Rattle.nim_lockstep.specs.InStep.{AreSteps, IsReached}
+use Rattle.nim_base.proofs.Lists.{All_behind}
 use Rattle.nim_lockstep.proofs.FewEvents.{Takes, event_takes}
 use Rattle.nim_lockstep.proofs.FewLists.{sum_replicate, sums_le}
 use Rattle.nim_lockstep.proofs.FewNodes.{done_at, dones, load, loads, new_load}
 use Rattle.nim_lockstep.proofs.FewRan.{few_ran, more_commands}
 use Rattle.nim_lockstep.proofs.FewSent.{Adds, adds_all, adds_order}
 use Rattle.nim_lockstep.proofs.Keeping.{turned_to}
-use Rattle.nim_lockstep.proofs.NodesLists.{All_behind}
 use Rattle.nim_lockstep.proofs.NodesOnce.{NoReset, groups_grow, once_of}
 use Rattle.nim_lockstep.proofs.UnderWay.{BeginOnce, IsUnderWay, NodesGoOn}
 use Rattle.nim_lockstep.proofs.UnderWayGoes.{enabled_noted, noted_goes, step_goes, turn_goes, unbegun_goes}

@@ -12,7 +12,7 @@ use Rattle.std.proofs.lemmas.Map.Keys.{IsDistinct-push}
 use Rattle.std.proofs.lemmas.Map.Made.{length-le_from_is_member}
 use Rattle.std.proofs.lemmas.Option.{get_or_from_slice_get, slice_get_within}
 use Rattle.nim_order.specs.Progress.{is_one_of}
-use Rattle.nim_order.proofs.Items.{any_of_range}
+use Rattle.nim_base.proofs.Lists.{any_of_range}
 
 -- ---- sums
 

@@ -1,14 +1,13 @@
 -- A worker completes no more commands than it is asked for.
-use Rattle.std.proofs.Common.{◌≡◌, ℕ, ◌+◌, ◌≤◌, ◌<◌, Bool, true, false, List, [], ◌∷◌, ◌++◌, length, map, refl, ap, sym, subst, ◌∙◌, arith, Option, None, Some, inl, inr}
+use Rattle.std.proofs.Common.{◌≡◌, ℕ, ◌+◌, ◌≤◌, ◌<◌, Bool, true, false, List, [], ◌∷◌, ◌++◌, length, refl, ap, sym, subst, ◌∙◌, arith, Option, None, Some, inl, inr}
 use Rattle.std.specs.Prelude.{◌==◌, nat_lt, if◌then◌else◌}
 use Rattle.std.specs.FinMap as finite
 use Rattle.std.specs.List.{IsDistinct, fold}
 use Rattle.std.specs.Option.{option_map_or}
 use Rattle.std.proofs.lemmas.Bool.{both_ways, eqb-true, or_cases}
-use Rattle.std.proofs.lemmas.List.{length-append, length-map}
+use Rattle.std.proofs.lemmas.List.{length-append}
 use Rattle.std.proofs.lemmas.List.Concat.{flat_map-append}
-use Rattle.nim_command.specs.declared.command.Command.{Command}
-use Rattle.nim_command.specs.Waits.{Group, Member, commands_of, members_from}
+use Rattle.nim_command.specs.Waits.{Group, commands_of}
 use Rattle.nim_message.specs.declared.frame.Data.{Data}
 use Rattle.nim_message.specs.declared.order.ToWorker.{ToWorker}
 use Rattle.nim_message.specs.declared.order.ToWorker.TheVariants.{Reset}
@@ -17,23 +16,12 @@ use Rattle.nim_order.proofs.Orders.{one_more}
 use Rattle.nim_store.specs.Keys.{key_of}
 use Rattle.nim_history.specs.History.{Asked, Completed, Framed, Happening, IsHistory, MayAllHappen, MayComplete, MayHappen, Ordered, WorkerState, after_asked, after_happening, asked_at, completed, framed, has_frame, new_state, ordered, state_of}
 use Rattle.nim_history.specs.InTurn.{is_reset}
+use Rattle.nim_plan.proofs.Listed.{length_members}
 use Rattle.nim_history.proofs.Ordered.{order_grows, ordered_is}
 use Rattle.nim_worker.proofs.Released.{within_all}
 use Rattle.nim_lockstep.proofs.FewLists.{differ_more, few_below, is_same_number}
 
 -- ---- how many commands groups have
-
-length_members : (number : ℕ) (groups : List Group) → length (members_from number groups) ≡ length (commands_of groups)
-length_members number [] = refl
-length_members number (group ∷ groups) =
-    let mark : Command → Member = λ command. record { group = number; command = command } in
-    omega (
-      arith,
-      length-append (map mark group.commands) (members_from (number + 1) groups),
-      length-map {B = Member} group.commands mark,
-      length_members (number + 1) groups,
-      length-append group.commands (commands_of groups),
-    )
 
 -- groups that come behind take none away
 pub more_commands : (groups more : List Group) → length (commands_of groups) ≤ length (commands_of (groups ++ more))
@@ -79,7 +67,7 @@ ran_more groups ran place below waiting are = record {
 abbrev IsAsked : WorkerState → Type 0
 IsAsked state = AreAsked state.session.groups state.ran
 
-reset_ran : (state : WorkerState) (order : ToWorker) → is_reset order ≡ true → (ordered state order).ran ≡ []
+pub reset_ran : (state : WorkerState) (order : ToWorker) → is_reset order ≡ true → (ordered state order).ran ≡ []
 reset_ran state (Reset epoch worker workers shapes) is = refl
 reset_ran state order is = absurd (both_ways false refl is)
 

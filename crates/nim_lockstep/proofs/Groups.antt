@@ -14,10 +14,9 @@ use Rattle.nim_command.specs.Waits.{Group, Member, members_from, members_of, sin
 use Rattle.nim_message.specs.declared.order.ToWorker.{ToWorker}
 use Rattle.nim_message.specs.declared.order.ToWorker.TheVariants.{Single, InstallTemplate, Instantiate, InstallPatch, RunPatch, Reset, Stop}
 use Rattle.nim_message.specs.Orders.{Session, after_order, instance_group, is_current, patch_group, with_group, with_half, with_patch}
-use Rattle.nim_order.proofs.Items.{get_front}
 use Rattle.nim_order.proofs.Longer.{members_append}
-use Rattle.nim_place.proofs.Pairs.{each_append}
 use Rattle.nim_history.specs.History.{Asked, asked_at}
+use Rattle.nim_base.proofs.Lists.{each_append, get_behind, get_front}
 use Rattle.nim_history.proofs.InTurn.{asked_still}
 use Rattle.nim_history.proofs.Left.{asked_is}
 
@@ -142,10 +141,6 @@ pub record IsNew (news : List Group) (asked : Asked) : Type 0 where
   pub there : slice_get news behind ≡ Some asked.group
   pub at : ℕ
   pub command : slice_get asked.group.commands at ≡ Some asked.command
-
-pub get_behind : {X : Type 0} (xs ys : List X) (k : ℕ) → slice_get (xs ++ ys) (length xs + k) ≡ slice_get ys k
-get_behind [] ys k = let same : 0 + k ≡ k = omega arith in ap (slice_get ys) same
-get_behind (x ∷ xs) ys k = let same : suc (length xs) + k ≡ suc (length xs + k) = omega arith in ap (slice_get (x ∷ xs ++ ys)) same ∙ get_behind xs ys k
 
 -- the member that is asked for
 asked_member : (groups : List Group) (o : Option Member) (asked : Asked)

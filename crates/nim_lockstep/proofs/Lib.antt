@@ -43,7 +43,7 @@ mod NodesBegin
 -- Of an instance that is through all Runs were performed, and more that is asked for behind it changes nothing.
 mod NodesThrough
 -- What a worker has come to once it completed commands in turn, and what it gave by that, which is true.
-mod NodesOuts
+pub mod NodesOuts
 -- Each Run that a worker completed stands in the trace, whatever happens next.
 mod NodesRan
 -- A worker takes its next order, and is under way.
@@ -65,7 +65,7 @@ mod NodesGoOn
 -- No task stands twice in the trace: a batch runs tasks that weren't run, each once.
 mod Once
 -- Orders and moving events leave the job, how it is run, the controller and what it gave as they are.
-mod Keeping
+pub mod Keeping
 -- What a controller and its orders keep, and what the workers keep, make a cluster under way.
 mod Planned
 -- A new cluster is under way, and so it is behind each event.
@@ -81,7 +81,7 @@ mod GoesOn
 -- Sums and counts of lists: one item in another's place, item by item, and numbers that differ.
 mod FewLists
 -- A worker completes no more commands than it is asked for.
-mod FewRan
+pub mod FewRan
 -- A batch that is finished gives at most two messages for each of its commands.
 mod FewOuts
 -- Each event at a worker uses up something that waits there, or completes a command.

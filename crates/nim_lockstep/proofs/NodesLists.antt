@@ -32,10 +32,6 @@ pub All_front : {X : Type 0} (P : X → Type 0) (xs ys : List X) → All P (xs +
 All_front P [] ys all = All-nil P
 All_front P (x ∷ xs) ys all = All-cons P x xs (All-head P x (xs ++ ys) all) (All_front P xs ys (All-tail P x (xs ++ ys) all))
 
-pub All_behind : {X : Type 0} (P : X → Type 0) (xs ys : List X) → All P (xs ++ ys) → All P ys
-All_behind P [] ys all = all
-All_behind P (x ∷ xs) ys all = All_behind P xs ys (All-tail P x (xs ++ ys) all)
-
 -- an item, or what stands for one that isn't there
 pub All_at : {X : Type 0} (P : X → Type 0) (xs : List X) (i : ℕ) (d : X) → All P xs → P d → P (get_or xs i d)
 All_at P xs i d all default = elim (cases_lt i (length xs)) [

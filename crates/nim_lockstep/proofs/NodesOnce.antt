@@ -16,9 +16,9 @@ use Rattle.nim_course.specs.declared.pending.Pending.TheVariants.{Begin}
 use Rattle.nim_place.specs.TaskRuns.{position_run}
 use Rattle.nim_history.specs.History.{Asked, asked_at}
 use Rattle.nim_history.specs.InTurn.{is_reset}
+use Rattle.nim_base.proofs.Lists.{All_behind}
 use Rattle.nim_history.proofs.InTurn.{asked_still}
 use Rattle.nim_history.proofs.Ordered.{order_grows}
-use Rattle.nim_lockstep.proofs.NodesLists.{All_behind}
 use Rattle.nim_lockstep.proofs.UnderWay.{BeginOnce}
 
 -- an order that begins no epoch

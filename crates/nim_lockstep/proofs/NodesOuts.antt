@@ -6,7 +6,7 @@ use Rattle.std.specs.Option.{option_map_or}
 use Rattle.std.proofs.lemmas.Bool.{both_ways, eq-eqb, or_cases, or_left, or_right}
 use Rattle.std.proofs.lemmas.List.{append-nil, append_assoc, drop_at}
 use Rattle.std.proofs.lemmas.List.Concat.{flat_map-append}
-use Rattle.std.proofs.lemmas.List.Elements.{All-append, All-cons, All-nil}
+use Rattle.std.proofs.lemmas.List.Elements.{All-append, All-nil}
 use Rattle.std.proofs.lemmas.List.Folds.{list_any-append}
 use Rattle.nim_base.specs.declared.number.Slot.{Slot}
 use Rattle.nim_command.specs.declared.command.Kind.{Kind}
@@ -29,6 +29,7 @@ use Rattle.nim_worker.specs.Stands.{after_completions, outs_at}
 use Rattle.nim_worker.proofs.Finished.{gave_one}
 use Rattle.nim_lockstep.specs.declared.ran.Ran.{Ran as ran_type}
 use Rattle.nim_lockstep.specs.InStep.{was_run}
+use Rattle.nim_base.proofs.Lists.{only_one}
 use Rattle.nim_lockstep.proofs.NodesAt.{IsPast}
 use Rattle.nim_lockstep.proofs.NodesOnce.{position_in}
 use Rattle.nim_lockstep.proofs.NodesThrough.{AllRun, through_of}
@@ -48,7 +49,7 @@ finish_orders happened places =
 pub finish_state : (happened : List Happening) (places : List ℕ) → state_of (happened ++ map Completed places) ≡ after_completions (state_of happened) places
 finish_state happened places = history_goes_on.state happened (map Completed places)
 
-ran_one : (state : WorkerState) (place : ℕ) → MayComplete state place → (completed state place).ran ≡ state.ran ++ place ∷ []
+pub ran_one : (state : WorkerState) (place : ℕ) → MayComplete state place → (completed state place).ran ≡ state.ran ++ place ∷ []
 ran_one state place may = either (asked_at state.session.groups place) may.frame where
   either : (o : Option Asked) → option_map_or (has_frame state) o false ≡ true
       → (option_map_or (after_asked state place) o state).ran ≡ state.ran ++ place ∷ []
@@ -97,9 +98,6 @@ given_by state places =
 abbrev pub IsToldOut : List ToWorker → List ran_type → Out → Type 0
 IsToldOut sent trace (Out.Report report) = IsTold sent trace report
 IsToldOut sent trace (Out.Data peer frame) = Unit {0}
-
-only_one : {X : Type 0} (P : X → Type 0) (x : X) → P x → All P (x ∷ [])
-only_one P x is = All-cons P x [] is (All-nil P)
 
 one_if : {X : Type 0} (P : X → Type 0) (x : X) → P x → (b : Bool) → All P (if b then x ∷ [] else [])
 one_if P x is true = only_one P x is

@@ -9,7 +9,6 @@ use Rattle.std.proofs.lemmas.List.Folds.{list_any-append}
 use Rattle.nim_command.specs.Waits.{Group}
 use Rattle.nim_message.specs.declared.frame.Data.{Data}
 use Rattle.nim_message.specs.declared.order.ToWorker.{ToWorker}
-use Rattle.nim_message.specs.declared.order.ToWorker.TheVariants.{Reset}
 use Rattle.nim_message.specs.Orders.{Session}
 use Rattle.nim_order.specs.Progress.{is_one_of}
 use Rattle.nim_place.specs.TaskRuns.{position_run}
@@ -20,6 +19,7 @@ use Rattle.nim_history.proofs.InTurn.{asked_still, session_stays}
 use Rattle.nim_history.proofs.Ordered.{order_grows, ordered_is}
 use Rattle.nim_lockstep.specs.declared.ran.Ran.{Ran as ran_type}
 use Rattle.nim_lockstep.specs.Cluster.{Node}
+use Rattle.nim_lockstep.proofs.FewRan.{reset_ran}
 use Rattle.nim_lockstep.proofs.NodesOnce.{position_in}
 use Rattle.nim_lockstep.proofs.NodesOuts.{among_later, among_more, finish_state, more_run, ran_after, run_behind}
 use Rattle.nim_lockstep.proofs.NodesThrough.{AllRun}
@@ -30,11 +30,6 @@ use Rattle.nim_lockstep.proofs.UnderWay.{AreTraced, IsThroughOf, position_at, po
 -- at each place that is complete a command is asked for
 abbrev AreFound : WorkerState → Type 0
 AreFound state = (place : ℕ) → is_one_of state.ran place ≡ true → is_some (asked_at state.session.groups place) ≡ true
-
--- none is complete behind a Reset
-reset_ran : (state : WorkerState) (order : ToWorker) → is_reset order ≡ true → (ordered state order).ran ≡ []
-reset_ran state (Reset epoch number workers shapes) is = refl
-reset_ran state order is = absurd (both_ways false refl is)
 
 asked_longer : (groups more : List Group) (place : ℕ) → is_some (asked_at groups place) ≡ true → is_some (asked_at (groups ++ more) place) ≡ true
 asked_longer groups more place = either (asked_at groups place) refl where

@@ -4,8 +4,8 @@ use Rattle.std.specs.Prelude.{◌==◌, IsSomeAnd, slice_get}
 use Rattle.std.specs.List.{filter, fold}
 use Rattle.std.specs.Option.{option_map}
 use Rattle.std.proofs.lemmas.Bool.{both_ways, eq-eqb, eqb-true}
-use Rattle.std.proofs.lemmas.List.{append-nil, append_assoc, map-append}
-use Rattle.std.proofs.lemmas.List.Elements.{All-weaker, filter-append}
+use Rattle.std.proofs.lemmas.List.{append-nil, append_assoc}
+use Rattle.std.proofs.lemmas.List.Elements.{All-weaker}
 use Rattle.std.proofs.lemmas.Option.{slice_get_within}
 use Rattle.nim_message.specs.declared.order.ToWorker.{ToWorker}
 use Rattle.nim_job.specs.declared.job.Job.{Job}
@@ -15,6 +15,7 @@ use Rattle.nim_history.specs.History.{orders_in}
 use Rattle.nim_lockstep.specs.declared.ran.Ran.{Ran}
 use Rattle.nim_lockstep.specs.Cluster.{ClusterState, Node}
 use Rattle.nim_lockstep.specs.Events.{HasTurned, order_sent}
+use Rattle.nim_place.proofs.Directed.{to_append}
 use Rattle.nim_lockstep.proofs.NodesAt.{at_node_is, changed, changed_other, changed_same, length_changed}
 use Rattle.nim_lockstep.proofs.NodesLists.{IsMade, made}
 use Rattle.nim_lockstep.proofs.NodesThrough.{told_front}
@@ -69,12 +70,6 @@ get_sent (given ∷ orders) nodes number = get_sent orders (sent nodes given) nu
       (changed_other (with_more (given.1 ∷ [])) given.0.0 number nodes
       (λ same. both_ways (given.0.0 == number) is (eq-eqb given.0.0 number (sym same))))
 
--- what was given to a worker
-pub orders_to_more : (number : ℕ) (put more : List Directed) → orders_to number (put ++ more) ≡ orders_to number put ++ orders_to number more
-orders_to_more number put more =
-    ap (map (λ (d : Directed). d.1)) (filter-append (λ (d : Directed). d.0.0 == number) put more)
-    ∙ map-append (λ (d : Directed). d.1) (filter (λ (d : Directed). d.0.0 == number) put) (filter (λ (d : Directed). d.0.0 == number) more)
-
 -- a worker that more orders wait for is under way
 more_way : (job : Job) (workers number : ℕ) (trace : List Ran) (pending : Pending) (orders more : List ToWorker) (node : Node)
     → BeginOnce pending (orders ++ more) → IsNodeUnderWay job workers number trace orders node
@@ -107,7 +102,7 @@ turned before after turn under once = subst AreUnderWay (sym (turned_is before a
       → IsNodeUnderWay before.job before.setup.workers number before.trace (orders_to number (before.put ++ turn.orders)) node
   each number node m =
       let more : List ToWorker = orders_to number turn.orders in
-      let all : orders_to number (before.put ++ turn.orders) ≡ orders_to number before.put ++ more = orders_to_more number before.put turn.orders in
+      let all : orders_to number (before.put ++ turn.orders) ≡ orders_to number before.put ++ more = to_append number before.put turn.orders in
       let within : number < before.setup.workers = omega (arith, slice_get_within before.nodes number m.from m.there, under.nodes) in
       subst (IsNodeUnderWay before.job before.setup.workers number before.trace (orders_to number (before.put ++ turn.orders))) m.is
       (subst (λ (orders : List ToWorker). IsNodeUnderWay before.job before.setup.workers number before.trace orders (with_more more m.from)) (sym all)

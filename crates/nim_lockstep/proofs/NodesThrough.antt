@@ -14,7 +14,6 @@ use Rattle.nim_message.specs.declared.report.FromWorker.{FromWorker}
 use Rattle.nim_message.specs.declared.report.FromWorker.TheVariants.{Ran, Through}
 use Rattle.nim_message.specs.Orders.{Session, after_order, no_session, session_of}
 use Rattle.nim_order.specs.Progress.{is_one_of}
-use Rattle.nim_order.proofs.Items.{get_front}
 use Rattle.nim_order.proofs.Longer.{members_append}
 use Rattle.nim_course.specs.declared.pending.Pending.{Pending}
 use Rattle.nim_place.specs.TaskRuns.{position_run}
@@ -23,7 +22,7 @@ use Rattle.nim_history.proofs.InTurn.{asked_still}
 use Rattle.nim_history.proofs.Left.{asked_is}
 use Rattle.nim_lockstep.specs.declared.ran.Ran.{Ran as ran_type}
 use Rattle.nim_lockstep.specs.InStep.{was_run}
-use Rattle.nim_lockstep.proofs.NodesLists.{All_behind}
+use Rattle.nim_base.proofs.Lists.{All_behind, get_front}
 use Rattle.nim_lockstep.proofs.NodesOnce.{NoReset, groups_grow, once_of, position_in}
 use Rattle.nim_lockstep.proofs.UnderWay.{BeginOnce, IsThrough, IsThroughOf, IsTold, is_from_instance}
 

@@ -11,11 +11,12 @@ use Rattle.nim_command.specs.declared.command.Kind.{Kind}
 use Rattle.nim_command.specs.declared.command.Kind.TheVariants.{Run}
 use Rattle.nim_order.specs.Progress.{is_one_of}
 use Rattle.nim_place.specs.TaskRuns.{position_run}
-use Rattle.nim_history.specs.History.{Asked, MayComplete, WorkerState, after_asked, asked_at, completed, has_frame, state_of}
+use Rattle.nim_history.specs.History.{Asked, WorkerState, asked_at, completed, state_of}
 use Rattle.nim_history.specs.InTurn.{MayAllComplete}
 use Rattle.nim_lockstep.specs.declared.ran.Ran.{Ran as ran_type}
 use Rattle.nim_lockstep.specs.Cluster.{Batched, ClusterState, Node}
 use Rattle.nim_lockstep.specs.InStep.{AreOnce, is_same}
+use Rattle.nim_lockstep.proofs.NodesOuts.{ran_one}
 use Rattle.nim_lockstep.proofs.UnderWay.{AreApart, IsBatchRight, IsDone, IsDoneBy, IsUnderWay, NodesGoOn, position_at, positions_of}
 
 -- ---- places that may be completed in turn
@@ -30,17 +31,11 @@ record AreUndone (ran places : List ℕ) : Type 0 where
   apart : (place : ℕ) → is_one_of places place ≡ true → is_one_of ran place ≡ false
   single : AreSingle places
 
-completed_ran : (state : WorkerState) (place : ℕ) → MayComplete state place → (completed state place).ran ≡ state.ran ++ place ∷ []
-completed_ran state place may = either (asked_at state.session.groups place) may.frame where
-  either : (o : Option Asked) → option_map_or (has_frame state) o false ≡ true → (option_map_or (after_asked state place) o state).ran ≡ state.ran ++ place ∷ []
-  either None there = absurd (both_ways false refl there)
-  either (Some asked) there = refl
-
 new_places : (state : WorkerState) (places : List ℕ) → MayAllComplete state places → AreUndone state.ran places
 new_places state [] may = record { apart = λ place is. absurd (both_ways false refl is); single = tt }
 new_places state (place ∷ places) may =
     let rest : AreUndone (state.ran ++ place ∷ []) places =
-    subst (λ (ran : List ℕ). AreUndone ran places) (completed_ran state place may.0) (new_places (completed state place) places may.1) in
+    subst (λ (ran : List ℕ). AreUndone ran places) (ran_one state place may.0) (new_places (completed state place) places may.1) in
     let later : (other : ℕ) → is_one_of places other ≡ true → (is_one_of state.ran other ≡ false) × ((place == other) ≡ false) =
     λ other there.
     let parts = or_parts (is_one_of state.ran other) (is_one_of (place ∷ []) other)

@@ -1,12 +1,12 @@
 -- Where the tasks stand that were given so far: each at an old place of a worker's session.
-use Rattle.std.proofs.Common.{◌≡◌, ℕ, ◌+◌, ◌-◌, ◌<◌, Bool, true, false, List, [], ◌∷◌, ◌++◌, length, map, replicate, refl, ap, ap₂, sym, subst, ◌∙◌, Option, None, Some, arith}
+use Rattle.std.proofs.Common.{◌≡◌, ℕ, ◌+◌, ◌-◌, ◌<◌, Bool, true, false, List, [], ◌∷◌, length, replicate, refl, ap, sym, subst, ◌∙◌, Option, None, Some, arith}
 use Rattle.std.specs.Prelude.{slice_get}
 use Rattle.std.specs.Option.{option_map, option_map_or}
 use Rattle.std.proofs.lemmas.Bool.{both_ways}
-use Rattle.std.proofs.lemmas.List.{length-replicate, map-append}
+use Rattle.std.proofs.lemmas.List.{length-replicate}
 use Rattle.std.proofs.lemmas.Option.{slice_get-map}
 use Rattle.nim_command.specs.declared.command.Command.{Command}
-use Rattle.nim_command.specs.Waits.{Group, Member, commands_of, members_from, members_of}
+use Rattle.nim_command.specs.Waits.{Group, Member, commands_of, members_of}
 use Rattle.nim_message.specs.Orders.{session_of}
 use Rattle.nim_job.specs.declared.job.Job.{Job}
 use Rattle.nim_place.specs.Directed.{Directed, orders_to}
@@ -17,25 +17,15 @@ use Rattle.nim_course.specs.declared.pending.Pending.TheVariants.{Begin, Idle, B
 use Rattle.nim_course.specs.Controller.{Controller}
 use Rattle.nim_course.specs.Leads.{AreLeading, AreLeadingFor, is_key_from}
 use Rattle.nim_course.specs.PutLists.{is_begin}
-use Rattle.nim_course.proofs.Homes.{live_below}
 use Rattle.nim_history.specs.History.{Asked, asked_at}
+use Rattle.nim_place.proofs.LiveOnce.{live_within}
 use Rattle.nim_history.proofs.Left.{asked_is}
+use Rattle.nim_history.proofs.Members.{members_commands, of_group}
 use Rattle.nim_lockstep.proofs.Apart.{asked_numbers}
 use Rattle.nim_lockstep.proofs.OnePlace.{IsRunBy, numbers_at, position_run_by, run_in, within_runs}
 use Rattle.nim_lockstep.proofs.UnderWay.{run_placed}
 
 -- ---- a command in the list of all commands stands at its place
-
-commands_in : (number : ℕ) (commands : List Command)
-    → map (λ (m : Member). m.command) (map (λ command. record { group = number; command = command }) commands) ≡ commands
-commands_in number [] = refl
-commands_in number (command ∷ commands) = ap (λ (rest : List Command). command ∷ rest) (commands_in number commands)
-
-members_commands : (number : ℕ) (groups : List Group) → map (λ (m : Member). m.command) (members_from number groups) ≡ commands_of groups
-members_commands number [] = refl
-members_commands number (group ∷ groups) =
-    map-append (λ (m : Member). m.command) (map (λ command. record { group = number; command = command }) group.commands) (members_from (number + 1) groups)
-    ∙ ap₂ (λ (front rest : List Command). front ++ rest) (commands_in number group.commands) (members_commands (number + 1) groups)
 
 -- a worker is asked at a place for a command that runs this position
 pub record RunsThere (groups : List Group) (place p : ℕ) : Type 0 where
@@ -117,7 +107,7 @@ given_to job c given workers p are epoch leading below =
       either by true there =
           record {
             number = by.worker.0;
-            below = omega (arith, live_below c.live by.worker there, ap (λ (flags : List Bool). length flags) are, length-replicate workers true);
+            below = omega (arith, live_within c.live by.worker there, ap (λ (flags : List Bool). length flags) are, length-replicate workers true);
             place = by.place;
             runs = numbers_asked (session_of (orders_to by.worker.0 given)).groups by.place p
                 (subst (λ (cs : List Command). numbers_at run_in cs by.place ≡ p ∷ []) (sym (leading.so_far.ask.asked by.worker there)) by.runs);

@@ -1,8 +1,8 @@
 -- The orders of a reused instance, as each worker gets them.
 use Rattle.std.proofs.Common.{◌≡◌, ℕ, ◌+◌, ◌<◌, ◌≤◌, zero, suc, Bool, true, false, ℤ, List, [], ◌∷◌, ◌++◌, length, ap, ap₂, sym, ◌∙◌, arith}
-use Rattle.std.specs.Prelude.{nat_lt, if◌then◌else◌}
+use Rattle.std.specs.Prelude.{nat_lt}
 use Rattle.std.specs.List.{AllByRecursion, range_with_len}
-use Rattle.std.proofs.lemmas.Bool.{cond-false, cond-true, le-ltb, lt-ltb}
+use Rattle.std.proofs.lemmas.Bool.{cond-true, lt-ltb}
 use Rattle.nim_command.specs.declared.edit.PatchPart.{PatchPart}
 use Rattle.nim_command.specs.declared.entry.Entry.{Entry}
 use Rattle.nim_command.specs.declared.template.WorkerTemplate.{WorkerTemplate}
@@ -11,8 +11,7 @@ use Rattle.nim_message.specs.declared.order.ToWorker.TheVariants.{InstallTemplat
 use Rattle.nim_place.specs.Directed.{Directed, directed, for_worker, orders_to}
 use Rattle.nim_place.specs.Extends.{worker_of}
 use Rattle.nim_place.specs.Versions.{Versions}
-use Rattle.nim_place.proofs.Directed.{to_append, to_directed}
-use Rattle.nim_place.proofs.Pairs.{each_append, flat_agree}
+use Rattle.nim_place.proofs.Directed.{to_append}
 use Rattle.nim_template.specs.Given.{install_with, instances_of}
 use Rattle.nim_template.specs.Instance.{half_of}
 use Rattle.nim_patch.specs.declared.patch.PatchCopy.{PatchCopy}
@@ -25,28 +24,19 @@ use Rattle.nim_reuse.specs.Decisions.{decided_of}
 use Rattle.nim_reuse.specs.Reuse.{is_new, patch_installs, patch_runs, patched_at, template_at, template_installs}
 use Rattle.nim_course.specs.Controller.{Controller}
 use Rattle.nim_course.specs.OrdersGiven.{instance_at, reused_orders}
+use Rattle.nim_base.proofs.Lists.{each_append}
+use Rattle.nim_course.proofs.PutTasks.{cut, to_own}
 
 -- ---- the list of one of so many workers
 
--- its list, or none past the workers
-abbrev within : ℕ → (ℕ → List ToWorker) → ℕ → List ToWorker
-within workers lists number = if nat_lt number workers then lists number else []
-
 alike_within : (workers : ℕ) (lists : ℕ → List ToWorker) (first count : ℕ) → first + count ≤ workers
-    → AllByRecursion (λ (number : ℕ). for_worker lists number ≡ for_worker (within workers lists) number) (range_with_len first count)
+    → AllByRecursion (λ (number : ℕ). for_worker lists number ≡ for_worker (cut workers lists) number) (range_with_len first count)
 alike_within workers lists first zero few = tt
 alike_within workers lists first (suc count) few = (
   ap (λ (orders : List ToWorker). for_worker (λ (number : ℕ). orders) first)
       (sym (cond-true (nat_lt first workers) (lists first) [] (lt-ltb first workers (omega (arith, few))))),
   alike_within workers lists (first + 1) count (omega (arith, few)),
 )
-
-pub one_list : (workers : ℕ) (lists : ℕ → List ToWorker) (number : ℕ) → number < workers → orders_to number (directed workers lists) ≡ lists number
-one_list workers lists number below =
-    ap (orders_to number) (flat_agree (for_worker lists) (for_worker (within workers lists)) (range_with_len 0 workers)
-    (alike_within workers lists 0 workers (omega arith)))
-    ∙ to_directed workers (within workers lists) (λ other past. cond-false (nat_lt other workers) (lists other) [] (le-ltb other workers past)) number
-    ∙ cond-true (nat_lt number workers) (lists number) [] (lt-ltb number workers below)
 
 -- ---- of a reused instance
 
@@ -89,9 +79,9 @@ reused_to c block args number below =
     let runs : ℕ → List ToWorker = patch_runs (patch_for c block) c.epoch c.instance (copies_for c block) c.versions in
     all_to number (directed workers installs) (directed workers parts) (directed workers runs) (directed workers (order_last c block args))
     ∙ ap₂ (λ (front last : List ToWorker). front ++ last)
-    (ap₂ (λ (front rest : List ToWorker). front ++ rest) (one_list workers installs number below)
-    (ap₂ (λ (front rest : List ToWorker). front ++ rest) (one_list workers parts number below) (one_list workers runs number below)))
-    (one_list workers (order_last c block args) number below)
+    (ap₂ (λ (front rest : List ToWorker). front ++ rest) (to_own workers installs number below)
+    (ap₂ (λ (front rest : List ToWorker). front ++ rest) (to_own workers parts number below) (to_own workers runs number below)))
+    (to_own workers (order_last c block args) number below)
 
 -- ---- what is true of each that comes before
 

@@ -5,8 +5,8 @@ use Rattle.std.specs.List.{AllByRecursion}
 use Rattle.std.proofs.lemmas.Bool.{both_ways, cases_lt}
 use Rattle.std.proofs.lemmas.Option.{none-some, same_Some}
 use Rattle.nim_command.specs.Waits.{Group}
-use Rattle.nim_order.proofs.Items.{get_front}
-use Rattle.nim_lockstep.proofs.Groups.{each_at, get_behind}
+use Rattle.nim_base.proofs.Lists.{get_behind, get_front}
+use Rattle.nim_lockstep.proofs.Groups.{each_at}
 use Rattle.nim_lockstep.proofs.UnderWay.{AreSeparate, is_from_instance}
 
 -- a group didn't come from an instance

@@ -12,10 +12,10 @@ use Rattle.nim_place.specs.Directed.{Directed, directed, orders_to}
 use Rattle.nim_place.specs.Extends.{single_with, singles_of, worker_of}
 use Rattle.nim_place.specs.Stands.{commands_for}
 use Rattle.nim_place.specs.Versions.{Versions, after_commands}
-use Rattle.nim_place.proofs.Pairs.{each_append}
 use Rattle.nim_course.specs.Controller.{Controller}
 use Rattle.nim_course.specs.Moves.{objects_in, orders_asked}
 use Rattle.nim_course.specs.OrdersGiven.{fetch_commands, instance_orders, single_for, task_commands}
+use Rattle.nim_base.proofs.Lists.{each_append}
 
 -- it is true of each order
 abbrev pub Each : (ToWorker → Type 0) → List Directed → Type 0

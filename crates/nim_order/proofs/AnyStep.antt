@@ -9,9 +9,9 @@ use Rattle.nim_command.specs.Covered.{is_covered, waits_at}
 use Rattle.nim_order.specs.Contents.{IsLocal, Leave, held_before, left_at}
 use Rattle.nim_order.specs.Laws.{AnyStep}
 use Rattle.nim_order.specs.Progress.{GainsPlace, IsClosed, IsReleasedAt, conflict_at, held_when, touches_at, writes_at}
+use Rattle.nim_base.proofs.Lists.{all_weaker}
 use Rattle.nim_order.proofs.Conflicts.{conflict_turned, touched_written, writes_touch, written_touched}
 use Rattle.nim_order.proofs.Held.{held_down, held_front, held_same, held_written, kept_at, same_at}
-use Rattle.nim_order.proofs.Items.{all_weaker}
 use Rattle.nim_order.proofs.Reach.{conflict_reached, reached_complete}
 
 -- an earlier command that conflicts with a released one is complete

@@ -8,7 +8,7 @@ use Rattle.nim_command.specs.declared.command.Command.{Command}
 use Rattle.nim_command.specs.Slots.{does_touch, does_write}
 use Rattle.nim_order.specs.Contents.{IsLocal, Leave, held_before, left_at}
 use Rattle.nim_order.specs.Progress.{held_below, touches_at, writes_at}
-use Rattle.nim_order.proofs.Items.{get_front}
+use Rattle.nim_base.proofs.Lists.{get_front}
 
 kept_there : {X : Type 0} (leave : Leave X) → IsLocal leave → (o : Option Command) (before : Slot → X) (slot : Slot)
     → option_map_or (λ (c : Command). does_write c.kind slot) o false ≡ false → option_map_or (λ (c : Command). leave c before) o before slot ≡ before slot

@@ -1,11 +1,13 @@
 -- Tests of the items of a list.
-use Rattle.std.proofs.Common.{◌≡◌, ℕ, zero, suc, ◌+◌, ◌<◌, ◌≤◌, Bool, true, false, List, [], ◌∷◌, ◌++◌, length, take, drop, refl, ap, ap₂, subst, sym, ◌∙◌, arith, inl, inr}
-use Rattle.std.specs.Prelude.{◌==◌, ◌&&◌, ◌||◌, if◌then◌else◌, slice_get}
+use Rattle.std.proofs.Common.{◌≡◌, ℕ, zero, suc, ◌+◌, ◌<◌, ◌≤◌, Bool, true, false, List, [], ◌∷◌, take, drop, refl, ap, ap₂, subst, sym, ◌∙◌, arith, inl, inr}
+use Rattle.std.specs.Prelude.{◌==◌, ◌&&◌, if◌then◌else◌, slice_get}
 use Rattle.std.specs.List.{filter, list_all, list_any, range_with_len}
 use Rattle.std.specs.Option.{option_map_or}
-use Rattle.std.proofs.lemmas.Bool.{and_from, and_parts, cases_eq, eq-eqb, eqb-true, false≢true, or_cases, or_from, or_left, or_right}
+use Rattle.std.proofs.lemmas.Bool.{and_from, and_parts, cases_eq, eq-eqb, false≢true, or_cases, or_from, or_left, or_right}
 use Rattle.nim_base.specs.declared.number.Slot.{Slot}
 use Rattle.nim_command.specs.Slots.{is_among}
+use Rattle.nim_base.proofs.Lists.{any_filter}
+use Rattle.nim_command.proofs.Walk.{same_slot}
 
 -- where one item passes a test and all pass another, that one passes both
 pub any_all : {X : Type 0} (p q : X → Bool) (G : Type 0) → ((x : X) → p x ≡ true → q x ≡ true → G) → (xs : List X) → list_any p xs ≡ true
@@ -23,12 +25,6 @@ any_weaker p q weaker (x ∷ xs) any =
       | inr there ↦ or_right (q x) (list_any q xs) (any_weaker p q weaker xs there)
     ]
 
-pub all_weaker : {X : Type 0} (p q : X → Bool) → ((x : X) → p x ≡ true → q x ≡ true) → (xs : List X) → list_all p xs ≡ true → list_all q xs ≡ true
-all_weaker p q weaker [] all = all
-all_weaker p q weaker (x ∷ xs) all =
-    let parts = and_parts (p x) (list_all p xs) all in
-    and_from (q x) (list_all q xs) (weaker x parts.0) (all_weaker p q weaker xs parts.1)
-
 -- a test of all numbers of a range
 pub all_in_range : (p : ℕ → Bool) (a n : ℕ) → list_all p (range_with_len a n) ≡ true → (k : ℕ) → a ≤ k → k < a + n → p k ≡ true
 all_in_range p a zero all k from to = absurd (omega arith)
@@ -45,18 +41,6 @@ all_of_range p a (suc n) each =
     and_from (p a) (list_all p (range_with_len (a + 1) n)) (each a (omega arith) (omega arith))
     (all_of_range p (a + 1) n (λ k from to. each k (omega arith) (omega arith)))
 
-pub any_of_range : (p : ℕ → Bool) (a n k : ℕ) → a ≤ k → k < a + n → p k ≡ true → list_any p (range_with_len a n) ≡ true
-any_of_range p a zero k from to passes = absurd (omega arith)
-any_of_range p a (suc n) k from to passes =
-    elim (cases_eq a k) [
-      | inl same ↦ or_left (p a) (list_any p (range_with_len (a + 1) n)) (subst (λ (x : ℕ). p x ≡ true) (sym same) passes)
-      | inr other ↦ or_right (p a) (list_any p (range_with_len (a + 1) n)) (any_of_range p (a + 1) n k (omega arith) (omega arith) passes)
-    ]
-
--- slots of one number are one slot
-same_slot : (x s : Slot) → (x.0 == s.0) ≡ true → x ≡ s
-same_slot x s test = let slot : ℕ → Slot = λ n. record { 0 = n } in ap slot (eqb-true x.0 s.0 test)
-
 -- a slot that is among some and passes a test settles it
 pub any_among : (q : Slot → Bool) (s : Slot) (xs : List Slot) → is_among xs s ≡ true → q s ≡ true → list_any q xs ≡ true
 any_among q s xs among passes =
@@ -71,41 +55,13 @@ among_any q G (x ∷ xs) there any =
       | inr later ↦ among_any q G xs (λ s among passes. there s (or_right (x.0 == s.0) (is_among xs s) among) passes) later
     ]
 
-pub get_front : {X : Type 0} (xs ys : List X) (i : ℕ) → i < length xs → slice_get (xs ++ ys) i ≡ slice_get xs i
-get_front [] ys i within = absurd (omega (arith, within))
-get_front (x ∷ xs) ys zero within = refl
-get_front (x ∷ xs) ys (suc i) within = get_front xs ys i (omega (arith, within))
-
 -- one more item that may be there
 pub any_later : {X : Type 0} (p : X → Bool) (x : X) (rest : List X) (b : Bool) → list_any p rest ≡ true → list_any p (if b then x ∷ rest else rest) ≡ true
 any_later p x rest true any = or_right (p x) (list_any p rest) any
 any_later p x rest false any = any
 
-first_counts : {X : Type 0} (p : X → Bool) (x : X) (rest : List X) (found b : Bool) → list_any p rest ≡ found
-    → list_any p (if b then x ∷ rest else rest) ≡ ((b && p x) || found)
-first_counts p x rest found true same = ap (λ b. p x || b) same
-first_counts p x rest found false same = same
-
--- a test of the items that pass another one
-pub any_filter : {X : Type 0} (p q : X → Bool) (xs : List X) → list_any p (filter q xs) ≡ list_any (λ x. q x && p x) xs
-any_filter p q [] = refl
-any_filter {X} p q (x ∷ xs) = first_counts p x (filter q xs) (list_any (λ (y : X). q y && p y) xs) (q x) (any_filter p q xs)
-
 pub any_of_filter : {X : Type 0} (p q : X → Bool) (xs : List X) → list_any (λ x. q x && p x) xs ≡ true → list_any p (filter q xs) ≡ true
 any_of_filter p q xs any = any_filter p q xs ∙ any
-
-pub any_same : {X : Type 0} (p q : X → Bool) → ((x : X) → p x ≡ q x) → (xs : List X) → list_any p xs ≡ list_any q xs
-any_same p q same [] = refl
-any_same p q same (x ∷ xs) = ap₂ (λ (a b : Bool). a || b) (same x) (any_same p q same xs)
-
--- the second of two tests counts only where the first holds
-pub both_same : (b x y : Bool) → (b ≡ true → x ≡ y) → (b && x) ≡ (b && y)
-both_same true x y same = same refl
-both_same false x y same = refl
-
-pub all_same : {X : Type 0} (p q : X → Bool) → ((x : X) → p x ≡ q x) → (xs : List X) → list_all p xs ≡ list_all q xs
-all_same p q same [] = refl
-all_same p q same (x ∷ xs) = ap₂ (λ (a b : Bool). a && b) (same x) (all_same p q same xs)
 
 all_kept : {X : Type 0} (p : X → Bool) (x : X) (rest : List X) (b : Bool) → (b ≡ true → p x ≡ true) → list_all p rest ≡ true
     → list_all p (if b then x ∷ rest else rest) ≡ true

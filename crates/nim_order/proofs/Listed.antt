@@ -8,7 +8,8 @@ use Rattle.std.proofs.lemmas.Option.{none-some, same_Some}
 use Rattle.nim_command.specs.declared.command.Command.{Command}
 use Rattle.nim_command.specs.Covered.{is_reached, waits_at}
 use Rattle.nim_command.specs.Waits.{Member, placed, waits_for, waits_of}
-use Rattle.nim_order.proofs.Items.{any_of_filter, any_of_range}
+use Rattle.nim_base.proofs.Lists.{any_of_range}
+use Rattle.nim_order.proofs.Items.{any_of_filter}
 use Rattle.nim_order.proofs.Reach.{reached_more}
 
 unfoldable pub listed : List Member → List Command

@@ -12,8 +12,9 @@ use Rattle.nim_command.specs.Waits.{Group, Member, is_waited, members_from, memb
 use Rattle.nim_order.specs.Contents.{Leave}
 use Rattle.nim_order.specs.Longer.{AnyLonger, FrontIsCovered, FrontStays}
 use Rattle.nim_order.specs.Progress.{IsClosed, IsReleasedAt, held_when, writes_at}
+use Rattle.nim_base.proofs.Lists.{any_filter, any_same, get_front, guarded}
 use Rattle.nim_order.proofs.Held.{before_front, held_below_front, held_down}
-use Rattle.nim_order.proofs.Items.{all_in_range, all_of_range, any_filter, any_same, both_same, filter_range, get_front}
+use Rattle.nim_order.proofs.Items.{all_in_range, all_of_range, filter_range}
 
 held_longer : {X : Type 0} (leave : Leave X) (start : Slot → X) (commands more : List Command) (done : ℕ → Bool)
     → ((place : ℕ) → length commands ≤ place → done place ≡ false) → (slot : Slot)
@@ -62,7 +63,7 @@ reached_front commands more (suc n) place earlier within =
     ∙ any_filter (λ x. (x == earlier) || is_reached n (commands ++ more) x earlier) (λ x. nat_lt x place) numbers
     ∙ any_same (λ x. nat_lt x place && ((x == earlier) || is_reached n (commands ++ more) x earlier))
     (λ x. nat_lt x place && ((x == earlier) || is_reached n commands x earlier))
-    (λ x. both_same (nat_lt x place) ((x == earlier) || is_reached n (commands ++ more) x earlier) ((x == earlier) || is_reached n commands x earlier)
+    (λ x. guarded (nat_lt x place) ((x == earlier) || is_reached n (commands ++ more) x earlier) ((x == earlier) || is_reached n commands x earlier)
     (λ less. ap (λ (b : Bool). (x == earlier) || b) (reached_front commands more n x earlier (omega (arith, ltb-true x place less)))))
     numbers
     ∙ sym (any_filter (λ x. (x == earlier) || is_reached n commands x earlier) (λ x. nat_lt x place) numbers)

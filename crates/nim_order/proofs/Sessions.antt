@@ -24,7 +24,7 @@ use Rattle.nim_order.specs.Orders.{AreEntriesByRule, IsOrderByRule, OrdersCover}
 use Rattle.nim_order.proofs.Chain.{rule_covers}
 
 -- entries that are given the before sets of the rule have them
-entries_ruled : (past : List Footprint) (entries : List Entry)
+pub entries_ruled : (past : List Footprint) (entries : List Entry)
     → map (λ (e : Entry). e.before) (entries_by_rule past entries) ≡ befores_behind past (map entry_footprint (entries_by_rule past entries))
 entries_ruled past [] = refl
 entries_ruled past (entry ∷ entries) =

@@ -12,7 +12,7 @@ use Rattle.nim_patch.specs.declared.patch.PatchCopy.{PatchCopy}
 use Rattle.nim_patch.specs.Mends.{is_target}
 use Rattle.nim_patch.specs.Patches.{after_copy, patch_copies, copy_first, copy_to_precondition}
 use Rattle.nim_patch.proofs.Copied.{IsCopied, copied_one}
-use Rattle.nim_patch.proofs.Mended.{current_kept, holds_then}
+use Rattle.nim_patch.proofs.Mended.{holds_then}
 use Rattle.nim_patch.proofs.Runs.{AreWithinWorkers}
 use Rattle.nim_place.specs.Extends.{is_live}
 use Rattle.nim_place.specs.Versions.{Versions, held_at, holder, is_current, latest_of}
@@ -20,6 +20,7 @@ use Rattle.nim_place.proofs.LiveOnce.{live_within}
 use Rattle.nim_place.proofs.Moves.{holder_facts}
 use Rattle.nim_place.proofs.Puts.{IsWhole}
 use Rattle.nim_template.specs.MainSlots.{AreMainSlots}
+use Rattle.nim_place.proofs.Held.{current_kept}
 use Rattle.nim_template.proofs.Copies.{IsCopy}
 
 -- a copy of an object of the map, from a worker that holds its latest version to a live one that doesn't

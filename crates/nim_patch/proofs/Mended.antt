@@ -15,19 +15,9 @@ use Rattle.nim_patch.specs.Patches.{after_copies, patch_copies, copy_first, copy
 use Rattle.nim_patch.proofs.Copied.{IsCopied, copied_all, same_slots}
 use Rattle.nim_patch.proofs.Sources.{found_from}
 use Rattle.nim_place.specs.Stands.{MapStands}
-use Rattle.nim_place.specs.Versions.{Versions, held_at, holder, is_current, is_kept, latest_of, place_of}
+use Rattle.nim_place.specs.Versions.{Versions, held_at, holder, is_kept, latest_of, place_of}
+use Rattle.nim_place.proofs.Held.{current_kept}
 use Rattle.nim_place.proofs.Puts.{IsWhole, kept_bounds, kept_for}
-
--- where a slot holds the latest version, the map has it
-pub current_kept : (versions : Versions) (object : Object) (worker : Worker) → is_current versions object worker ≡ true
-    → is_kept versions worker (main_slot object) ≡ true
-current_kept versions object worker is = by (is_kept versions worker (main_slot object)) is where
-  by : (b : Bool)
-      → option_map_or (λ (n : ℕ). n == latest_of versions object)
-      (if b then get_or versions.held (place_of versions worker (main_slot object)) None else None) false ≡ true
-      → b ≡ true
-  by true is = refl
-  by false is = absurd (false≢true is)
 
 -- an object that some worker holds is one of the map's
 held_object : (versions : Versions) (object : Object) → is_some (holder versions object) ≡ true → object.0 < versions.objects

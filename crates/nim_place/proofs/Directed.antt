@@ -37,7 +37,7 @@ to_append number xs ys =
     let mine : Directed → Bool = λ d. d.0.0 == number in
     ap (map (λ (d : Directed). d.1)) (filter-append mine xs ys) ∙ map-append (λ (d : Directed). d.1) (filter mine xs) (filter mine ys)
 
-to_same : (worker number : ℕ) (orders : List ToWorker) → (worker == number) ≡ true
+pub to_same : (worker number : ℕ) (orders : List ToWorker) → (worker == number) ≡ true
     → orders_to number (map (λ (order : ToWorker). (worker_of worker, order)) orders) ≡ orders
 to_same worker number [] same = refl
 to_same worker number (o ∷ orders) same =
@@ -46,7 +46,7 @@ to_same worker number (o ∷ orders) same =
     ap (λ (b : Bool). map (λ (d : Directed). d.1) (if b then (worker_of worker, o) ∷ mine else mine)) same
     ∙ ap (λ (xs : List ToWorker). o ∷ xs) (to_same worker number orders same)
 
-to_other : (worker number : ℕ) (orders : List ToWorker) → (worker == number) ≡ false
+pub to_other : (worker number : ℕ) (orders : List ToWorker) → (worker == number) ≡ false
     → orders_to number (map (λ (order : ToWorker). (worker_of worker, order)) orders) ≡ []
 to_other worker number [] other = refl
 to_other worker number (o ∷ orders) other =

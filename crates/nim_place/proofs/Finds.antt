@@ -2,7 +2,7 @@
 use Rattle.std.proofs.Common.{◌≡◌, ℕ, ◌<◌, Bool, true, false, List, [], ◌∷◌, ◌++◌, length, refl, ap, ap₂, sym, ◌∙◌, arith, Option, None, Some}
 use Rattle.std.specs.Prelude.{◌==◌, ◌&&◌, ◌||◌, if◌then◌else◌}
 use Rattle.std.specs.Option.{is_some, option_map, option_map_or}
-use Rattle.std.proofs.lemmas.Bool.{eq-eqb, eqb-true, false≢true}
+use Rattle.std.proofs.lemmas.Bool.{eq-eqb, eqb-true, false≢true, or_left, or_right}
 use Rattle.std.proofs.lemmas.List.Folds.{list_any-append}
 use Rattle.nim_base.specs.declared.number.Object.{Object}
 use Rattle.nim_base.specs.declared.number.Worker.{Worker}
@@ -15,7 +15,7 @@ use Rattle.nim_place.specs.Finds.{FindsLatest}
 use Rattle.nim_place.specs.Schedule.{copies_of, is_one_of, moved_first, moves, source_of}
 use Rattle.nim_place.specs.Versions.{Versions, after_commands, after_kind, held_at, holder, is_current, is_kept, latest_of}
 use Rattle.nim_place.proofs.Given.{all_stand, copies_fit}
-use Rattle.nim_place.proofs.Moves.{both_false, is_moved, moves_facts, or_left, or_right}
+use Rattle.nim_place.proofs.Moves.{both_false, is_moved, moves_facts}
 use Rattle.nim_place.proofs.Puts.{IsPut, IsWhole, kept_for, put_all, whole_after}
 
 found_merged : {X : Type 0} (b c own : Bool) (x y h : X) → own ≡ true → (b ≡ true → y ≡ x)

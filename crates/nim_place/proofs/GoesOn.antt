@@ -76,7 +76,7 @@ copies_as_good base versions number owner (m ∷ ms) below good =
 
 -- ---- the map behind the run
 
-among_mains : (objects : List Object) (object : Object) → is_among (map main_slot objects) (main_slot object) ≡ is_one_of objects object
+pub among_mains : (objects : List Object) (object : Object) → is_among (map main_slot objects) (main_slot object) ≡ is_one_of objects object
 among_mains [] object = refl
 among_mains (o ∷ objects) object = ap (λ (b : Bool). (o.0 == object.0) || b) (among_mains objects object)
 

@@ -30,7 +30,7 @@ for_append worker xs ys =
     ap (map (λ (c : Worker × Command). c.1)) (filter-append mine xs ys) ∙ map-append (λ (c : Worker × Command). c.1) (filter mine xs) (filter mine ys)
 
 -- a slot that holds the latest version is one that the map has
-current_kept : (versions : Versions) (object : Object) (worker : Worker) → is_current versions object worker ≡ true
+pub current_kept : (versions : Versions) (object : Object) (worker : Worker) → is_current versions object worker ≡ true
     → is_kept versions worker (main_slot object) ≡ true
 current_kept versions object worker current = either (is_kept versions worker (main_slot object)) refl where
   nothing : is_kept versions worker (main_slot object) ≡ false → held_at versions worker (main_slot object) ≡ None

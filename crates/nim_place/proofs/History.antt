@@ -1,6 +1,6 @@
 -- A map of versions stands for the commands so far: none at first, and one more.
 use Rattle.std.proofs.Common.{◌≡◌, ℕ, zero, suc, ◌<◌, ◌≤◌, Bool, true, false, not, List, [], ◌∷◌}
-use Rattle.std.proofs.Common.{◌++◌, length, map, slice_get, refl, ap, ap₂, sym, subst, ◌∙◌, arith, Option, Some}
+use Rattle.std.proofs.Common.{◌++◌, length, map, refl, ap, ap₂, sym, subst, ◌∙◌, arith, Option, Some}
 use Rattle.std.specs.Prelude.{◌==◌, ◌&&◌, ◌||◌, nat_lt, if◌then◌else◌}
 use Rattle.std.specs.List.{filter}
 use Rattle.std.specs.Option.{option_map, option_map_or}
@@ -19,18 +19,10 @@ use Rattle.nim_command.specs.Numbers.{main_slot}
 use Rattle.nim_command.specs.Slots.{is_among, object_of}
 use Rattle.nim_place.specs.Stands.{MapStands, StandsOn, commands_for, greater_put, is_aside}
 use Rattle.nim_place.specs.Versions.{Versions, after_kind, held_at, is_kept, puts_of, version_of}
+use Rattle.nim_base.proofs.Lists.{get_front, get_last}
 use Rattle.nim_place.proofs.Puts.{IsPut, IsWhole, kept_bounds, put_all, whole_after}
 
 -- ---- lists of commands
-
-get_front : {X : Type 0} (xs ys : List X) (n : ℕ) → n < length xs → slice_get (xs ++ ys) n ≡ slice_get xs n
-get_front [] ys n within = absurd (omega arith)
-get_front (x ∷ xs) ys zero within = refl
-get_front (x ∷ xs) ys (suc n) within = get_front xs ys n (omega arith)
-
-pub get_last : {X : Type 0} (xs : List X) (x : X) → slice_get (xs ++ x ∷ []) (length xs) ≡ Some x
-get_last [] x = refl
-get_last (y ∷ xs) x = get_last xs x
 
 pub holds_front : (xs ys : List Command) (n : ℕ) → n ≤ length xs → (slot : Slot) → holds (xs ++ ys) n slot ≡ holds xs n slot
 holds_front xs ys zero within slot = refl

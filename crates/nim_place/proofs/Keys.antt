@@ -16,26 +16,15 @@ use Rattle.nim_command.specs.Waits.{Group, Member, commands_of, members_from, me
 use Rattle.nim_message.specs.declared.order.ToWorker.{ToWorker}
 use Rattle.nim_message.specs.declared.order.ToWorker.TheVariants.{Single}
 use Rattle.nim_message.specs.Orders.{Session, session_of}
-use Rattle.nim_order.proofs.Items.{get_front}
 use Rattle.nim_plan.specs.Listing.{members_at}
 use Rattle.nim_plan.specs.Paired.{Key, keys_received, keys_sent, of_members, received, sent}
-use Rattle.nim_plan.proofs.Listed.{group_added}
+use Rattle.nim_plan.proofs.Listed.{group_added, length_members}
 use Rattle.nim_place.specs.Extends.{single_with}
-use Rattle.nim_place.proofs.History.{get_last, holds_front}
+use Rattle.nim_base.proofs.Lists.{get_front, get_last, range_append}
+use Rattle.nim_place.proofs.History.{holds_front}
 use Rattle.nim_place.proofs.Singles.{single_counts}
 
 -- ---- places
-
-range_append : (a n k : ℕ) → range_with_len a (n + k) ≡ range_with_len a n ++ range_with_len (a + n) k
-range_append a zero k =
-    let first : 0 + k ≡ k = omega arith in
-    let last : a ≡ a + 0 = omega arith in
-    ap (range_with_len a) first ∙ ap (λ (b : ℕ). range_with_len b k) last
-range_append a (suc n) k =
-    let more : suc n + k ≡ suc (n + k) = omega arith in
-    let same : a + 1 + n ≡ a + suc n = omega arith in
-    ap (range_with_len a) more
-    ∙ ap (λ (rest : List ℕ). a ∷ rest) (range_append (a + 1) n k ∙ ap (λ (b : ℕ). range_with_len (a + 1) n ++ range_with_len b k) same)
 
 flat_same : {X : Type 0} (f g : ℕ → List X) (a n : ℕ) → ((place : ℕ) → place < a + n → f place ≡ g place)
     → flat_map f (range_with_len a n) ≡ flat_map g (range_with_len a n)
@@ -51,17 +40,6 @@ get_at (y ∷ xs) x ys = get_at xs x ys
 
 abbrev member_in : ℕ → Command → Member
 member_in number command = record { group = number; command = command }
-
-length_members : (number : ℕ) (groups : List Group) → length (members_from number groups) ≡ length (commands_of groups)
-length_members number [] = refl
-length_members number (group ∷ groups) =
-    omega (
-      arith,
-      length-append (members_at number group.commands) (members_from (number + 1) groups),
-      length-map group.commands (member_in number),
-      length_members (number + 1) groups,
-      length-append group.commands (commands_of groups),
-    )
 
 members_below : (number : ℕ) (groups : List Group) → All (λ (m : Member). m.group < number + length groups) (members_from number groups)
 members_below number [] = All-nil (λ (m : Member). m.group < number + 0)

@@ -3,7 +3,7 @@ use Rattle.std.proofs.Common.{◌≡◌, ℕ, zero, suc, ◌+◌, ◌<◌, ◌�
 use Rattle.std.specs.Prelude.{◌==◌, ◌||◌, if◌then◌else◌}
 use Rattle.std.specs.List.{list_any}
 use Rattle.std.specs.Option.{option_map_or}
-use Rattle.std.proofs.lemmas.Bool.{eq-eqb, eqb-true, false≢true}
+use Rattle.std.proofs.lemmas.Bool.{eq-eqb, eqb-true, false≢true, or_left, or_right}
 use Rattle.std.proofs.lemmas.List.{length-append}
 use Rattle.std.proofs.lemmas.List.Folds.{list_any-append}
 use Rattle.nim_base.specs.declared.number.Object.{Object}
@@ -11,6 +11,7 @@ use Rattle.nim_base.specs.declared.number.Worker.{Worker}
 use Rattle.nim_place.specs.declared.schedule.Moved.{Moved}
 use Rattle.nim_place.specs.Schedule.{is_one_of, moved_first, moves, source_of}
 use Rattle.nim_place.specs.Versions.{Versions, holder, holder_from, is_current}
+use Rattle.nim_base.proofs.Lists.{some_same}
 
 -- whether one of these moves an object
 abbrev pub is_moved : List Moved → Object → Bool
@@ -32,9 +33,6 @@ AreMoves versions owner reads (m ∷ ms) =
 
 none_some : {X : Type 0} (x : X) → None ≡ Some x → ⊥
 none_some {X} x is = false≢true (ap (λ (o : Option X). option_map_or (λ y. true) o false) is)
-
-some_same : {X : Type 0} (x y : X) → Some x ≡ Some y → x ≡ y
-some_same {X} x y is = ap (λ (o : Option X). option_map_or (λ (z : X). z) o x) is
 
 pub holder_facts : (versions : Versions) (object : Object) (from more : ℕ) (worker : Worker) → holder_from versions object from more ≡ Some worker
     → (worker.0 < from + more) × (is_current versions object worker ≡ true)
@@ -70,14 +68,6 @@ source_facts versions owner past object from is = either (is_one_of past object)
         first = first;
         current = facts.1;
       }
-
-pub or_right : (a b : Bool) → b ≡ true → (a || b) ≡ true
-or_right true b is = refl
-or_right false b is = is
-
-pub or_left : (a b : Bool) → a ≡ true → (a || b) ≡ true
-or_left true b is = refl
-or_left false b is = absurd (false≢true is)
 
 still_one_of : (past more : List Object) (object : Object) → is_one_of past object ≡ true → is_one_of (past ++ more) object ≡ true
 still_one_of past more object is = list_any-append (λ (o : Object). o.0 == object.0) past more ∙ or_left (is_one_of past object) (is_one_of more object) is

@@ -10,12 +10,9 @@ use Rattle.nim_base.specs.declared.number.Worker.{Worker}
 use Rattle.nim_message.specs.declared.order.ToWorker.{ToWorker}
 use Rattle.nim_plan.specs.Paired.{EachOnce, Given, IsPairedAt, Key, is_key, keys_received, keys_sent}
 use Rattle.nim_place.specs.Extends.{HaveNone, LongerIsPaired, is_live, live_lists, live_workers, longer, worker_of}
+use Rattle.nim_base.proofs.Lists.{each_append, each_two}
 
 -- ---- all of a list
-
-pub each_append : {X : Type 0} (P : X → Type 0) (xs ys : List X) → AllByRecursion P xs → AllByRecursion P ys → AllByRecursion P (xs ++ ys)
-each_append P [] ys first second = second
-each_append P (x ∷ xs) ys first second = (first.0, each_append P xs ys first.1 second)
 
 each_front : {X : Type 0} (P : X → Type 0) (xs ys : List X) → AllByRecursion P (xs ++ ys) → AllByRecursion P xs
 each_front P [] ys all = tt
@@ -28,10 +25,6 @@ each_behind P (x ∷ xs) ys all = each_behind P xs ys all.1
 pub each_weaker : {X : Type 0} (P Q : X → Type 0) → ((x : X) → P x → Q x) → (xs : List X) → AllByRecursion P xs → AllByRecursion Q xs
 each_weaker P Q f [] all = tt
 each_weaker P Q f (x ∷ xs) all = (f x all.0, each_weaker P Q f xs all.1)
-
-pub each_two : {X : Type 0} (P Q R : X → Type 0) → ((x : X) → P x → Q x → R x) → (xs : List X) → AllByRecursion P xs → AllByRecursion Q xs → AllByRecursion R xs
-each_two P Q R f [] first second = tt
-each_two P Q R f (x ∷ xs) first second = (f x first.0 second.0, each_two P Q R f xs first.1 second.1)
 
 pub each_map : {X Y : Type 0} (P : X → Type 0) (f : Y → X) (ys : List Y) → AllByRecursion (λ (y : Y). P (f y)) ys → AllByRecursion P (map f ys)
 each_map P f [] all = tt

@@ -28,8 +28,8 @@ use Rattle.nim_place.specs.Schedule.{copies_of, moves, run_of}
 use Rattle.nim_place.specs.Stands.{AreByRule, commands_for}
 use Rattle.nim_place.specs.TaskOrders.{AsksForMore, StaysCovered}
 use Rattle.nim_place.specs.Versions.{Versions, is_current}
+use Rattle.nim_base.proofs.Lists.{each_append}
 use Rattle.nim_place.proofs.Held.{AreHeld, for_append, holder_lives, moves_held}
-use Rattle.nim_place.proofs.Pairs.{each_append}
 
 -- behind a Single of the session's epoch there is one more group
 pub single_counts : (epoch instance : ℕ) (orders : List ToWorker) (commands : List Command) → (session_of orders).begun ≡ true

@@ -20,6 +20,7 @@ use Rattle.nim_place.specs.Schedule.{copies_of, moved_first, moves, receive_of, 
 use Rattle.nim_place.specs.Stands.{commands_for}
 use Rattle.nim_place.specs.TaskOrders.{StaysPaired, is_key_of}
 use Rattle.nim_place.specs.Versions.{Versions, is_current, latest_of}
+use Rattle.nim_base.proofs.Lists.{each_all}
 use Rattle.nim_place.proofs.ByTask.{elsewhere, for_other, for_owner}
 use Rattle.nim_place.proofs.Held.{AreHeld, HeldIn, held_here, held_still, holder_lives, moves_held}
 use Rattle.nim_place.proofs.History.{for_more}
@@ -244,10 +245,6 @@ worker_receives epoch instance cs versions owner worker task number position ms 
           ∙ other_receives (single_group epoch instance cs) number owner (filter (λ (m : Moved). m.from.0 == worker.0) ms)
 
 -- ---- in pairs
-
-each_all : {X : Type 0} (P : X → Type 0) → ((x : X) → P x) → (xs : List X) → AllByRecursion P xs
-each_all P f [] = tt
-each_all P f (x ∷ xs) = (f x, each_all P f xs)
 
 -- what is true of each that moves is true of the keys of those that pass a test
 each_key : (P : Key → Type 0) (key : Moved → Key) (q : Moved → Bool) (ms : List Moved) → AllByRecursion (λ (m : Moved). P (key m)) ms

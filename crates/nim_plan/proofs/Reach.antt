@@ -10,7 +10,8 @@ use Rattle.std.proofs.lemmas.Option.{slice_get-map, slice_get-get_or, slice_get_
 use Rattle.nim_command.specs.declared.command.Command.{Command}
 use Rattle.nim_command.specs.Covered.{do_conflict, is_kept_in_order, is_reached}
 use Rattle.nim_plan.specs.Reached.{is_marked, leads_to, row_of}
-use Rattle.nim_plan.proofs.Lists.{any_filter, any_same, any_nothing, both_same, both_none}
+use Rattle.nim_base.proofs.Lists.{any_filter, any_same, guarded}
+use Rattle.nim_plan.proofs.Lists.{any_nothing, both_none}
 
 -- the numbers of the command at a place
 before_at : List Command → ℕ → List ℕ
@@ -57,7 +58,7 @@ reached_same commands (suc m) (suc n) place earlier first second =
     reached_next commands m place earlier
     ∙ any_same (λ x. nat_lt x place && ((x == earlier) || is_reached m commands x earlier))
     (λ x. nat_lt x place && ((x == earlier) || is_reached n commands x earlier))
-    (λ x. both_same (nat_lt x place) ((x == earlier) || is_reached m commands x earlier) ((x == earlier) || is_reached n commands x earlier)
+    (λ x. guarded (nat_lt x place) ((x == earlier) || is_reached m commands x earlier) ((x == earlier) || is_reached n commands x earlier)
     (λ test. let less : x < place = ltb-true x place test in ap (λ (b : Bool). (x == earlier) || b)
     (reached_same commands m n x earlier (omega arith) (omega arith))))
     (before_at commands place)
@@ -98,7 +99,7 @@ reached_by_rows commands rows zero earlier c table found =
     c.before
 reached_by_rows commands rows (suc m) earlier c table found =
     any_same (leads_to rows (suc m) earlier) (λ x. nat_lt x (suc m) && ((x == earlier) || is_reached m commands x earlier))
-    (λ x. both_same (nat_lt x (suc m)) ((x == earlier) || is_marked rows x earlier) ((x == earlier) || is_reached m commands x earlier)
+    (λ x. guarded (nat_lt x (suc m)) ((x == earlier) || is_marked rows x earlier) ((x == earlier) || is_reached m commands x earlier)
     (λ test. let less : x < suc m = ltb-true x (suc m) test in
     ap (λ (b : Bool). (x == earlier) || b) (marked commands rows (suc m) x earlier table less
     ∙ reached_same commands x m x earlier (omega arith) (omega arith))))

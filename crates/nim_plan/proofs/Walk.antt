@@ -12,7 +12,8 @@ use Rattle.nim_command.specs.Slots.{does_read, does_touch, does_write, is_among,
 use Rattle.nim_command.specs.Waits.{Member, is_waited, is_written_by, waits_for}
 use Rattle.nim_command.proofs.Walk.{among_filter, not_either, rewritten}
 use Rattle.nim_plan.specs.Free.{does_name, free_slots, has_free, has_rewritten, is_waited_free, kept_free, touched_by}
-use Rattle.nim_plan.proofs.Lists.{any_same, filter_all, filter_twice}
+use Rattle.nim_base.proofs.Lists.{any_same}
+use Rattle.nim_plan.proofs.Lists.{filter_all, filter_twice}
 
 -- a list from a place on begins with the item there
 slice_step : {X : Type 0} (xs : List X) (a b : ℕ) (d : X) → a < b → b ≤ length xs → slice_range xs a b ≡ get_or xs a d ∷ slice_range xs (a + 1) b

@@ -2,7 +2,7 @@
 use Rattle.std.proofs.Common.{◌≡◌, ℕ, ◌+◌, ◌≤◌, ◌<◌, zero, suc, Bool, true, false, cond, List, [], ◌∷◌, ◌++◌, length, map, refl, ap, ap₂, subst, sym, ◌∙◌, arith, Option, None, Some}
 use Rattle.std.specs.Prelude.{◌&&◌, ◌==◌, nat_lt, slice_get}
 use Rattle.std.specs.List.{list_all}
-use Rattle.std.specs.Option.{option_and_then, option_map_or}
+use Rattle.std.specs.Option.{option_map_or}
 use Rattle.std.proofs.Math.Path.{fun_ext}
 use Rattle.std.proofs.lemmas.Bool.{and_from, and_parts, false≢true, lt-leb, ltb-true}
 use Rattle.std.proofs.lemmas.List.{append-nil, length-map}
@@ -31,10 +31,11 @@ use Rattle.nim_printed.specs.Printer.{atom_for, block_name, condition_for, else_
 use Rattle.nim_printed.specs.Spelled as spelled
 use Rattle.nim_printed.specs.Spelled.{all_true, is_unreserved, is_small, is_stmt}
 use Rattle.nim_printed.specs.Trees as trees
+use Rattle.nim_base.proofs.Lists.{five_and}
 use Rattle.nim_printed.proofs.JobAtoms.{atom_back, atom_known, atom_printed, cond_back, cond_known, cond_printed, first_back, names_at, rest_back, scalars, scalars_length, scope_at, set_free, sets, value_known, value_printed}
 use Rattle.nim_printed.proofs.JobBlocks.{names_of_blocks}
 use Rattle.nim_printed.proofs.JobLines.{opened_after}
-use Rattle.nim_printed.proofs.JobLists.{all_mapped, all_of_both, from5, map_back}
+use Rattle.nim_printed.proofs.JobLists.{all_mapped, all_of_both, map_back}
 use Rattle.nim_printed.proofs.JobNames.{in_at, name_place, place_at, scalar_free, scalars_apart}
 use Rattle.nim_printed.proofs.JobStages.{free_at}
 use Rattle.nim_printed.proofs.JobStmts.{Holds, Opens, Says, Shows, body_with, holds_part, holds_parts, shows_both}
@@ -54,10 +55,6 @@ pub record Named (job : Job) (blocks : List Block) : Type 0 where
 pub taken : (test : Bool) (x : Option ℕ) (y : ℕ) → cond test x None ≡ Some y → (test ≡ true) × (x ≡ Some y)
 taken true x y is = (refl, is)
 taken false x y is = absurd (none-some y is)
-
-pub then_parts : (f : ℕ → Option ℕ) (o : Option ℕ) (y : ℕ) → option_and_then f o ≡ Some y → (x : ℕ) × (o ≡ Some x) × (f x ≡ Some y)
-then_parts f None y is = absurd (none-some y is)
-then_parts f (Some x) y is = (x, refl, is)
 
 -- ---- statements, rolled
 
@@ -185,7 +182,7 @@ get_says job blocks depth k behind s var part row cell named within there set sm
           ∙ ap₂ (λ (scalar v : ℕ). onto (roll-Stmt (Stmt-F.Get scalar v part row cell)) bodies) place
           (place_at (names_of_vars job.vars) var named.vars_once at);
       printed =
-          from5 (is_unreserved (scalar_name s)) (is_unreserved name) (is_small part) (is_small row) (is_small cell)
+          five_and (is_unreserved (scalar_name s)) (is_unreserved name) (is_small part) (is_small row) (is_small cell)
           (scalar_free s (omega (arith, new.there, new.few)))
           (free_at (names_of_vars job.vars) var at named.vars_free) small.0 small.1 small.2;
       nests = λ open_now more. open_cases (λ op. opened_after op (Get (scalar_name s) name part row cell ∷ more) ≡ opened_after op more) refl

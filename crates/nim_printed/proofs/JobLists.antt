@@ -37,9 +37,6 @@ from3 a b c x y z = and_from (a && b) c (and_from a b x y) z
 pub from4 : (a b c d : Bool) → a ≡ true → b ≡ true → c ≡ true → d ≡ true → (a && b && c && d) ≡ true
 from4 a b c d x y z w = and_from (a && b && c) d (from3 a b c x y z) w
 
-pub from5 : (a b c d e : Bool) → a ≡ true → b ≡ true → c ≡ true → d ≡ true → e ≡ true → (a && b && c && d && e) ≡ true
-from5 a b c d e x y z w v = and_from (a && b && c && d) e (from4 a b c d x y z w) v
-
 -- ---- lists
 
 pub all_parts : {X : Type 0} (p : X → Bool) (xs ys : List X) → list_all p (xs ++ ys) ≡ true → (list_all p xs ≡ true) × (list_all p ys ≡ true)
@@ -73,10 +70,6 @@ none_mapped p f q each [] all = refl
 none_mapped p f q each (x ∷ xs) all =
     let parts = and_parts (q x) (list_all q xs) all in
     or_from (p (f x)) (list_any p (map f xs)) (each x parts.0) (none_mapped p f q each xs parts.1)
-
-pub all_same : {X : Type 0} (p q : X → Bool) → ((x : X) → p x ≡ q x) → (xs : List X) → list_all p xs ≡ list_all q xs
-all_same p q same [] = refl
-all_same p q same (x ∷ xs) = ap₂ (λ (a b : Bool). a && b) (same x) (all_same p q same xs)
 
 pub map_same : {X Y : Type 0} (f g : X → Y) → ((x : X) → f x ≡ g x) → (xs : List X) → map f xs ≡ map g xs
 map_same {X} {Y} f g same [] = refl

@@ -11,7 +11,8 @@ use Rattle.nim_job.specs.declared.job.Var.{Var as job_var}
 use Rattle.nim_job.specs.Objects.{first_object, objects_of, parts_of}
 use Rattle.nim_job.specs.Tasks.{object_meant, part_of, task_count}
 use Rattle.nim_job.specs.Whole.{are_distinct, has_distinct}
-use Rattle.nim_printed.proofs.JobLists.{all_same, map_same}
+use Rattle.nim_base.proofs.Lists.{all_same}
+use Rattle.nim_printed.proofs.JobLists.{map_same}
 use Rattle.nim_printed.proofs.JobVars.{objects_unloaded, unloaded_vars, without}
 
 parts_unloaded : (vars : List job_var) (var : ℕ) → parts_of (unloaded_vars vars) var ≡ parts_of vars var

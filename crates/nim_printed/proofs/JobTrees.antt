@@ -19,7 +19,8 @@ use Rattle.nim_parse.specs.declared.sections.Statement.TheVariants.{Do, Let, Get
 use Rattle.nim_printed.specs.Printer.{atom_for, block_name, condition_for, else_for, joined, scalar_name, statements_of, stmt_for, value_for, var_name}
 use Rattle.nim_printed.specs.Spelled as spelled
 use Rattle.nim_printed.specs.Spelled.{all_true, is_small, is_stmt}
-use Rattle.nim_printed.proofs.JobCases.{Named, checkpoint_says, do_says, get_says, if_holds, if_opens, let_says, loop_opens, output_says, taken, then_parts, while_opens}
+use Rattle.nim_job.proofs.Sound.{then_parts}
+use Rattle.nim_printed.proofs.JobCases.{Named, checkpoint_says, do_says, get_says, if_holds, if_opens, let_says, loop_opens, output_says, taken, while_opens}
 use Rattle.nim_printed.proofs.JobLists.{parts3}
 use Rattle.nim_printed.proofs.JobStmts.{Shows, body_with, holds_part, shows_both, shows_none, shows_opened, shows_said}
 

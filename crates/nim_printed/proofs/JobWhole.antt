@@ -1,9 +1,9 @@
 -- The tree of a checked and spelled job stands for that job.
-use Rattle.std.proofs.Common.{◌≡◌, ℕ, ◌+◌, ◌≤◌, zero, suc, Bool, true, false, not, List, [], ◌∷◌, ◌++◌, length, map, refl, ap, ap₂, sym, subst, ◌∙◌, arith, Option, None, Some}
+use Rattle.std.proofs.Common.{◌≡◌, ℕ, ◌+◌, ◌≤◌, zero, suc, Bool, true, false, not, List, [], ◌∷◌, ◌++◌, length, map, refl, ap, ap₂, sym, subst, ◌∙◌, arith, None, Some}
 use Rattle.std.specs.Prelude.{◌==◌, is_some, nat_le, slice_get}
 use Rattle.std.specs.List.{flat_map, list_all}
 use Rattle.std.specs.Option.{option_map_or}
-use Rattle.std.proofs.lemmas.Bool.{and_parts, false≢true, leb-true, not-true, not_from_true}
+use Rattle.std.proofs.lemmas.Bool.{and_parts, leb-true, not-true, not_from_true}
 use Rattle.std.proofs.lemmas.List.{append-nil}
 use Rattle.std.proofs.lemmas.List.FromFn.{length-map-range_with_len}
 use Rattle.nim_job.specs.declared.block.Block.{Block as job_block}
@@ -34,11 +34,13 @@ use Rattle.nim_printed.specs.Spelled.{is_unreserved, is_spelled_init, is_small, 
 use Rattle.nim_printed.specs.Trees as trees
 use Rattle.nim_printed.specs.Trees.{is_closed, is_printable}
 use Rattle.nim_printed.specs.Printer.{argument_name}
+use Rattle.nim_base.proofs.Lists.{five_and}
+use Rattle.nim_job.proofs.Sound.{set_some}
 use Rattle.nim_printed.proofs.JobAtoms.{names_at}
 use Rattle.nim_printed.proofs.JobBlocks.{blocks_at_lines, blocks_back, blocks_length, blocks_named, blocks_pass, blocks_printed, names_of_blocks}
 use Rattle.nim_printed.proofs.JobCases.{Named}
 use Rattle.nim_printed.proofs.JobLines.{AreSound, bodies_of_lines, lines_at_lines, opened_after, opened_of_lines, printed_lines, scope_of_lines, statements_pass}
-use Rattle.nim_printed.proofs.JobLists.{all_parts, from5, no_rule, parts5, passes_both, passes_on}
+use Rattle.nim_printed.proofs.JobLists.{all_parts, no_rule, parts5, passes_both, passes_on}
 use Rattle.nim_printed.proofs.JobNames.{once_parts}
 use Rattle.nim_printed.proofs.JobStages.{AreThere}
 use Rattle.nim_printed.proofs.JobStmts.{Shows, put_first}
@@ -77,10 +79,6 @@ spelled_job job is =
     (list_all (λ (stmt : Stmt). fold-Stmt Bool is_stmt stmt) job.body) is in
     let free = all_parts is_unreserved (names_of_vars job.vars) (names_of_blocks job.blocks) parts.0 in
     record { vars_free = free.0; blocks_free = free.1; once = not-true (has_twice (names_in job)) parts.1; inits = parts.2; stages = parts.3; stmts = parts.4 }
-
-some_is : (o : Option ℕ) → is_some o ≡ true → (n : ℕ) × (o ≡ Some n)
-some_is None is = absurd (false≢true is)
-some_is (Some n) is = (n, refl)
 
 -- a block of the tree takes as many arguments as the job's
 takes_same : (vars : List job_var) (line : ℕ) (blocks : List job_block) (block n : ℕ)
@@ -128,7 +126,7 @@ module _ (job : Job) (checked : IsChecked job) (spells : IsSpelled job) where
 
   -- how many scalars are set
   many : (n : ℕ) × (scalars_set job ≡ Some n)
-  many = some_is (scalars_set job) checked.body
+  many = set_some (scalars_set job) checked.body
 
   shows : Shows job tree_blocks 0 0 many.0 lines job.body
   shows = body_shown job tree_blocks many.0 named many.1 spells.stmts
@@ -136,7 +134,7 @@ module _ (job : Job) (checked : IsChecked job) (spells : IsSpelled job) where
   printable : is_printable (tree_for job) ≡ true
   printable =
       let tree = tree_for job in
-      from5 (trees.is_steps tree.steps) (list_all trees.is_printable_var tree.vars) (list_all trees.is_printable_block tree.blocks)
+      five_and (trees.is_steps tree.steps) (list_all trees.is_printable_var tree.vars) (list_all trees.is_printable_block tree.blocks)
       (list_all (λ (l : Line). trees.is_statement l.statement) tree.statements) (is_closed (open_after [] tree.statements))
       (steps_small job.steps checked.steps) (vars_printed 3 job.vars spells.vars_free checked.vars spells.inits)
       (blocks_printed job.vars (3 + length job.vars) job.blocks spells.vars_free spells.blocks_free checked.blocks spells.stages)

@@ -7,6 +7,7 @@ use Rattle.nim_lex.specs.declared.token.Token.{Token}
 use Rattle.nim_lex.specs.Texts.{token_text}
 use Rattle.nim_parse.specs.Driver.{before, lines, number_of}
 use Rattle.nim_printed.specs.Words.{Word, kind_of, line_text, line_tokens_of, lines_tokens_of}
+use Rattle.nim_base.proofs.Lists.{same_first, same_rest}
 use Rattle.nim_printed.proofs.TreeReads.{Spells, SpellsOne}
 
 -- a line has a word
@@ -79,12 +80,6 @@ LinesSpell source line [] [] = Unit {0}
 LinesSpell source line [] (words ∷ more) = ⊥
 LinesSpell source line (ts ∷ tss) [] = ⊥
 LinesSpell source line (ts ∷ tss) (words ∷ more) = (number_of ts ≡ line) × Spells source ts words × LinesSpell source (line + 1) tss more
-
-same_first : {A : Type 0} (x y : A) (xs ys : List A) → x ∷ xs ≡ y ∷ ys → x ≡ y
-same_first x y xs ys same = cc
-
-same_rest : {A : Type 0} (x y : A) (xs ys : List A) → x ∷ xs ≡ y ∷ ys → xs ≡ ys
-same_rest x y xs ys same = cc
 
 line_spells : (source : List ℕ) (line at : ℕ) (words : List Word) (tail : List Token) (rest : List Word)
     → map (token_text source) (line_tokens_of line at words ++ tail) ≡ words ++ rest

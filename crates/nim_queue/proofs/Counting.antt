@@ -6,7 +6,7 @@ use Rattle.std.specs.List.{filter, range_with_len}
 use Rattle.std.specs.Option.{option_map, option_map_or}
 use Rattle.std.proofs.lemmas.Bool.{cases_eq, eq-eqb, eqb-true, false≢true, ne_eqb}
 use Rattle.std.proofs.lemmas.List.Filters.{length-filter_both}
-use Rattle.nim_command.proofs.Lists.{any_and, any_filter, any_same, filter_twice}
+use Rattle.nim_command.proofs.Lists.{any_and, filter_twice}
 use Rattle.std.proofs.lemmas.Option.{slice_get_cases}
 use Rattle.nim_command.specs.Waits.{Group, Member, members_of}
 use Rattle.nim_order.proofs.Items.{filter_range}
@@ -15,6 +15,7 @@ use Rattle.nim_queue.specs.Stands.{KeepsGroups, StandsForGroups, command_count, 
 use Rattle.nim_queue.specs.declared.queue.BeforeQueue.{BeforeQueue}
 use Rattle.nim_queue.proofs.Opening.{opened}
 use Rattle.nim_queue.specs.declared.waiting.Waiting.{Waiting}
+use Rattle.nim_base.proofs.Lists.{any_filter, any_same}
 
 -- how many are left without a ticket
 pub length_without : (u : ℕ) (xs : List ℕ) → length (filter (λ e. not (u == e)) xs) ≡ length xs - times u xs

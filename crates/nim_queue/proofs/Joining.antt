@@ -13,7 +13,6 @@ use Rattle.nim_base.specs.declared.number.Slot.{Slot}
 use Rattle.nim_command.specs.declared.command.Kind.{Kind}
 use Rattle.nim_command.specs.Slots.{does_read, does_write}
 use Rattle.nim_command.specs.Waits.{Group, Member, is_written_by, members_of, waits_for, waits_of}
-use Rattle.nim_order.proofs.Items.{get_front}
 use Rattle.nim_order.proofs.Longer.{waits_of_front}
 use Rattle.nim_queue.specs.Used.{used_in}
 use Rattle.nim_queue.specs.Arrived.{link_to}
@@ -22,6 +21,7 @@ use Rattle.nim_queue.specs.Joined.{followed, gathered}
 use Rattle.nim_queue.specs.Stands.{KeepsGroups, does_use_last, is_reader, is_writer, kept_at, open_waits}
 use Rattle.nim_queue.specs.declared.queue.BeforeQueue.{BeforeQueue}
 use Rattle.nim_queue.specs.declared.waiting.Waiting.{Waiting}
+use Rattle.nim_base.proofs.Lists.{get_front}
 use Rattle.nim_queue.proofs.Lists.{get_at}
 use Rattle.nim_queue.proofs.Looking.{waits_none}
 use Rattle.nim_queue.proofs.Counting.{in_filter, same_ways}

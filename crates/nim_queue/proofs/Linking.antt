@@ -3,7 +3,7 @@ use Rattle.std.proofs.Common.{◌≡◌, ℕ, ◌+◌, ◌<◌, ◌≤◌, Bool,
 use Rattle.std.specs.Prelude.{◌==◌, if◌then◌else◌, slice_get, unwrap_or}
 use Rattle.std.specs.Option.{option_map}
 use Rattle.std.proofs.lemmas.Bool.{false≢true}
-use Rattle.std.proofs.lemmas.List.{append-nil, append_assoc, length-append, length-map}
+use Rattle.std.proofs.lemmas.List.{append-nil, append_assoc, length-append, length-map, nil_from_length}
 use Rattle.std.proofs.lemmas.Option.{slice_get-map}
 use Rattle.nim_queue.specs.Joined.{AreWithin, followed, gathered_by, more_read, rewritten}
 use Rattle.nim_queue.specs.declared.slot_use.SlotUse.{SlotUse}
@@ -57,10 +57,6 @@ pub read_twice : (a b c : List ℕ) (o : Option SlotUse) → c ≡ a ++ b → op
 read_twice a b c None is = refl
 read_twice a b c (Some u) is =
     ap (λ (ts : List ℕ). Some (record u { readers = ts })) (append_assoc u.readers a b ∙ ap (λ (ts : List ℕ). u.readers ++ ts) (sym is))
-
-pub nil_of : {X : Type 0} (xs : List X) → length xs ≡ 0 → xs ≡ []
-nil_of [] is = refl
-nil_of (x ∷ xs) is = absurd (omega (arith, is))
 
 -- a slot that is written has no readers
 pub brief_written : (old new : ℕ → Option SlotUse) (among : ℕ → Bool) (n most : ℕ)

@@ -1,6 +1,6 @@
 -- Room that is made for what has arrived leaves a queue what it is.
 use Rattle.std.proofs.Common.{◌≡◌, ℕ, zero, suc, ◌+◌, ◌≤◌, Bool, true, false, not, List, [], ◌∷◌, ◌++◌, length, refl, ap, ap₂, sym, subst, ◌∙◌, arith, Option, None, Some, is_some}
-use Rattle.std.specs.Prelude.{◌==◌, ◌&&◌, ◌||◌, if◌then◌else◌, drop, nat_eq, slice_get, Result, Ok, Err, OnOk}
+use Rattle.std.specs.Prelude.{◌==◌, ◌&&◌, ◌||◌, if◌then◌else◌, drop, nat_eq, slice_get}
 use Rattle.std.specs.Cmp.{nat_eq_equiv}
 use Rattle.std.specs.HashMap.{get, hash_map_len}
 use Rattle.std.specs.List.{IsDistinct, filter, list_any, range_with_len}
@@ -15,7 +15,6 @@ use Rattle.nim_base.specs.declared.number.Slot.{Slot}
 use Rattle.nim_command.specs.declared.command.Command.{Command}
 use Rattle.nim_command.specs.Slots.{does_read, reads_of, writes_of}
 use Rattle.nim_command.specs.Waits.{Group, Member, is_written_by, members_of}
-use Rattle.nim_command.proofs.Lists.{any_same}
 use Rattle.nim_queue.specs.Used.{used_in}
 use Rattle.nim_queue.specs.Arrived.{HasArrived, HaveArrived, Sight, is_user_met, sight_of}
 use Rattle.nim_queue.specs.Counts.{AreBrief, AreReleased, free_ones, is_in, kept_ones}
@@ -26,6 +25,7 @@ use Rattle.nim_queue.specs.declared.queue.BeforeQueue.{BeforeQueue}
 use Rattle.nim_queue.specs.declared.slot_use.SlotUse.{SlotUse}
 use Rattle.nim_queue.specs.declared.tickets.Tickets.{Tickets}
 use Rattle.nim_queue.specs.declared.waiting.Waiting.{Waiting}
+use Rattle.nim_base.proofs.Lists.{any_same}
 use Rattle.nim_queue.proofs.Completing.{stands_still}
 use Rattle.nim_queue.proofs.Counting.{in_filter}
 use Rattle.nim_queue.proofs.Joining.{none_in}
@@ -144,8 +144,3 @@ kept_at_most queue n =
     (λ q is.
     (and_parts (is_in q (range_with_len 0 n)) (is_some (get nat_eq queue.waiting q))
     (sym (in_filter (λ t. is_some (get nat_eq queue.waiting t)) q (range_with_len 0 n)) ∙ is)).1)
-
--- what follows where a call answers `Ok` holds there
-pub ok_more : {X Y A B : Type 0} (r : Result X Y) → OnOk r A → (A → B) → OnOk r B
-ok_more (Ok x) ok more = more ok
-ok_more (Err y) ok more = tt

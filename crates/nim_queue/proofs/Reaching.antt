@@ -12,14 +12,14 @@ use Rattle.nim_base.specs.declared.number.Slot.{Slot}
 use Rattle.nim_command.specs.declared.command.Command.{Command}
 use Rattle.nim_command.specs.Slots.{does_read, does_touch, does_write, is_among, reads_of, writes_of}
 use Rattle.nim_command.specs.Waits.{Group, Member, is_border, is_waited, is_written_by, members_from, members_of, waits_for, waits_of}
-use Rattle.nim_command.proofs.Lists.{any_nothing, any_same}
-use Rattle.nim_order.proofs.Items.{get_front}
+use Rattle.nim_command.proofs.Lists.{any_nothing}
 use Rattle.nim_queue.specs.Used.{used_in}
 use Rattle.nim_queue.specs.Arrived.{Sight, as_members, is_user_met, does_await, is_written_in, named_in, sight_of}
 use Rattle.nim_queue.specs.Counts.{is_in}
 use Rattle.nim_queue.specs.Stands.{KeepsGroups, is_reader, is_writer, kept_at, open_waits}
 use Rattle.nim_queue.specs.declared.queue.BeforeQueue.{BeforeQueue}
 use Rattle.nim_queue.specs.declared.slot_use.SlotUse.{SlotUse}
+use Rattle.nim_base.proofs.Lists.{any_same, get_front}
 use Rattle.nim_queue.proofs.Counting.{in_filter, same_ways}
 use Rattle.nim_queue.proofs.Joining.{not_before}
 use Rattle.nim_queue.proofs.Lists.{get_at}

@@ -14,6 +14,7 @@ use Rattle.nim_command.proofs.Lists.{filter_twice}
 use Rattle.nim_order.proofs.Items.{filter_range}
 use Rattle.nim_queue.specs.Counts.{IsRising, below, not_below, put_in, taken_out}
 use Rattle.nim_queue.specs.Stands.{first_to_pass}
+use Rattle.nim_base.proofs.Lists.{range_append}
 
 -- where the first i pass a test and the others fail it
 pub cut : {X : Type 0} (p : X → Bool) (xs : List X) (i : ℕ) → IsPartitionPoint (λ x. p x ≡ true) (λ x. p x ≡ false) xs i
@@ -44,19 +45,11 @@ rising p n =
     let long : j < n = subst (λ (k : ℕ). j < k) (length-range_with_len 0 n) within in
     omega (arith, get_or-range_with_len 0 n i d (omega (arith, long)), get_or-range_with_len 0 n j d long))
 
-pub range_cut : (a m n : ℕ) → range_with_len a (m + n) ≡ range_with_len a m ++ range_with_len (a + m) n
-range_cut a zero n = let same : a ≡ a + 0 = omega arith in ap₂ (λ (m k : ℕ). range_with_len k m) (zero-add n) same
-range_cut a (suc m) n =
-    let same : a + 1 + m ≡ a + suc m = omega arith in
-    let count : suc m + n ≡ suc (m + n) = omega arith in
-    ap (λ (k : ℕ). range_with_len a k) count
-    ∙ ap (λ (ks : List ℕ). a ∷ ks) (range_cut (a + 1) m n ∙ ap (λ (k : ℕ). range_with_len (a + 1) m ++ range_with_len k n) same)
-
 -- a range, cut at one of its tickets
 around : (k n : ℕ) → k < n → range_with_len 0 n ≡ range_with_len 0 k ++ k ∷ range_with_len (k + 1) (n - (k + 1))
 around k n within =
     let all : n ≡ k + suc (n - (k + 1)) = omega (arith, within) in
-    ap (λ (m : ℕ). range_with_len 0 m) all ∙ range_cut 0 k (suc (n - (k + 1)))
+    ap (λ (m : ℕ). range_with_len 0 m) all ∙ range_append 0 k (suc (n - (k + 1)))
     ∙ ap (λ (j : ℕ). range_with_len 0 k ++ range_with_len j (suc (n - (k + 1)))) (zero-add k)
 
 filter_around : (p : ℕ → Bool) (k n : ℕ) → k < n
@@ -205,7 +198,7 @@ past_all t xs = filter_agree (λ x. not (nat_le x t)) (nat_lt t) (λ x. either x
 -- one more ticket at the end of a range
 pub range_last : (p : ℕ → Bool) (n : ℕ) → filter p (range_with_len 0 (n + 1)) ≡ filter p (range_with_len 0 n) ++ (if p n then n ∷ [] else [])
 range_last p n =
-    ap (filter p) (range_cut 0 n 1 ∙ ap (λ (k : ℕ). range_with_len 0 n ++ k ∷ []) (zero-add n)) ∙ filter-append p (range_with_len 0 n) (n ∷ [])
+    ap (filter p) (range_append 0 n 1 ∙ ap (λ (k : ℕ). range_with_len 0 n ++ k ∷ []) (zero-add n)) ∙ filter-append p (range_with_len 0 n) (n ∷ [])
 
 -- the first that passes a test passes it
 pub first_passes : (p : ℕ → Bool) (xs : List ℕ) → IfSome (first_to_pass p xs) (λ x. p x ≡ true)

@@ -63,7 +63,7 @@ pub patch_none : (copies : List PatchCopy) (versions : Versions) → AllRunNone 
 patch_none copies versions = workers_none copies versions 0 versions.workers
 
 -- a count in two parts
-times_append : (position : ℕ) (xs ys : List (Worker × Command)) → times_run position (xs ++ ys) ≡ times_run position xs + times_run position ys
+pub times_append : (position : ℕ) (xs ys : List (Worker × Command)) → times_run position (xs ++ ys) ≡ times_run position xs + times_run position ys
 times_append position xs ys =
     sum_by-append (λ (one : Worker × Command). cond (list_any (λ (p : ℕ). p == position) (position_run one.1.kind)) 1 0) xs ys
 
@@ -83,7 +83,7 @@ times_behind position commands more none =
       none_more n = omega arith
 
 -- and stand where they may
-none_home : (job : Job) (place : Placement) (live : List Bool) (worker : Worker) (kind : Kind) → position_run kind ≡ []
+pub none_home : (job : Job) (place : Placement) (live : List Bool) (worker : Worker) (kind : Kind) → position_run kind ≡ []
     → RunsAtHome job place live worker kind
 none_home job place live worker (Run position func params reads writes) is = absurd cc
 none_home job place live worker (Create slot iota number) is = tt

@@ -1,8 +1,8 @@
 -- An instance of an installed template costs each worker at most two short orders.
-use Rattle.std.proofs.Common.{◌≡◌, ℕ, zero, suc, ◌+◌, ◌*◌, ◌<◌, ◌≤◌, Bool, true, false, List, [], ◌∷◌, ◌++◌, length, map, refl}
+use Rattle.std.proofs.Common.{◌≡◌, ℕ, zero, suc, ◌+◌, ◌*◌, ◌<◌, ◌≤◌, Bool, true, false, List, [], ◌∷◌, ◌++◌, length, refl}
 use Rattle.std.proofs.Common.{ap, ap₂, sym, subst, ◌∙◌, arith, inl, inr}
 use Rattle.std.specs.Prelude.{◌==◌, ◌⊎◌, ◌^◌, ◌-◌, if◌then◌else◌, min, nat_lt, ℤ}
-use Rattle.std.specs.List.{filter, flat_map, range_with_len}
+use Rattle.std.specs.List.{flat_map, range_with_len}
 use Rattle.std.proofs.lemmas.Bool.{eqb-true, ne_eqb}
 use Rattle.std.proofs.lemmas.List.{append-nil, length-append}
 use Rattle.std.proofs.lemmas.List.Sums.{sum_by-append}
@@ -18,7 +18,7 @@ use Rattle.nim_place.specs.Directed.{Directed, directed, for_worker, orders_to}
 use Rattle.nim_place.specs.Extends.{worker_of}
 use Rattle.nim_place.specs.Sound.{version_named}
 use Rattle.nim_place.specs.Versions.{Versions, latest_of}
-use Rattle.nim_place.proofs.Directed.{to_append}
+use Rattle.nim_place.proofs.Directed.{to_append, to_other, to_same}
 use Rattle.nim_template.specs.Given.{instance_with, instances_of}
 use Rattle.nim_template.specs.Instance.{half_of}
 use Rattle.nim_patch.specs.declared.patch.PatchCopy.{PatchCopy}
@@ -36,30 +36,13 @@ use Rattle.nim_reuse.specs.Reuse.{is_new, patch_key_at, no_orders, orders_by, pa
 
 -- ---- the orders for one worker
 
-own_list : (worker number : ℕ) (orders : List ToWorker) → (worker == number) ≡ true
-    → orders_to number (map (λ (order : ToWorker). (worker_of worker, order)) orders) ≡ orders
-own_list worker number [] same = refl
-own_list worker number (o ∷ orders) same =
-    let mine : List Directed
-    = filter (λ (d : Directed). d.0.0 == number) (map (λ (order : ToWorker). (worker_of worker, order)) orders) in
-    ap (λ (b : Bool). map (λ (d : Directed). d.1) (if b then (worker_of worker, o) ∷ mine else mine)) same
-    ∙ ap (λ (xs : List ToWorker). o ∷ xs) (own_list worker number orders same)
-
-other_list : (worker number : ℕ) (orders : List ToWorker) → (worker == number) ≡ false
-    → orders_to number (map (λ (order : ToWorker). (worker_of worker, order)) orders) ≡ []
-other_list worker number [] other = refl
-other_list worker number (o ∷ orders) other =
-    let mine : List Directed
-    = filter (λ (d : Directed). d.0.0 == number) (map (λ (order : ToWorker). (worker_of worker, order)) orders) in
-    ap (λ (b : Bool). map (λ (d : Directed). d.1) (if b then (worker_of worker, o) ∷ mine else mine)) other ∙ other_list worker number orders other
-
 -- a worker before the first of so many has none
 none_before : (lists : ℕ → List ToWorker) (number first count : ℕ) → number < first
     → orders_to number (flat_map (for_worker lists) (range_with_len first count)) ≡ []
 none_before lists number first zero below = refl
 none_before lists number first (suc count) below =
     to_append number (for_worker lists first) (flat_map (for_worker lists) (range_with_len (first + 1) count))
-    ∙ ap₂ (λ (xs ys : List ToWorker). xs ++ ys) (other_list first number (lists first) (ne_eqb first number (λ is. omega (arith, is, below))))
+    ∙ ap₂ (λ (xs ys : List ToWorker). xs ++ ys) (to_other first number (lists first) (ne_eqb first number (λ is. omega (arith, is, below))))
     (none_before lists number (first + 1) count (omega (arith, below)))
 
 -- each has its own list, or none
@@ -79,10 +62,10 @@ to_either lists number first (suc count) = by (first == number) refl (to_either 
   by true is others =
       let same : first ≡ number = eqb-true first number is in
       inl (split
-      ∙ ap₂ (λ (xs ys : List ToWorker). xs ++ ys) (own_list first number (lists first) is) (none_before lists number (first + 1) count (omega (arith, same)))
+      ∙ ap₂ (λ (xs ys : List ToWorker). xs ++ ys) (to_same first number (lists first) is) (none_before lists number (first + 1) count (omega (arith, same)))
       ∙ append-nil (lists first) ∙ ap lists same)
-  by false is (inl own) = inl (split ∙ ap (λ (xs : List ToWorker). xs ++ orders_to number rest) (other_list first number (lists first) is) ∙ own)
-  by false is (inr none) = inr (split ∙ ap (λ (xs : List ToWorker). xs ++ orders_to number rest) (other_list first number (lists first) is) ∙ none)
+  by false is (inl own) = inl (split ∙ ap (λ (xs : List ToWorker). xs ++ orders_to number rest) (to_other first number (lists first) is) ∙ own)
+  by false is (inr none) = inr (split ∙ ap (λ (xs : List ToWorker). xs ++ orders_to number rest) (to_other first number (lists first) is) ∙ none)
 
 -- so what holds of its list and of none holds
 to_holds : (P : List ToWorker → Type 0) (workers : ℕ) (lists : ℕ → List ToWorker) (number : ℕ) → P (lists number) → P []

@@ -16,7 +16,7 @@ same_stays old new same = record { workers = ap (λ (v : Versions). v.workers) s
 pub then_stays : (a b c : Versions) → MapStays a b → MapStays b c → MapStays a c
 then_stays a b c one two = record { workers = two.workers ∙ one.workers; objects = two.objects ∙ one.objects }
 
-put_stays : (worker : Worker) (version : ℕ) (versions : Versions) (slot : Slot) → MapStays versions (with_version worker version versions slot)
+pub put_stays : (worker : Worker) (version : ℕ) (versions : Versions) (slot : Slot) → MapStays versions (with_version worker version versions slot)
 put_stays worker version versions slot = either (is_kept versions worker slot) where
   either : (b : Bool)
       → MapStays versions (if b then record versions {

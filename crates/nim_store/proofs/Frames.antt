@@ -1,5 +1,5 @@
 -- What a finite map of frames has, when a tree's entries have it.
-use Rattle.std.proofs.Common.{◌≡◌, [], ◌∷◌, ℕ, true, cond, List, Option, None, Some, refl, ap, sym, ◌∙◌, filter}
+use Rattle.std.proofs.Common.{◌≡◌, [], ◌∷◌, ℕ, cond, List, Option, None, Some, refl, ap, sym, ◌∙◌, filter}
 use Rattle.std.proofs.lemmas.Cmp.{eq_by_cmp_equiv, nat_cmp_total, on_total, then_total}
 use Rattle.std.proofs.lemmas.Map.Entries.{lookup-filter-keys}
 use Rattle.std.proofs.lemmas.Map.Lookups.{CmpEqualImpliesEq, exact_pairs, exact_unsigned}
@@ -7,11 +7,10 @@ use Rattle.std.specs.BTreeMap.{is_at}
 use Rattle.std.specs.Cmp.{IsTotalOrder}
 use Rattle.std.specs.FinMap.{find, from_entries, get, insert, remove, retain_keys, same_map, get-from_entries, get-insert, get-remove, get-retain_keys}
 use Rattle.std.specs.Map.{lookup}
-use Rattle.std.specs.Ordering.{is_eq, nat_cmp}
-use Rattle.std.specs.declared.cmp.Ordering.{Ordering}
-use Rattle.std.specs.declared.cmp.Ordering.TheVariants.{Less, Equal, Greater}
+use Rattle.std.specs.Ordering.{nat_cmp}
 use Rattle.nim_store.specs.Keys.{from_numbers, is_not_before, key_cmp, key_numbers}
 use Rattle.nim_store.specs.declared.key.Key.{Key}
+use Rattle.nim_base.proofs.Lists.{is_equal}
 
 -- keys that compare alike are one
 pub exact_keys : CmpEqualImpliesEq key_cmp
@@ -48,17 +47,12 @@ one_taken es fs k differ = same_map keys_total exact_keys _ _ (λ q.
     get_found fs q ∙ differ q ∙ ap (λ b. cond b None (found es q)) ((eq_by_cmp_equiv keys_total).symm k q)
     ∙ sym (get-remove keys_total (from_entries es) k q ∙ ap (cond (is_at (key_cmp q) k) None) (get_found es q)))
 
-equal_from : (r : Ordering) → is_eq r ≡ true → r ≡ Equal
-equal_from Less same = search (same)
-equal_from Equal same = refl
-equal_from Greater same = search (same)
-
 -- entries of earlier epochs that are gone are gone from the map
 pub forgotten : {X : Type 0} (es : List (Key × X)) (epoch : ℕ)
     → from_entries {R = key_cmp} (filter (λ e. is_not_before epoch e.0) es) ≡ retain_keys (from_entries es) (is_not_before epoch)
 forgotten es epoch = same_map keys_total exact_keys _ _ (λ q.
     get_found (filter (λ e. is_not_before epoch e.0) es) q
     ∙ lookup-filter-keys (is_at (key_cmp q)) (is_not_before epoch) (is_not_before epoch q)
-    (λ k at. ap (is_not_before epoch) (sym (exact_keys q k (equal_from (key_cmp q k) at)))) es
+    (λ k at. ap (is_not_before epoch) (sym (exact_keys q k (is_equal (key_cmp q k) at)))) es
     ∙ sym (get-retain_keys (from_entries es) (is_not_before epoch) q (λ k alike. ap (is_not_before epoch) (sym (exact_keys q k alike)))
     ∙ ap (λ o. cond (is_not_before epoch q) o None) (get_found es q)))

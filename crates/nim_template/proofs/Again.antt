@@ -23,6 +23,7 @@ use Rattle.nim_template.specs.Again.{HoldAgain, IsBefore, are_current}
 use Rattle.nim_template.specs.Built.{all_slots, built, effect_of, end_of, needs_of}
 use Rattle.nim_template.specs.Closing.{after_closings}
 use Rattle.nim_template.specs.Walk.{home_of, empty_walk}
+use Rattle.nim_base.proofs.Lists.{replicate_or}
 use Rattle.nim_template.proofs.Closes.{AreCurrent, AreNeeds, Closes, closes, current_of, needs_after}
 use Rattle.nim_template.proofs.Effects.{IsDone, IsOf, counted, done_comes, done_stays, kept_none, slot_there, some_kept}
 use Rattle.nim_template.proofs.Offsets.{IsKept}
@@ -101,11 +102,6 @@ all_again most workers objects base offsets versions after (need ∷ needs) kept
     (all_again most workers objects base offsets versions after needs kept rows columns one are.3 current.1 each.1)
 
 -- ---- the walk
-
-pub replicate_or : {X : Type 0} (n i : ℕ) (x : X) → slice_index_or (replicate n x) i x ≡ x
-replicate_or zero i x = refl
-replicate_or (suc n) zero x = refl
-replicate_or (suc n) (suc i) x = replicate_or n i x
 
 length_replicate : {X : Type 0} (n : ℕ) (x : X) → length (replicate n x) ≡ n
 length_replicate zero x = refl

@@ -15,7 +15,8 @@ use Rattle.nim_command.specs.Slots.{is_among}
 use Rattle.nim_place.specs.Versions.{Versions, held_at, is_current, is_kept, latest_of, place_of, with_version}
 use Rattle.nim_place.proofs.Puts.{IsPut, IsWhole, kept_bounds, kept_for, put_all, whole_after}
 use Rattle.nim_template.specs.Again.{IsBefore, are_current}
-use Rattle.nim_template.proofs.Again.{replicate_or, some_same, unheld}
+use Rattle.nim_base.proofs.Lists.{replicate_or}
+use Rattle.nim_template.proofs.Again.{some_same, unheld}
 use Rattle.nim_template.proofs.Closes.{current_of}
 use Rattle.nim_template.proofs.Effects.{some_kept}
 use Rattle.nim_template.proofs.Walks.{any_after, has_any, only_object, same_latest}

@@ -289,7 +289,7 @@ rank_plain : (base : ℕ) (cs : List (Worker × Command)) → map plain (by_rank
 rank_plain base [] = refl
 rank_plain base (c ∷ cs) = put_plain base c (by_rank base cs) ∙ ap (put_by_rank base (plain c)) (rank_plain base cs)
 
-ascends_plain : (low high : ℕ) (cs : List (Worker × Command)) → RanksAscend low high cs → RanksAscend low high (map plain cs)
+pub ascends_plain : (low high : ℕ) (cs : List (Worker × Command)) → RanksAscend low high cs → RanksAscend low high (map plain cs)
 ascends_plain low high [] are = are
 ascends_plain low high (c ∷ cs) are = (are.0, are.1, ascends_plain (order_of c.1 + 1) high cs are.2)
 

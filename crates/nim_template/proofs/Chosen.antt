@@ -4,7 +4,7 @@ use Rattle.std.proofs.Common.{Option}
 use Rattle.std.proofs.Common.{None, Some}
 use Rattle.std.specs.Prelude.{◌^◌, ◌==◌, ◌||◌, if◌then◌else◌, ℤ}
 use Rattle.std.specs.List.{flat_map}
-use Rattle.std.proofs.lemmas.Bool.{eq-eqb, eqb-true, false≢true}
+use Rattle.std.proofs.lemmas.Bool.{eq-eqb, eqb-true, false≢true, or_left, or_right}
 use Rattle.std.proofs.lemmas.List.{map-append}
 use Rattle.std.proofs.lemmas.List.Concat.{flat_map-append}
 use Rattle.nim_base.specs.declared.number.Object.{Object}
@@ -20,7 +20,7 @@ use Rattle.nim_command.specs.Slots.{is_among}
 use Rattle.nim_place.specs.declared.placement.Placement.{Placement}
 use Rattle.nim_place.specs.Schedule.{copies_of, is_one_of, moved_first, moves, run_of, scheduled, source_of}
 use Rattle.nim_place.specs.Versions.{Versions, after_commands, held_at, holder, is_current, latest_of, with_version}
-use Rattle.nim_place.proofs.Moves.{AreLacking, AreMoves, moves_facts, moves_lacking, or_left, or_right}
+use Rattle.nim_place.proofs.Moves.{AreLacking, AreMoves, moves_facts, moves_lacking}
 use Rattle.nim_place.proofs.Puts.{IsPut, put_all}
 use Rattle.nim_template.specs.Tasks.{task_with, without_before}
 use Rattle.nim_template.specs.Walk.{entry_for, home_of, offset_for, task_for}

@@ -22,6 +22,7 @@ use Rattle.nim_place.specs.Extends.{LongerIsPaired, is_live, live_workers, singl
 use Rattle.nim_place.specs.Stands.{MapStands, commands_for}
 use Rattle.nim_place.specs.TaskOrders.{AreSoFar, IsAt}
 use Rattle.nim_place.specs.Versions.{Versions, held_at, holder, is_current, latest_of, with_version}
+use Rattle.nim_base.proofs.Lists.{each_append}
 use Rattle.nim_place.proofs.Finds.{current_held}
 use Rattle.nim_place.proofs.Given.{all_stand}
 use Rattle.nim_place.proofs.GoesOn.{holder_there}
@@ -30,7 +31,7 @@ use Rattle.nim_place.proofs.Keys.{keys_received_more, keys_sent_more, new_receiv
 use Rattle.nim_place.proofs.Legal.{main_of, read_there}
 use Rattle.nim_place.proofs.LiveOnce.{live_once}
 use Rattle.nim_place.proofs.Moves.{holder_facts}
-use Rattle.nim_place.proofs.Pairs.{Once, count_append, count_first, each_append, longer_paired}
+use Rattle.nim_place.proofs.Pairs.{Once, count_append, count_first, longer_paired}
 use Rattle.nim_place.proofs.Places.{both_true}
 use Rattle.nim_place.proofs.Puts.{IsPut, kept_for, put_all}
 use Rattle.nim_place.proofs.Singles.{singles_ask}

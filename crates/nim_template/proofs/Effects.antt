@@ -5,7 +5,7 @@ use Rattle.std.proofs.Common.{Some}
 use Rattle.std.specs.Prelude.{◌==◌, ◌&&◌, ◌||◌, if◌then◌else◌, max, slice_index_or}
 use Rattle.std.specs.List.{flat_map, fold, list_any, range_with_len}
 use Rattle.std.specs.Option.{is_some}
-use Rattle.std.proofs.lemmas.Bool.{eq-eqb, eqb-false, eqb-true, false≢true}
+use Rattle.std.proofs.lemmas.Bool.{eq-eqb, eqb-false, eqb-true, false≢true, or_left, or_right}
 use Rattle.std.proofs.lemmas.List.Folds.{list_any-append}
 use Rattle.std.proofs.lemmas.List.Sums.{fold-append}
 use Rattle.nim_base.specs.declared.number.Object.{Object}
@@ -14,7 +14,6 @@ use Rattle.nim_base.specs.declared.number.Worker.{Worker}
 use Rattle.nim_command.specs.Numbers.{counted_from, main_slot}
 use Rattle.nim_command.specs.Slots.{is_among}
 use Rattle.nim_place.specs.Versions.{Versions, held_at, is_kept, latest_of, place_of, with_kept, with_version, with_written}
-use Rattle.nim_place.proofs.Moves.{or_left, or_right}
 use Rattle.nim_place.proofs.Places.{both_true}
 use Rattle.nim_place.proofs.Puts.{IsPut, IsWhole, kept_bounds, kept_for, put_all, whole_after}
 use Rattle.nim_template.specs.Built.{all_slots, effect_at, effect_here, effect_of, slots_of}

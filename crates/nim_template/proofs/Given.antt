@@ -21,7 +21,7 @@ use Rattle.nim_command.specs.Ranks.{is_patch_number}
 use Rattle.nim_command.specs.Waits.{commands_of}
 use Rattle.nim_message.specs.declared.order.ToWorker.{ToWorker}
 use Rattle.nim_order.specs.Orders.{AreEntriesByRule}
-use Rattle.nim_order.proofs.Sessions.{orders_cover}
+use Rattle.nim_order.proofs.Sessions.{entries_ruled, orders_cover}
 use Rattle.nim_job.specs.declared.job.Job.{Job}
 use Rattle.nim_job.specs.Serial.{tasks_of}
 use Rattle.nim_job.specs.Tasks.{param_of, task_with_args}
@@ -52,7 +52,7 @@ use Rattle.nim_template.proofs.InTurn.{AreLegalAt, AreTasksFrom, closings_given,
 use Rattle.nim_template.proofs.Left.{IsDoneBy, closing_of, done_by, entries_of}
 use Rattle.nim_template.proofs.Numbers.{closings_few, filter_few, slots_long}
 use Rattle.nim_template.proofs.Turns.{AreGiven, between_parts, given_then, have_fewer, is_key_between, is_key_by}
-use Rattle.nim_template.proofs.OneWorker.{IsInFor, IsOutFor, entries_ruled, in_for, install_legal, install_ruled, instance_legal, instance_ruled}
+use Rattle.nim_template.proofs.OneWorker.{IsInFor, IsOutFor, in_for, install_legal, install_ruled, instance_legal, instance_ruled}
 use Rattle.nim_template.proofs.OneWorker.{out_for}
 use Rattle.nim_template.proofs.SameKeys.{SendSame, same_none, same_paired}
 

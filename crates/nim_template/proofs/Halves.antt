@@ -31,7 +31,8 @@ use Rattle.nim_template.specs.Closing.{closing_entries, closings}
 use Rattle.nim_template.specs.Fits.{is_fit}
 use Rattle.nim_template.specs.Tasks.{DoTasks, of_tasks, scheduled_from, without_before}
 use Rattle.nim_template.specs.Walk.{walked_past, home_of, empty_walk, walked, with_need}
-use Rattle.nim_template.proofs.Again.{home_within, nothing_held, replicate_or, start_walked}
+use Rattle.nim_base.proofs.Lists.{replicate_or}
+use Rattle.nim_template.proofs.Again.{home_within, nothing_held, start_walked}
 use Rattle.nim_template.proofs.Alike.{IsAlike}
 use Rattle.nim_template.proofs.Chosen.{command_at, plain}
 use Rattle.nim_template.proofs.Closes.{current_of}

@@ -62,7 +62,7 @@ first_live (false ∷ live) within =
     let next : position_or_len (λ (flag : Bool). flag) (false ∷ live) ≡ suc (position_or_len (λ (flag : Bool). flag) live) = omega arith in
     ap (λ (n : ℕ). slice_index_or (false ∷ live) n false) next ∙ first_live live (omega (arith, within))
 
-ahead_live : (live : List Bool) (from : ℕ) → live_ahead live from < length live → slice_index_or live (live_ahead live from) false ≡ true
+pub ahead_live : (live : List Bool) (from : ℕ) → live_ahead live from < length live → slice_index_or live (live_ahead live from) false ≡ true
 ahead_live live zero within =
     let same : live_ahead live 0 ≡ position_or_len (λ (flag : Bool). flag) live = omega arith in
     ap (λ (n : ℕ). slice_index_or live n false) same ∙ first_live live (omega (arith, within))

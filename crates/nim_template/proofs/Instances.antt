@@ -5,7 +5,7 @@ use Rattle.std.proofs.Common.{None, Some}
 use Rattle.std.specs.Prelude.{◌^◌, ◌==◌, ◌&&◌, ◌||◌, if◌then◌else◌, ℤ}
 use Rattle.std.specs.List.{flat_map, fold, list_all}
 use Rattle.std.specs.Option.{is_some}
-use Rattle.std.proofs.lemmas.Bool.{eq-eqb, eqb-true, false≢true, ne_eqb}
+use Rattle.std.proofs.lemmas.Bool.{eq-eqb, eqb-true, false≢true, ne_eqb, or_left, or_right}
 use Rattle.std.proofs.lemmas.List.{append-nil, append_assoc, map-append}
 use Rattle.std.proofs.lemmas.List.Sums.{fold-append}
 use Rattle.nim_base.specs.declared.number.Object.{Object}
@@ -19,7 +19,7 @@ use Rattle.nim_command.specs.Numbers.{counted_from, main_slot}
 use Rattle.nim_place.specs.declared.placement.Placement.{Placement}
 use Rattle.nim_place.specs.Schedule.{copies_of, is_one_of, moves, run_of, scheduled}
 use Rattle.nim_place.specs.Versions.{Versions, after_commands, after_kind, held_at, is_current, latest_of, with_version}
-use Rattle.nim_place.proofs.Moves.{moves_facts, moves_lacking, or_left, or_right}
+use Rattle.nim_place.proofs.Moves.{moves_facts, moves_lacking}
 use Rattle.nim_place.proofs.Places.{both_true}
 use Rattle.nim_place.proofs.Puts.{IsPut, kept_for, put_all}
 use Rattle.nim_template.specs.declared.walk.Walk.{Walk}

@@ -54,7 +54,7 @@ use Rattle.nim_template.proofs.Says.{IsEnd, SaysOf, each_flat_all, item_says, un
 
 -- ---- slots that meet the preconditions
 
-needs_good : (version : Object → ℕ) (slots : Worker → Slot → Content) (workers objects : ℕ) (offsets : Versions) (needs : List (Worker × Object))
+pub needs_good : (version : Object → ℕ) (slots : Worker → Slot → Content) (workers objects : ℕ) (offsets : Versions) (needs : List (Worker × Object))
     → offsets.workers ≡ workers → offsets.objects ≡ objects → AreNeeds offsets needs
     → AllByRecursion (λ (one : Worker × Object). slots one.0 (main_slot one.1) ≡ Some (one.1, version one.1)) needs
     → AreGood version slots workers objects needs
@@ -256,12 +256,12 @@ sound_some place objects live template first others forms_are some workers_few o
 
 -- ---- a block without tasks
 
-nothing_current : (workers objects : ℕ) (slot : Worker × Object) → is_current (no_versions workers objects) slot.1 slot.0 ≡ false
+pub nothing_current : (workers objects : ℕ) (slot : Worker × Object) → is_current (no_versions workers objects) slot.1 slot.0 ≡ false
 nothing_current workers objects slot =
     ap (λ (o : Option ℕ). option_map_or (λ (version : ℕ). version == latest_of (no_versions workers objects) slot.1) o false)
     (nothing_held workers objects slot.0 slot.1)
 
-nothing_needed : (workers objects : ℕ) (slots : List (Worker × Object)) → needs_of (no_versions workers objects) slots ≡ []
+pub nothing_needed : (workers objects : ℕ) (slots : List (Worker × Object)) → needs_of (no_versions workers objects) slots ≡ []
 nothing_needed workers objects [] = refl
 nothing_needed workers objects (slot ∷ slots) =
     ap (λ (b : Bool). if b then slot ∷ needs_of (no_versions workers objects) slots else needs_of (no_versions workers objects) slots)
@@ -273,7 +273,7 @@ nothing_named workers objects (slot ∷ slots) =
     ap₂ (λ (o : Option ℕ) (items : List (Worker × Slot × ℕ)). effect_at slot o ++ items) (nothing_held workers objects slot.0 slot.1)
     (nothing_named workers objects slots)
 
-nothing_asked : (before : Object → ℕ) (base : ℕ) (args : List ℤ) (from n : ℕ)
+pub nothing_asked : (before : Object → ℕ) (base : ℕ) (args : List ℤ) (from n : ℕ)
     → commands_from before base args from (map (λ (number : ℕ). half_for (record { 0 = number }) []) (range_with_len from n)) ≡ []
 nothing_asked before base args from zero = refl
 nothing_asked before base args from (suc n) = nothing_asked before base args (from + 1) n

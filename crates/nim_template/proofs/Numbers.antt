@@ -33,6 +33,7 @@ use Rattle.nim_template.specs.Built.{all_slots, built, end_of, entries_for, half
 use Rattle.nim_template.specs.Closing.{closed_for, closing_entries, closing_from, closing_receive, closing_send, closings, copy_from}
 use Rattle.nim_template.specs.Fits.{is_fit}
 use Rattle.nim_template.specs.Walk.{walked_past, entry_for, home_of, empty_walk, task_for, walked, with_need}
+use Rattle.nim_place.proofs.ByTask.{elsewhere}
 use Rattle.nim_template.proofs.Fits.{few_reads}
 use Rattle.nim_template.proofs.Sizes.{need_if}
 
@@ -85,12 +86,6 @@ for_cons worker of entry rest b is =
 abbrev first_number : ℕ → Bool → ℕ
 first_number task owns = if owns then 64 * task + 8 else 64 * task
 
-apart_from : (owner worker from : Worker) → (owner.0 == worker.0) ≡ true → (from.0 ≡ owner.0 → ⊥) → (from.0 == worker.0) ≡ false
-apart_from owner worker from is apart = either (from.0 == worker.0) refl where
-  either : (b : Bool) → (from.0 == worker.0) ≡ b → b ≡ false
-  either true same = absurd (apart (eqb-true from.0 worker.0 same ∙ sym (eqb-true owner.0 worker.0 is)))
-  either false same = refl
-
 copies_between : (form : TaskForm) (base : Versions) (task : ℕ) (owner worker : Worker) (reads : List Object) (low : ℕ) (ms : List _) → task ≤ 1024 → low ≤ 8
     → AreMoves base owner reads ms → AreIndexed low 8 ms → (b : Bool) → (owner.0 == worker.0) ≡ b
     → Between (first_number task b + low) (first_number task b + 8) (entries_for worker (flat_map (entry_for form) (copies_of base task owner ms)))
@@ -102,7 +97,7 @@ copies_between form base task owner worker reads low (m ∷ ms) few room are at 
     let got : Worker × Command = receive_of base task owner m in
     let later = copies_between form base task owner worker reads (m.index + 1) ms few (omega (arith, at.1)) are.4 at.2 true is in
     let all : entries_for worker (entry_for form sent ++ (entry_for form got ++ rest)) ≡ entries_for worker (entry_for form got ++ rest) =
-    for_cons worker m.from _ (entry_for form got ++ rest) false (apart_from owner worker m.from is are.1) in
+    for_cons worker m.from _ (entry_for form got ++ rest) false (elsewhere owner worker m.from is are.1) in
     subst (Between (64 * task + 8 + low) (64 * task + 8 + 8)) (sym (all ∙ for_cons worker owner _ rest true is))
     (omega (arith, few, at.0, at.1), lower _ (64 * task + 8 + (m.index + 1)) (64 * task + 8 + 8) (entries_for worker rest) (omega (arith, few, at.1)) later)
 copies_between form base task owner worker reads low (m ∷ ms) few room are at false is =

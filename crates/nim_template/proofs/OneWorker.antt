@@ -1,5 +1,5 @@
 -- One worker's orders of a template: what its list comes to with the order that installs its half, and with an instance.
-use Rattle.std.proofs.Common.{◌≡◌, ℕ, Bool, true, List, [], ◌∷◌, ◌++◌, map, refl, ap, sym, subst, ◌∙◌}
+use Rattle.std.proofs.Common.{◌≡◌, ℕ, Bool, true, List, [], ◌∷◌, ◌++◌, refl, ap, sym, subst, ◌∙◌}
 use Rattle.std.specs.Prelude.{◌==◌, ◌&&◌, All, if◌then◌else◌, ℤ}
 use Rattle.std.specs.List.{flat_map}
 use Rattle.std.proofs.lemmas.Bool.{and_from, eq-eqb}
@@ -11,9 +11,7 @@ use Rattle.nim_base.specs.declared.number.Object.{Object}
 use Rattle.nim_base.specs.declared.number.Worker.{Worker}
 use Rattle.nim_command.specs.declared.command.Command.{Command}
 use Rattle.nim_command.specs.declared.entry.Entry.{Entry}
-use Rattle.nim_command.specs.Before.{Footprint, before_of, befores_behind}
 use Rattle.nim_command.specs.Expansion.{expanded}
-use Rattle.nim_command.specs.Ruled.{entries_by_rule, entry_footprint}
 use Rattle.nim_command.specs.Waits.{Group, commands_of}
 use Rattle.nim_message.specs.declared.order.ToWorker.{ToWorker}
 use Rattle.nim_message.specs.declared.order.ToWorker.TheVariants.{InstallTemplate, Instantiate}
@@ -115,12 +113,6 @@ in_for epoch instance block base args before (entry ∷ entries) orders begun sa
     }
 
 -- ---- before sets
-
-pub entries_ruled : (past : List Footprint) (entries : List Entry)
-    → map (λ (e : Entry). e.before) (entries_by_rule past entries) ≡ befores_behind past (map entry_footprint (entries_by_rule past entries))
-entries_ruled past [] = refl
-entries_ruled past (entry ∷ entries) =
-    ap (λ (rest : List (List ℕ)). before_of past (entry_footprint entry) ∷ rest) (entries_ruled (past ++ entry_footprint entry ∷ []) entries)
 
 pub install_ruled : (epoch block : ℕ) (half : List Entry) (orders : List ToWorker) → AreEntriesByRule half → All IsOrderByRule orders
     → All IsOrderByRule (orders ++ install_with epoch block half)

@@ -75,7 +75,7 @@ chosen_slots owner worker h plane slot among x is false apart =
       either true = refl
       either false = refl
 
-pick_held : (d : Bool) (version found : ℕ) (object : Object) (old : Option ℕ) (was now : Content) → now ≡ (if d then Some (object, version) else was)
+pub pick_held : (d : Bool) (version found : ℕ) (object : Object) (old : Option ℕ) (was now : Content) → now ≡ (if d then Some (object, version) else was)
     → Some found ≡ (if d then Some version else old) → (old ≡ Some found → was ≡ Some (object, found)) → now ≡ Some (object, found)
 pick_held true version found object old was now is put before = is ∙ ap (option_map_with object) (sym put) where
   option_map_with : Object → Option ℕ → Content
@@ -146,7 +146,7 @@ like_puts slots versions plane owner version puts h like below few within is =
 
 -- ---- frames
 
-skip_first : (frame : Frame) (frames : List Frame) (worker : Worker) (entry : ℕ) → (frame.entry ≡ entry → ⊥)
+pub skip_first : (frame : Frame) (frames : List Frame) (worker : Worker) (entry : ℕ) → (frame.entry ≡ entry → ⊥)
     → sent_to (frame ∷ frames) worker entry ≡ sent_to frames worker entry
 skip_first frame frames worker entry apart =
     ap (λ (b : Bool). if (frame.to.0 == worker.0) && b then frame.content else sent_to frames worker entry) (ne_eqb frame.entry entry apart)
@@ -214,7 +214,7 @@ pub record AreSent (job : Job) (plane : Plane) (commands : List (Worker × Comma
   pub found : AreFound job plane commands
   pub after : plane_left plane commands ≡ with_frames frames plane
 
-abbrev plane_of : (Worker → Slot → Content) → List Frame → Plane
+abbrev pub plane_of : (Worker → Slot → Content) → List Frame → Plane
 plane_of slots frames = record { slots = slots; frames = frames }
 
 sends_found : (job : Job) (versions : Versions) (number : ℕ) (owner : Worker) (slots : Worker → Slot → Content) (frames : List Frame) (ms : List _)

@@ -54,7 +54,7 @@ moved_ends versions number owner [] = refl
 moved_ends versions number owner (m ∷ ms) = ap (λ (ends : Ends). end_sent (send_of number owner m).1.kind ++ ends) (moved_ends versions number owner ms)
 
 -- of two lists with the same ends
-both_ends : (xs ys : List (Worker × Command)) → ends_sent xs ≡ ends_received xs → ends_sent ys ≡ ends_received ys
+pub both_ends : (xs ys : List (Worker × Command)) → ends_sent xs ≡ ends_received xs → ends_sent ys ≡ ends_received ys
     → ends_sent (xs ++ ys) ≡ ends_received (xs ++ ys)
 both_ends xs ys first second =
     flat_map-append (λ (c : Worker × Command). end_sent c.1.kind) xs ys

@@ -6,7 +6,8 @@ use Rattle.nim_base.specs.declared.number.Worker.{Worker}
 use Rattle.nim_message.specs.declared.order.ToWorker.{ToWorker}
 use Rattle.nim_plan.specs.Paired.{ArePaired, IsPairedAt, Key, keys_received, keys_sent}
 use Rattle.nim_place.specs.Extends.{HaveNone, is_live, live_lists, live_workers}
-use Rattle.nim_place.proofs.Pairs.{IsPairedBy, Once, all_live, all_sent, by_paired, each_map, each_of_map, each_two, each_weaker, flat_agree}
+use Rattle.nim_base.proofs.Lists.{each_two}
+use Rattle.nim_place.proofs.Pairs.{IsPairedBy, Once, all_live, all_sent, by_paired, each_map, each_of_map, each_weaker, flat_agree}
 use Rattle.nim_place.proofs.Pairs.{given_of, paired_by}
 
 -- two lists of orders for each worker that send and receive the same

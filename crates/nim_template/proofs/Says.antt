@@ -3,7 +3,7 @@ use Rattle.std.proofs.Common.{◌≡◌, ℕ, ◌<◌, ◌≤◌, Bool, true, fa
 use Rattle.std.proofs.Common.{Option, None, Some}
 use Rattle.std.specs.Prelude.{◌==◌, ◌&&◌, ◌||◌, if◌then◌else◌}
 use Rattle.std.specs.List.{AllByRecursion, flat_map, list_any}
-use Rattle.std.proofs.lemmas.Bool.{eq-eqb, eqb-true, false≢true}
+use Rattle.std.proofs.lemmas.Bool.{eq-eqb, eqb-true, false≢true, or_left, or_right}
 use Rattle.std.proofs.lemmas.List.Folds.{list_any-append}
 use Rattle.nim_base.specs.declared.number.Object.{Object}
 use Rattle.nim_base.specs.declared.number.Slot.{Slot}
@@ -16,12 +16,11 @@ use Rattle.nim_place.specs.Sound.{Plane, is_affected}
 use Rattle.nim_place.specs.Versions.{Versions, held_at, is_kept, latest_of}
 use Rattle.nim_place.proofs.Finds.{current_held}
 use Rattle.nim_place.proofs.Legal.{main_of}
-use Rattle.nim_place.proofs.Moves.{or_left, or_right}
-use Rattle.nim_place.proofs.Pairs.{each_append}
 use Rattle.nim_place.proofs.Places.{both_true}
 use Rattle.nim_place.proofs.Puts.{kept_bounds}
 use Rattle.nim_template.specs.Built.{all_slots, effect_at, effect_here, effect_of}
 use Rattle.nim_template.specs.Walk.{offset_for}
+use Rattle.nim_base.proofs.Lists.{each_append}
 use Rattle.nim_template.proofs.AtEntry.{IsAtEntry}
 use Rattle.nim_template.proofs.EffectLeft.{counted_is}
 use Rattle.nim_template.proofs.Effects.{counted, is_slot, slot_there, some_kept, still_more}

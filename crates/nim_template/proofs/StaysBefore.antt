@@ -21,12 +21,12 @@ use Rattle.nim_place.specs.Schedule.{copies_of, moves, run_of, scheduled}
 use Rattle.nim_place.specs.Stands.{commands_for}
 use Rattle.nim_place.specs.Versions.{Versions, after_commands, held_at, latest_of, no_versions, puts_of, version_of}
 use Rattle.nim_place.proofs.Moves.{AreMoves, moves_facts}
-use Rattle.nim_place.proofs.Pairs.{each_append}
 use Rattle.nim_place.proofs.Puts.{kept_bounds, kept_for}
 use Rattle.nim_template.specs.Again.{IsBefore}
 use Rattle.nim_template.specs.StaysBefore.{MapsStayBefore}
 use Rattle.nim_template.specs.Walk.{home_of}
-use Rattle.nim_template.proofs.Again.{home_within, nothing_held, replicate_or, some_same, start_walked}
+use Rattle.nim_base.proofs.Lists.{each_append, replicate_or}
+use Rattle.nim_template.proofs.Again.{home_within, nothing_held, some_same, start_walked}
 use Rattle.nim_template.proofs.Alike.{at_most}
 use Rattle.nim_template.proofs.Effects.{some_kept}
 use Rattle.nim_template.proofs.Ends.{AreEnds}

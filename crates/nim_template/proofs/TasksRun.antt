@@ -29,7 +29,7 @@ use Rattle.nim_place.specs.Schedule.{copies_of, is_one_of, moves, run_of, schedu
 use Rattle.nim_place.specs.Sound.{Plane, plane_left as walked_plane}
 use Rattle.nim_place.specs.Stands.{greater_put}
 use Rattle.nim_place.specs.Versions.{Versions, after_commands, after_kind, holder, is_current, latest_of}
-use Rattle.nim_place.proofs.GoesOn.{before_within, holder_there, read_next}
+use Rattle.nim_place.proofs.GoesOn.{among_mains, before_within, holder_there, read_next}
 use Rattle.nim_place.proofs.Legal.{main_of, mains_of, read_there, read_within, task_objects, task_passes}
 use Rattle.nim_place.proofs.Moves.{AreMoves, moves_facts}
 use Rattle.nim_place.proofs.Places.{both_true}
@@ -94,10 +94,6 @@ copies_below : (versions : Versions) (number : ℕ) (owner : Worker) (reads : Li
     → owner.0 < versions.workers → AllBelow versions.workers (copies_of versions number owner ms)
 copies_below versions number owner reads [] are below = tt
 copies_below versions number owner reads (m ∷ ms) are below = (are.0, (below, copies_below versions number owner reads ms are.4 below))
-
-among_mains : (writes : List Object) (object : Object) → is_among (map main_slot writes) (main_slot object) ≡ is_one_of writes object
-among_mains [] object = refl
-among_mains (w ∷ writes) object = ap (λ (b : Bool). (w.0 == object.0) || b) (among_mains writes object)
 
 mains_below : (objects : ℕ) (writes : List Object) (slot : Slot) → are_below objects writes ≡ true → is_among (map main_slot writes) slot ≡ true
     → slot.0 < objects

@@ -3,7 +3,7 @@ use Rattle.std.proofs.Common.{◌≡◌, ℕ, ◌<◌, Bool, true, false, List, 
 use Rattle.std.specs.Prelude.{◌==◌, ◌&&◌, if◌then◌else◌, max}
 use Rattle.std.specs.List.{fold}
 use Rattle.std.specs.Option.{option_map_or}
-use Rattle.std.proofs.lemmas.Bool.{eq-eqb, eqb-false, eqb-true, ne_eqb}
+use Rattle.std.proofs.lemmas.Bool.{eq-eqb, eqb-false, eqb-true, ne_eqb, or_left, or_right}
 use Rattle.std.proofs.lemmas.List.Sums.{fold-append}
 use Rattle.nim_base.specs.declared.number.Object.{Object}
 use Rattle.nim_base.specs.declared.number.Slot.{Slot}
@@ -16,7 +16,7 @@ use Rattle.nim_command.specs.Slots.{is_among}
 use Rattle.nim_place.specs.declared.placement.Placement.{Placement}
 use Rattle.nim_place.specs.Schedule.{copies_of, is_one_of, moves, run_of, scheduled}
 use Rattle.nim_place.specs.Versions.{Versions, after_commands, after_kind, held_at, is_current, latest_of, with_version}
-use Rattle.nim_place.proofs.Moves.{AreLacking, AreMoves, moves_facts, moves_lacking, or_left, or_right}
+use Rattle.nim_place.proofs.Moves.{AreLacking, AreMoves, moves_facts, moves_lacking}
 use Rattle.nim_place.proofs.Puts.{IsPut, IsWhole, kept_for, put_all, whole_after}
 use Rattle.nim_template.specs.declared.walk.Walk.{Walk}
 use Rattle.nim_template.specs.Walk.{home_of, task_for, with_need, with_offset}

@@ -4,7 +4,6 @@ use Rattle.std.specs.Prelude.{if◌then◌else◌, IsTrue}
 use Rattle.std.specs.List.{fold}
 use Rattle.std.specs.Option.{is_some, option_map_or}
 use Rattle.std.proofs.lemmas.List.{map-append}
-use Rattle.std.proofs.lemmas.List.Elements.{All-tail}
 use Rattle.std.proofs.lemmas.List.Sums.{fold-append}
 use Rattle.nim_command.specs.Waits.{members_of}
 use Rattle.nim_order.specs.Progress.{is_one_of}
@@ -22,6 +21,7 @@ use Rattle.nim_worker.specs.declared.worker.WorkerCore.{WorkerCore}
 use Rattle.nim_worker.specs.Chains.{AreWorks}
 use Rattle.nim_worker.specs.Stands.{Gave, HasState, IsAtWork, IsOut, CoreStands, after_completions, begun_of, completions, completions_of, outs_at, tickets_of}
 use Rattle.nim_worker.specs.Works.{Begun, begun_as}
+use Rattle.nim_base.proofs.Lists.{All_behind}
 use Rattle.nim_worker.proofs.Begun.{asked_of, begun_first}
 use Rattle.nim_worker.proofs.Handed.{stands_on}
 use Rattle.nim_worker.proofs.Released.{within_all}
@@ -117,12 +117,8 @@ handed_still : (job : Job) (history : List Happening) (stale : Bool) (places : L
 handed_still job history true places handed = subst (IsHandedTruth job) (sym (append-nil history)) handed
 handed_still job history false places handed = truth_goes_on.completed job history places handed
 
-all_last : {X : Type 0} (P : X → Type 0) (xs ys : List X) → All P (xs ++ ys) → All P ys
-all_last P [] ys all = all
-all_last P (x ∷ xs) ys all = all_last P xs ys (All-tail P x (xs ++ ys) all)
-
 last_good : (job : Job) (before outs all : List Out) → all ≡ before ++ outs → All (IsGoodOut job) all → All (IsGoodOut job) outs
-last_good job before outs all is good = all_last (IsGoodOut job) before outs (subst (All (IsGoodOut job)) is good)
+last_good job before outs all is good = All_behind (IsGoodOut job) before outs (subst (All (IsGoodOut job)) is good)
 
 pub outs_good : (job : Job) (core new : WorkerCore) (batch : Batch) (history : List Happening) (outs : List Out) → IsTrue (is_whole job)
     → IsHandedTruth job history

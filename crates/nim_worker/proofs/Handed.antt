@@ -1,6 +1,6 @@
 -- What a core stands for once it was handed an order or a frame of data.
 use Rattle.std.proofs.Common.{◌≡◌, ◌≤◌, arith, ℕ, Bool, true, false, not, List, [], ◌∷◌, ◌++◌, refl, ap, ap₂, sym, subst, ◌∙◌, Option, None, Some, All}
-use Rattle.std.specs.Prelude.{◌==◌, ◌&&◌, nat_lt, if◌then◌else◌, OnOk, Result, Ok, Err}
+use Rattle.std.specs.Prelude.{◌==◌, ◌&&◌, nat_lt, if◌then◌else◌}
 use Rattle.std.specs.FinMap as map
 use Rattle.std.specs.List.{fold}
 use Rattle.std.specs.Option.{is_some, option_map_or}
@@ -324,11 +324,6 @@ instance_taken old installed admitted batch state order epoch instance block hea
       commands = ap (λ (f : ℕ → List Entry). expanded asked.base asked.args asked.versions 0 (edited_by asked.edits (f block))) (sym halves);
     }))
     at)
-
--- what holds where a call succeeds, drawn from what its contract says there
-pub on_ok : {A E P Q : Type 0} (result : Result A E) → OnOk result P → (P → Q) → OnOk result Q
-on_ok (Ok value) holds draw = draw holds
-on_ok (Err e) holds draw = record {}
 
 pub not_less : (a b : ℕ) → b ≤ a → nat_lt a b ≡ false
 not_less a b above = grind (arith, above)

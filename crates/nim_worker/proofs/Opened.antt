@@ -11,7 +11,6 @@ use Rattle.std.proofs.lemmas.Option.{none-some, same_Some, slice_get_past, slice
 use Rattle.nim_command.specs.declared.command.Command.{Command}
 use Rattle.nim_command.specs.Waits.{Group, Member, members_of}
 use Rattle.nim_order.specs.Progress.{is_one_of}
-use Rattle.nim_order.proofs.Items.{get_front}
 use Rattle.nim_order.proofs.Orders.{one_more}
 use Rattle.nim_queue.specs.Stands as queue
 use Rattle.nim_history.specs.History.{Asked, asked_at, is_of_group, left_in_group}
@@ -20,6 +19,7 @@ use Rattle.nim_worker.specs.declared.admitted.Admitted.{Admitted}
 use Rattle.nim_worker.specs.declared.admitted.OpenGroup.{OpenGroup}
 use Rattle.nim_worker.specs.declared.head.GroupHead.{GroupHead}
 use Rattle.nim_worker.specs.Admitted.{Closes, CountsDown, IsAdmitted, IsGroupOf, Opens, ended_at, head_at, group_head, is_told, one_less, open_of, open_with, while_left}
+use Rattle.nim_base.proofs.Lists.{get_front, get_last}
 
 -- The command of a ticket isn't complete: its group is in the table, and so many are left of it once this one is complete too.
 record IsOpen (groups : List Group) (ran : List ℕ) (ticket number : ℕ) : Type 0 where
@@ -192,10 +192,6 @@ next_entry : (next : Group) (left : ℕ) (before : Option OpenGroup) → before 
 next_entry next zero before is = is
 next_entry next (suc left) before is = cond-true (nat_lt 0 (suc left)) (Some (entry_of next (suc left))) before (lt-ltb 0 (suc left) (omega arith))
 
-last_there : {X : Type 0} (xs : List X) (x : X) → slice_get (xs ++ x ∷ []) (length xs) ≡ Some x
-last_there [] x = refl
-last_there (y ∷ xs) x = last_there xs x
-
 table_up : (old new : BTreeMap ℕ OpenGroup) (groups : List Group) (ran : List ℕ) (next : Group) (left : ℕ)
     → ((n : ℕ) → get nat_cmp old n ≡ open_of groups ran n)
     → ((place : ℕ) → queue.command_count groups ≤ place → is_one_of ran place ≡ false) → left ≡ length next.commands
@@ -209,7 +205,7 @@ table_up old new groups ran next left table later many opens other = opens other
       next_entry next left (get nat_cmp old (length groups)) (table (length groups) ∙ none_yet groups ran (length groups) (omega arith))
       ∙ ap (open_with next) (many ∙ sym (left_of_next groups next ran later))
       ∙ sym
-      (ap (λ (o : Option Group). option_and_then (λ (group : Group). open_with group (left_in_group longer (length groups) ran)) o) (last_there groups next))
+      (ap (λ (o : Option Group). option_and_then (λ (group : Group). open_with group (left_in_group longer (length groups) ran)) o) (get_last groups next))
 
   of_front : other < length groups → get nat_cmp old other ≡ open_of longer ran other
   of_front within =

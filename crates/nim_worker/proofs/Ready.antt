@@ -1,9 +1,9 @@
 -- Whether some command may be completed, by a walk over the released ones.
 use Rattle.std.proofs.Common.{◌≡◌, ℕ, zero, suc, ◌+◌, ◌<◌, ◌≤◌, Bool, true, false, not, List, [], ◌∷◌, length, refl, ap, sym, subst, ◌∙◌, arith, Option, None, Some}
-use Rattle.std.specs.Prelude.{◌==◌, ◌&&◌, ◌||◌, IfSome, if◌then◌else◌, slice_get}
+use Rattle.std.specs.Prelude.{◌&&◌, ◌||◌, IfSome, if◌then◌else◌}
 use Rattle.std.specs.List.{list_any, range_with_len}
 use Rattle.std.specs.Option.{option_map_or}
-use Rattle.std.proofs.lemmas.Bool.{and_parts, eqb-false, eqb-true}
+use Rattle.std.proofs.lemmas.Bool.{and_parts}
 use Rattle.nim_command.specs.Waits.{members_of}
 use Rattle.nim_order.specs.Progress.{is_one_of}
 use Rattle.nim_queue.specs.Stands.{command_count, first_to_pass, is_after, is_released, ready_of}
@@ -11,6 +11,7 @@ use Rattle.nim_history.specs.History.{Asked, WorkerState, asked_at, has_frame}
 use Rattle.nim_history.proofs.Left.{asked_is}
 use Rattle.nim_worker.specs.declared.worker.WorkerCore.{WorkerCore}
 use Rattle.nim_worker.specs.Taken.{has_released, may_complete, taken_from, taken_of}
+use Rattle.nim_base.proofs.Lists.{any_of_range, get_some}
 use Rattle.nim_worker.proofs.OneTaken.{not_ran}
 use Rattle.nim_worker.proofs.Walk.{IsWalked, taken_full, walk_ends, walked_on}
 
@@ -54,15 +55,10 @@ first_passes test from (suc count) ticket is = either (test from) refl (first_pa
       (ap test (sym same) ∙ does, omega (arith, same), omega (arith, same))
   either false not more is = let rest = more is in (rest.0, omega (arith, rest.1), omega (arith, rest.2))
 
-there : {X : Type 0} (xs : List X) (k : ℕ) → k < length xs → (x : X) × (slice_get xs k ≡ Some x)
-there [] k below = absurd (omega (arith, below))
-there (x ∷ xs) zero below = (x, refl)
-there (x ∷ xs) (suc k) below = there xs k (omega (arith, below))
-
 -- a released command: it was asked for, and isn't complete
 pub record IsNext (state : WorkerState) (ticket : ℕ) : Type 0 where
   pub asked : Asked
-  pub there : asked_at state.session.groups ticket ≡ Some asked
+  pub get_some : asked_at state.session.groups ticket ≡ Some asked
   pub released : is_released state.session.groups (is_one_of state.ran) ticket ≡ true
   pub waiting : is_one_of state.ran ticket ≡ false
   pub within : ticket < length (members_of state.session.groups)
@@ -74,11 +70,11 @@ next_is state after ticket ready =
     let first = first_passes (λ (t : ℕ). is_after after t && is_released groups (is_one_of state.ran) t) 0 (command_count groups) ticket ready in
     let released = (and_parts (is_after after ticket) (is_released groups (is_one_of state.ran) ticket) first.0).1 in
     let within : ticket < length (members_of groups) = omega (arith, first.2) in
-    let member = there (members_of groups) ticket within in
+    let member = get_some (members_of groups) ticket within in
     let asked = asked_is groups ticket member.0 member.1 in
     record {
       asked = record { number = member.0.group; group = asked.0; command = member.0.command };
-      there = asked.2;
+      get_some = asked.2;
       released = released;
       waiting = not_ran groups state.ran ticket released;
       within = within;
@@ -90,32 +86,17 @@ may_next state ticket next =
     ap (λ (b : Bool). b && option_map_or (has_frame state) (asked_at state.session.groups ticket) false) next.released
     ∙ ap (λ (o : Option Asked). option_map_or (has_frame state) o false) next.there
 
-any_at : (test : ℕ → Bool) (from count ticket : ℕ) → from ≤ ticket → ticket < from + count → test ticket ≡ true
-    → list_any test (range_with_len from count) ≡ true
-any_at test from zero ticket above below does = absurd (omega (arith, above, below))
-any_at test from (suc count) ticket above below does =
-    either (test from) refl (λ later. any_at test (from + 1) count ticket later (omega (arith, below)) does) where
-      -- it isn't the first, which doesn't pass
-      later : test from ≡ false → (b : Bool) → (ticket == from) ≡ b → from + 1 ≤ ticket
-      later is true same = let at : ticket ≡ from = eqb-true ticket from same in let never : true ≡ false = sym does ∙ ap test at ∙ is in absurd cc
-      later is false other = let apart = eqb-false ticket from other in omega (arith, above, apart)
-
-      either : (b : Bool) → test from ≡ b → (from + 1 ≤ ticket → list_any test (range_with_len (from + 1) count) ≡ true)
-          → (b || list_any test (range_with_len (from + 1) count)) ≡ true
-      either true is rest = refl
-      either false is rest = rest (later is (ticket == from) refl)
-
 framed_as : (state : WorkerState) (ticket : ℕ) (next : IsNext state ticket) (frame : Bool)
     → IfSome (asked_at state.session.groups ticket) (λ (asked : Asked). frame ≡ has_frame state asked) → may_complete state ticket ≡ frame
 framed_as state ticket next frame is =
     may_next state ticket next
     ∙ sym (subst (λ (o : Option Asked). IfSome o (λ (asked : Asked). frame ≡ has_frame state asked)) next.there is)
 
--- it may, where its frame is there
+-- it may, where its frame is get_some
 pub one_released : (state : WorkerState) (ticket : ℕ) → IsNext state ticket
     → IfSome (asked_at state.session.groups ticket) (λ (asked : Asked). true ≡ has_frame state asked) → has_released state ≡ true
 one_released state ticket next frame =
-    any_at (may_complete state) 0 (length (members_of state.session.groups)) ticket (omega arith) (omega (arith, next.within))
+    any_of_range (may_complete state) 0 (length (members_of state.session.groups)) ticket (omega arith) (omega (arith, next.within))
     (framed_as state ticket next true frame)
 
 -- and else the walk goes on

@@ -2,12 +2,12 @@ use Rattle.std.proofs.Common.{◌≡◌, ◌∙◌, ◌∷◌, [], ◌++◌, ◌
 use Rattle.std.specs.Prelude.{if◌then◌else◌}
 use Rattle.std.specs.HashMap.{get}
 use Rattle.std.specs.Option.{option_map}
-use Rattle.std.proofs.lemmas.List.{append-nil, append_assoc, length-append}
+use Rattle.std.proofs.lemmas.List.{append-nil, append_assoc, length-append, nil_from_length}
 use Rattle.nim_queue.specs.Arrived.{link_to}
 use Rattle.nim_queue.specs.Joined.{AreWithin, followed, gathered}
 use Rattle.nim_queue.specs.declared.arrivals.Link.{Link}
 use Rattle.nim_queue.specs.declared.waiting.Waiting.{Waiting}
-use Rattle.nim_queue.proofs.Linking.{few_at, followed_twice, gathered_more, made_from, nil_of, within_more}
+use Rattle.nim_queue.proofs.Linking.{few_at, followed_twice, gathered_more, made_from, within_more}
 use Rattle.nim_queue.proofs.join.follow.Goals as goal
 
 pub loop-link-preserved : goal.loop-link-preserved
@@ -40,6 +40,6 @@ pub returns-clause-followers : goal.returns-clause-followers
 returns-clause-followers c k n d short is fits t =
     let past = c.loop-link.yielded in
     let none : length c.loop-link.link-iterator.rest.items ≡ 0 = search rules in
-    let all : past ≡ c.args.waits.items = sym (append-nil past) ∙ ap (λ ys. past ++ ys) (sym (nil_of _ none)) ∙ c.loop-link.invariant.whole in
+    let all : past ≡ c.args.waits.items = sym (append-nil past) ∙ ap (λ ys. past ++ ys) (sym (nil_from_length _ none)) ∙ c.loop-link.invariant.whole in
     (c.loop-link.invariant.added k n d short is fits).0 t
     ∙ ap (λ (xs : List Link). option_map (followed (gathered t xs)) (get nat_eq c.args.waiting.now t)) all

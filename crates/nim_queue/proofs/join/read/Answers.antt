@@ -1,13 +1,13 @@
 use Rattle.std.proofs.Common.{◌≡◌, ◌∙◌, ◌∷◌, [], ◌++◌, ◌+◌, ◌==◌, ℕ, List, length, refl, ap, sym, arith, rules, subst}
 use Rattle.std.specs.Prelude.{if◌then◌else◌}
 use Rattle.std.specs.Option.{option_map}
-use Rattle.std.proofs.lemmas.List.{append-nil, append_assoc, length-append}
+use Rattle.std.proofs.lemmas.List.{append-nil, append_assoc, length-append, nil_from_length}
 use Rattle.nim_queue.specs.Used.{used_in}
 use Rattle.nim_queue.specs.Arrived.{reading_of}
 use Rattle.nim_queue.specs.Joined.{AreWithin, more_read, gathered_reads}
 use Rattle.nim_queue.specs.declared.arrivals.Reading.{Reading}
 use Rattle.nim_queue.specs.declared.slot_use.SlotUse.{SlotUse}
-use Rattle.nim_queue.proofs.Linking.{few_at, read_twice, gathered_more, made_from, nil_of, within_more}
+use Rattle.nim_queue.proofs.Linking.{few_at, read_twice, gathered_more, made_from, within_more}
 use Rattle.nim_queue.proofs.join.read.Goals as goal
 
 pub loop-reading-preserved : goal.loop-reading-preserved
@@ -40,6 +40,6 @@ pub returns : goal.returns
 returns c k n d short is fits t =
     let past = c.loop-reading.yielded in
     let none : length c.loop-reading.reading-iterator.rest.items ≡ 0 = search rules in
-    let all : past ≡ c.args.reads.items = sym (append-nil past) ∙ ap (λ ys. past ++ ys) (sym (nil_of _ none)) ∙ c.loop-reading.invariant.whole in
+    let all : past ≡ c.args.reads.items = sym (append-nil past) ∙ ap (λ ys. past ++ ys) (sym (nil_from_length _ none)) ∙ c.loop-reading.invariant.whole in
     (c.loop-reading.invariant.added k n d short is fits).0 t
     ∙ ap (λ (xs : List Reading). option_map (more_read (gathered_reads t xs)) (used_in c.args.slots.now.items t)) all

@@ -3,9 +3,10 @@ use Rattle.std.specs.declared.collections.VecDeque.{VecDeque}
 use Rattle.std.specs.Vec.{with_item}
 use Rattle.nim_message.specs.declared.frame.Data.{Data}
 use Rattle.nim_cluster.specs.Stands.{queued_frames}
+use Rattle.std.proofs.lemmas.List.{nil_from_length}
 use Rattle.nim_cluster.proofs.Answered.{when_ok}
 use Rattle.nim_cluster.proofs.Links.{framed_node, frames_are, same_frames, unframed_node}
-use Rattle.nim_cluster.proofs.Nodes.{empty_of, got}
+use Rattle.nim_cluster.proofs.Nodes.{got}
 use Rattle.nim_cluster.proofs.node.Node.take_frame.Goals as goal
 
 pub returns-in-Some : goal.returns-in-Some
@@ -31,7 +32,7 @@ returns-in-None c = λ number node is.
     got old.frames.items c.args.from c.index_mut.result.now below c.index_mut.ensures.value in
     unframed_node number c.args.from old (record old { frames = with_item old.frames c.args.from c.pop_front.new.self }) node is
     (frames_are number c.args.from old node c.index_mut.result.now is at
-    ∙ empty_of c.index_mut.result.now.items (sym c.index_mut.result.now.ok.0 ∙ c.in-None.ensures.cases.0))
+    ∙ nil_from_length c.index_mut.result.now.items (sym c.index_mut.result.now.ok.0 ∙ c.in-None.ensures.cases.0))
     (record {
       core = refl;
       batch = refl;

@@ -1,8 +1,8 @@
 use Rattle.std.proofs.Common.{◌∙◌, ◌&&◌, Bool, ap, if◌then◌else◌, refl, sym}
 use Rattle.nim_history.specs.InTurn.{is_reset}
+use Rattle.std.proofs.lemmas.List.{nil_from_length}
 use Rattle.nim_cluster.proofs.Answered.{when_ok}
 use Rattle.nim_cluster.proofs.Links.{ordered_node, unordered_node}
-use Rattle.nim_cluster.proofs.Nodes.{empty_of}
 use Rattle.nim_cluster.proofs.node.Node.take_order.Goals as goal
 
 pub returns-in-Some : goal.returns-in-Some
@@ -21,5 +21,5 @@ pub returns-in-None : goal.returns-in-None
 returns-in-None c = λ number node is.
     let old = c.args.self.now in
     unordered_node number old (record old { orders = c.pop_front.new.self }) node is
-    (empty_of old.orders.items (sym old.orders.ok.0 ∙ c.in-None.ensures.cases.0))
+    (nil_from_length old.orders.items (sym old.orders.ok.0 ∙ c.in-None.ensures.cases.0))
     (record { core = refl; batch = refl; orders = sym c.in-None.ensures.items; reports = refl; frames = refl; waits = refl })

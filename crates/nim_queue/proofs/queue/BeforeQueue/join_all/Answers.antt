@@ -1,8 +1,7 @@
 use Rattle.std.proofs.Common.{◌≡◌, ◌∙◌, ◌∷◌, [], ◌++◌, List, length, ap, sym, arith, rules, subst}
-use Rattle.std.proofs.lemmas.List.{append-nil, append_assoc, length-append}
+use Rattle.std.proofs.lemmas.List.{append-nil, append_assoc, length-append, nil_from_length}
 use Rattle.nim_queue.specs.Midway.{HasRoomForArrived, IsMidway}
 use Rattle.nim_queue.specs.declared.arrivals.Arrival.{Arrival}
-use Rattle.nim_queue.proofs.Linking.{nil_of}
 use Rattle.nim_queue.proofs.Taking.{begun_midway, stepped}
 use Rattle.nim_queue.proofs.queue.BeforeQueue.join_all.Goals as goal
 
@@ -36,5 +35,5 @@ pub returns-clause-midway : goal.returns-clause-midway
 returns-clause-midway c groups done any room stands =
     let past = c.loop-arrival.yielded in
     let none : length c.loop-arrival.arrival-iterator.rest.items ≡ 0 = search rules in
-    let all : past ≡ c.args.arrived.items = sym (append-nil past) ∙ ap (λ ys. past ++ ys) (sym (nil_of _ none)) ∙ c.loop-arrival.invariant.whole in
+    let all : past ≡ c.args.arrived.items = sym (append-nil past) ∙ ap (λ ys. past ++ ys) (sym (nil_from_length _ none)) ∙ c.loop-arrival.invariant.whole in
     subst (λ (xs : List Arrival). IsMidway c.args.self.now c.loop-arrival.self xs groups done) all (c.loop-arrival.invariant.midway groups done any room stands)

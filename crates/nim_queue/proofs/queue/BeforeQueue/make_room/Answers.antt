@@ -5,7 +5,8 @@ use Rattle.std.proofs.Math.Path.{fun_ext}
 use Rattle.nim_queue.specs.Used.{used_in}
 use Rattle.nim_queue.specs.Arrived.{HaveArrived}
 use Rattle.nim_queue.specs.declared.waiting.Waiting.{Waiting}
-use Rattle.nim_queue.proofs.Making.{arrivals_same, kept_at_most, ok_more, still_stands}
+use Rattle.nim_base.proofs.Lists.{ok_more}
+use Rattle.nim_queue.proofs.Making.{arrivals_same, kept_at_most, still_stands}
 use Rattle.nim_queue.proofs.Opening.{closed, opened}
 use Rattle.nim_queue.proofs.queue.BeforeQueue.make_room.Goals as goal
 
