@@ -54,7 +54,7 @@ impl Test for Cases {
     }
 }
 
-// The runs of a case without headings that say a result.
+/// The runs of a case without headings that say a result.
 fn plain_runs(
     alloc: Global,
     sections: &[Section],
@@ -81,7 +81,7 @@ fn plain_runs(
     Ok(())
 }
 
-// A run with a schedule that was made.
+/// A run with a schedule that was made.
 fn made_run<'a>(
     alloc: Global,
     sections: &'a [Section],

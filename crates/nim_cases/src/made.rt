@@ -42,7 +42,7 @@ impl Made {
     }
 }
 
-// The line that a number makes.
+/// The line that a number makes.
 fn push_line(alloc: Global, text: &mut String, chance: u64) -> Result<(), AllocError> {
     let (one, other) = (chance / 5 % 4, chance / 20 % 4);
     let line = match chance % 5 {
@@ -58,7 +58,7 @@ fn push_line(alloc: Global, text: &mut String, chance: u64) -> Result<(), AllocE
     text.push_str(line.as_str())
 }
 
-// The numbers of a section.
+/// The numbers of a section.
 fn numbers(alloc: Global, section: &Section) -> Result<Vec<u32>, FileFault> {
     let Ok(text) = str::from_utf8(section.text.as_slice()) else {
         return Err(no_numbers(section));

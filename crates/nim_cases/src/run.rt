@@ -50,7 +50,7 @@ pub fn run(
     Ok(())
 }
 
-// Performs the command, and adds where what ran differs from what is wanted. The cluster is let go of in one place.
+/// Performs the command, and adds where what ran differs from what is wanted. The cluster is let go of in one place.
 fn performed(
     alloc: Global,
     sections: &[Section],
@@ -69,7 +69,7 @@ fn performed(
     (status, compared)
 }
 
-// Compares what ran, where the case says it: in order by `trace`, by positions by `reads`.
+/// Compares what ran, where the case says it: in order by `trace`, by positions by `reads`.
 fn compare_runs(
     alloc: Global,
     sections: &[Section],
@@ -88,7 +88,7 @@ fn compare_runs(
     Ok(())
 }
 
-// Adds where a text differs from the one that is wanted.
+/// Adds where a text differs from the one that is wanted.
 fn compare(
     alloc: Global,
     name: &str,
@@ -102,7 +102,7 @@ fn compare(
     Ok(())
 }
 
-// The top call of the command, as the program picks it.
+/// The top call of the command, as the program picks it.
 fn command(
     alloc: Global,
     words: &[String],

@@ -27,7 +27,7 @@ pub fn reads_text(alloc: Global, cluster: &Cluster) -> Result<String, AllocError
     Ok(text)
 }
 
-// The position of a run, and what it read.
+/// The position of a run, and what it read.
 fn push_reads(alloc: Global, text: &mut String, ran: &Ran) -> Result<(), AllocError> {
     let position = ran.position;
     text.push_str(format!(in alloc; "{position}")?.as_str())?;

@@ -40,7 +40,7 @@ impl Wanted {
     }
 }
 
-// The number in the section `status`; 0 where there is none.
+/// The number in the section `status`; 0 where there is none.
 fn status_of(sections: &[Section]) -> Result<u8, FileFault> {
     for section in sections {
         if section.name.as_str() == "status" {

@@ -109,7 +109,7 @@ impl Cluster {
         self.setup
     }
 
-    // Whether the job hasn't ended and a worker is live. Mostly nothing waits, so this is asked last.
+    /// Whether the job hasn't ended and a worker is live. Mostly nothing waits, so this is asked last.
     pub(crate) fn goes_on(&self, worker: Worker) -> bool
         ensures { result ≡ (not (is_some self.now.control.outcome) && is_live self.now.control.live worker) }
     {
@@ -117,7 +117,7 @@ impl Cluster {
     }
 }
 
-// So many workers that nothing happened at.
+/// So many workers that nothing happened at.
 fn new_nodes(alloc: Global, workers: u16) -> Result<Vec<Node>, NoMemory>
     ensures { IfOk result (λ nodes. AreNodes 0 nodes.items (replicate workers (new_node workers))) }
 {
@@ -128,7 +128,7 @@ fn new_nodes(alloc: Global, workers: u16) -> Result<Vec<Node>, NoMemory>
     Ok(nodes)
 }
 
-// The worker that takes, begins or finishes something by an event.
+/// The worker that takes, begins or finishes something by an event.
 fn number_in(event: &Event) -> u32
     ensures { result ≡ spec.number_in event.now }
 {

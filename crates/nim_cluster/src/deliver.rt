@@ -21,7 +21,7 @@ impl Cluster {
         self.put_orders(orders)
     }
 
-    // Orders wait for their workers, in order.
+    /// Orders wait for their workers, in order.
     fn put_orders(&mut self, orders: Vec<(Worker, ToWorker)>) -> Result<(), NoMemory>
         ensures stands { (s : ClusterState) → ClusterStands self.old s
             → OnOk result (ClusterStands self.new (fold order_sent s orders.items)) }
@@ -33,7 +33,7 @@ impl Cluster {
         Ok(())
     }
 
-    // An order waits for its worker, if it is there.
+    /// An order waits for its worker, if it is there.
     fn put_order(&mut self, worker: Worker, order: ToWorker) -> Result<(), NoMemory>
         ensures stands { (s : ClusterState) → ClusterStands self.old s
             → OnOk result (ClusterStands self.new (order_sent s (worker, order))) }
@@ -58,7 +58,7 @@ impl Cluster {
         Ok(())
     }
 
-    // A report waits for the controller, a frame of data for its worker, if it is there.
+    /// A report waits for the controller, a frame of data for its worker, if it is there.
     fn send_one(&mut self, from: usize, out: Out) -> Result<(), NoMemory>
         ensures stands { (s : ClusterState) → ClusterStands self.old s
             → OnOk result (ClusterStands self.new (out_sent from s out)) }

@@ -178,7 +178,7 @@ impl Node {
     }
 }
 
-// No frames from any of so many workers.
+/// No frames from any of so many workers.
 fn no_frames(alloc: Global, workers: u16) -> Result<Vec<VecDeque<Data>>, NoMemory>
     ensures { IfOk result (λ frames. queued_frames frames.items ≡ (new_node workers).frames) }
 {
@@ -189,7 +189,7 @@ fn no_frames(alloc: Global, workers: u16) -> Result<Vec<VecDeque<Data>>, NoMemor
     Ok(frames)
 }
 
-// Where it says no, these queues are empty.
+/// Where it says no, these queues are empty.
 fn any_frames(queues: &[VecDeque<Data>]) -> bool
     ensures { result ≡ false → (from : ℕ) → get_or (queued_frames queues.now) from [] ≡ [] }
 {
@@ -201,7 +201,7 @@ fn any_frames(queues: &[VecDeque<Data>]) -> bool
     false
 }
 
-// The runs of a batch come behind the trace.
+/// The runs of a batch come behind the trace.
 fn note_runs(
     alloc: Global,
     worker: Worker,
@@ -216,7 +216,7 @@ fn note_runs(
     Ok(())
 }
 
-// What a work runs, if it runs a task, comes behind the trace.
+/// What a work runs, if it runs a task, comes behind the trace.
 fn note_run(
     alloc: Global,
     worker: Worker,

@@ -88,7 +88,7 @@ impl Cluster {
         self.first_of(Moving::Begin)
     }
 
-    // The first worker's event of a kind that is enabled.
+    /// The first worker's event of a kind that is enabled.
     fn first_of(&self, kind: Moving) -> Option<Event>
         ensures { (s : ClusterState) → ClusterStands self.now s
             → result ≡ find (is_enabled s) (map (event_of kind) (range_with_len 0 s.setup.workers)) }
@@ -101,7 +101,7 @@ impl Cluster {
         None
     }
 
-    // The first frame of data that may be taken. Mostly none waits, and then no pair of workers is asked.
+    /// The first frame of data that may be taken. Mostly none waits, and then no pair of workers is asked.
     fn first_frame(&self) -> Option<Event>
         ensures { (s : ClusterState) → ClusterStands self.now s
             → result ≡ find (is_enabled s) (flat_map (frames_of s.setup.workers) (range_with_len 0 s.setup.workers)) }
@@ -112,7 +112,7 @@ impl Cluster {
         self.first_waiting_frame()
     }
 
-    // Where it says no, no frame of data waits.
+    /// Where it says no, no frame of data waits.
     fn has_frames(&self) -> bool
         ensures { (s : ClusterState) → ClusterStands self.now s → result ≡ false
             → AreNodesIdle (length s.nodes) s.nodes }
@@ -149,7 +149,7 @@ impl Cluster {
         None
     }
 
-    // Whether such an event is enabled. A walk asks this of each worker, so no event is made for it.
+    /// Whether such an event is enabled. A walk asks this of each worker, so no event is made for it.
     fn may_move(&self, kind: Moving, worker: u32) -> bool
         ensures { (s : ClusterState) → ClusterStands self.now s → result ≡ is_enabled s (event_of kind worker) }
     {
@@ -159,7 +159,7 @@ impl Cluster {
         }
     }
 
-    // The same of a frame of data.
+    /// The same of a frame of data.
     fn may_pass(&self, from: u32, to: u32) -> bool
         ensures { (s : ClusterState) → ClusterStands self.now s → result ≡ is_enabled s (event_is.Data from to) }
     {
@@ -169,7 +169,7 @@ impl Cluster {
         }
     }
 
-    // Is given the events of a schedule.
+    /// Is given the events of a schedule.
     fn follow(&mut self, schedule: &[Line]) -> Result<(), NoMemory>
         ensures { (s : ClusterState) → ClusterStands self.old s
             → OnOk result ((t : ClusterState) × (AreLines schedule.now s t × ClusterStands self.new t)) }
@@ -190,7 +190,7 @@ impl Cluster {
         }
     }
 
-    // Is given an event, where the job hasn't ended.
+    /// Is given an event, where the job hasn't ended.
     fn take_one(&mut self, event: &Event) -> Result<(), NoMemory>
         ensures { (s : ClusterState) → ClusterStands self.old s
             → OnOk result ((t : ClusterState) × (IsOne (has_ended s) event.now s t × ClusterStands self.new t)) }
@@ -201,7 +201,7 @@ impl Cluster {
         Ok(())
     }
 
-    // Is given so many events by the default rule, fewer where none is enabled any more.
+    /// Is given so many events by the default rule, fewer where none is enabled any more.
     fn advance_by(&mut self, most: u32) -> Result<(), NoMemory>
         ensures { (s : ClusterState) → ClusterStands self.old s
             → OnOk result ((t : ClusterState) × (IsAuto most s t × ClusterStands self.new t)) }
@@ -214,7 +214,7 @@ impl Cluster {
         Ok(())
     }
 
-    // Is given events by the default rule until none is enabled.
+    /// Is given events by the default rule until none is enabled.
     fn go_on(&mut self) -> Result<(), NoMemory>
         ensures { (s : ClusterState) → ClusterStands self.old s
             → OnOk result ((t : ClusterState) × (IsRest s t × ClusterStands self.new t)) }
@@ -226,7 +226,7 @@ impl Cluster {
         }
     }
 
-    // Is given the next event by the default rule, and tells whether there was one.
+    /// Is given the next event by the default rule, and tells whether there was one.
     fn advance(&mut self) -> Result<bool, NoMemory>
         ensures advance { (s : ClusterState) → ClusterStands self.old s
             → IfOk result (λ went. (t : ClusterState) × (IsAdvance went s t × ClusterStands self.new t)) }
@@ -257,7 +257,7 @@ impl Cluster {
 }
 
 impl Moving {
-    // Whether something of its kind waits at a worker.
+    /// Whether something of its kind waits at a worker.
     fn is_open(self, node: &Node) -> bool
         ensures { (number : ℕ) (state : node_state) → IsNode number node.now state
             → (worker : ℕ) → result ≡ may_take (event_of self worker) state }

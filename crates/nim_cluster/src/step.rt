@@ -41,7 +41,7 @@ impl Cluster {
         step
     }
 
-    // All but the mark of a failure.
+    /// All but the mark of a failure.
     fn give(&mut self, event: &Event) -> Result<Step, NoMemory>
         ensures step { (s : ClusterState) → ClusterStands self.old s
             → IfOk result (λ step. (t : ClusterState) × (IsStep s event.now step.done t × ClusterStands self.new t)) }
@@ -58,7 +58,7 @@ impl Cluster {
         Ok(Step { done })
     }
 
-    // Does what an enabled event says.
+    /// Does what an enabled event says.
     fn pass(&mut self, event: &Event) -> Result<(), NoMemory>
         ensures passed { (s : ClusterState) → ClusterStands self.old s → events.is_enabled s event.now ≡ true
             → OnOk result (HasPassed s event.now self.new) }
@@ -92,7 +92,7 @@ impl Cluster {
         self.nodes[index].take_order()
     }
 
-    // The controller takes the next report of a worker, and no turn yet.
+    /// The controller takes the next report of a worker, and no turn yet.
     fn take_report(&mut self, worker: u32)
         ensures stands { (s : ClusterState) → ClusterStands self.old s
             → ClusterStands self.new (passed s (event_is.Report worker)) }

@@ -24,7 +24,7 @@ impl Summary {
     }
 }
 
-// What is counted of instances, of patches and of edits, a line each.
+/// What is counted of instances, of patches and of edits, a line each.
 fn push_counts(alloc: Global, summary: &Summary, text: &mut Vec<u8>) -> Result<(), NoMemory>
     ensures { OnOk result (text.new.items ≡ text.old.items ++ spec.counts_lines summary.now) }
 {
@@ -63,7 +63,7 @@ fn edits_line(alloc: Global, summary: &Summary) -> Result<String, NoMemory>
     Ok(format!(in alloc; "edits taken {taken} refused {refused}\n")?)
 }
 
-// A line for each proposal.
+/// A line for each proposal.
 fn push_edits(alloc: Global, edits: &[EditLine], text: &mut Vec<u8>) -> Result<(), NoMemory>
     ensures { OnOk result (text.new.items ≡ text.old.items ++ flat_map spec.edit_line edits.now) }
 {
@@ -82,7 +82,7 @@ fn edit_line(alloc: Global, edit: &EditLine) -> Result<String, NoMemory>
     Ok(format!(in alloc; "edit {block} {task} {to} {answer}\n")?)
 }
 
-// What came of a proposal.
+/// What came of a proposal.
 fn answer_text(refused: Option<EditRefused>) -> &'static str
     ensures { result.now ≡ spec.answer_text refused }
 {
@@ -97,7 +97,7 @@ fn answer_text(refused: Option<EditRefused>) -> &'static str
     }
 }
 
-// How many rollbacks there are, and a line for each.
+/// How many rollbacks there are, and a line for each.
 fn push_rollbacks(alloc: Global, rollbacks: &[Rollback], text: &mut Vec<u8>) -> Result<(), NoMemory>
     ensures { OnOk result (text.new.items ≡ text.old.items ++ spec.rollbacks_lines rollbacks.now) }
 {
@@ -127,7 +127,7 @@ fn rollback_line(alloc: Global, number: usize, rollback: &Rollback) -> Result<St
     Ok(format!(in alloc; "rollback {number} worker {worker} position {position}\n")?)
 }
 
-// The bytes of all orders.
+/// The bytes of all orders.
 fn push_control(alloc: Global, control: u64, text: &mut Vec<u8>) -> Result<(), NoMemory>
     ensures { OnOk result (text.new.items ≡ text.old.items ++ spec.control_line control) }
 {
@@ -135,7 +135,7 @@ fn push_control(alloc: Global, control: u64, text: &mut Vec<u8>) -> Result<(), N
     Ok(())
 }
 
-// A line for each worker.
+/// A line for each worker.
 fn push_workers(alloc: Global, workers: &[WorkerLine], text: &mut Vec<u8>) -> Result<(), NoMemory>
     ensures { OnOk result (text.new.items ≡ text.old.items ++ spec.worker_lines 0 workers.now) }
 {
@@ -153,7 +153,7 @@ fn worker_line(alloc: Global, number: usize, worker: &WorkerLine) -> Result<Stri
     Ok(format!(in alloc; "worker {number} {live} tasks {tasks} orders {orders}\n")?)
 }
 
-// Whether a worker is live, as a word.
+/// Whether a worker is live, as a word.
 fn live_text(live: bool) -> &'static str
     ensures { result.now ≡ spec.live_text live }
 {

@@ -50,7 +50,7 @@ pub fn block_line(
     }
 }
 
-// From now on lines are about this block, of which no task is recorded yet.
+/// From now on lines are about this block, of which no task is recorded yet.
 fn turn_to(alloc: Global, blocks: &mut Blocks, number: u8) -> Result<(), LineFault> {
     blocks.number = number;
     blocks.recorder = Recorder::new(alloc, number);
@@ -74,7 +74,7 @@ fn build_line(
     Ok(())
 }
 
-// How many tasks, entries, needs and leaves a template has.
+/// How many tasks, entries, needs and leaves a template has.
 fn push_sizes(alloc: Global, out: &mut String, template: &WorkerTemplate) -> Result<(), LineFault> {
     push_count(alloc, out, "tasks ", template.forms.len() as u64)?;
     push_entries(alloc, out, template.halves.as_slice())?;

@@ -49,7 +49,7 @@ pub fn are_same(alloc: Global, some: &[Half], others: &[Half]) -> Result<bool, L
     Ok(shown.as_str() == other.as_str())
 }
 
-// Main slots that have to hold the latest version, as `WORKER:OBJECT`.
+/// Main slots that have to hold the latest version, as `WORKER:OBJECT`.
 fn push_needs(
     alloc: Global,
     out: &mut String,
@@ -64,7 +64,7 @@ fn push_needs(
     Ok(())
 }
 
-// Main slots with their last offsets, as `WORKER:SLOT+OFFSET`.
+/// Main slots with their last offsets, as `WORKER:SLOT+OFFSET`.
 fn push_leaves(
     alloc: Global,
     out: &mut String,
@@ -80,7 +80,7 @@ fn push_leaves(
     Ok(())
 }
 
-// The workers of tasks, in order.
+/// The workers of tasks, in order.
 fn push_workers(alloc: Global, out: &mut String, workers: &[Worker]) -> Result<(), LineFault> {
     out.push_str("at")?;
     for worker in workers {

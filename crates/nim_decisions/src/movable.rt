@@ -53,7 +53,7 @@ impl Movable {
     }
 }
 
-// Why a move is refused, if it is.
+/// Why a move is refused, if it is.
 fn refusal_in(outcome: Result<(), EditFault>) -> Result<Option<EditRefused>, LineFault> {
     match outcome {
         Ok(()) => Ok(None),

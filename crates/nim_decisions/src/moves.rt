@@ -31,7 +31,7 @@ fn recorded(template: &WorkerTemplate) -> Result<ControllerTemplate, LineFault> 
     })
 }
 
-// Moves a task to a worker, where it isn't there, and sends the edits.
+/// Moves a task to a worker, where it isn't there, and sends the edits.
 fn move_straight(
     alloc: Global,
     fresh: &mut Movable,
@@ -44,7 +44,7 @@ fn move_straight(
     Ok(())
 }
 
-// A place as a number of 16 bits.
+/// A place as a number of 16 bits.
 fn number_of(place: usize) -> u16 {
     u16::try_from(place).unwrap_or(u16::MAX)
 }
@@ -59,7 +59,7 @@ struct Tries {
 }
 
 impl Tries {
-    // The next number below another one.
+    /// The next number below another one.
     fn next(&mut self, below: usize) -> u16 {
         self.state = self
             .state

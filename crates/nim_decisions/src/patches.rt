@@ -43,7 +43,7 @@ fn failing_line(
     push_flags(alloc, out, count as u64, flags.as_slice())
 }
 
-// How many needs fail, and a flag for each need.
+/// How many needs fail, and a flag for each need.
 fn push_flags(
     alloc: Global,
     out: &mut String,
@@ -70,7 +70,7 @@ pub fn made(
     Ok(build_patch(alloc, template, map, flags.as_slice())?)
 }
 
-// Copies, a line each: the number, the object, from where to where, and its version.
+/// Copies, a line each: the number, the object, from where to where, and its version.
 fn push_copies(
     alloc: Global,
     out: &mut String,
@@ -100,7 +100,7 @@ fn mend(alloc: Global, map: &mut VersionMap, patch: &Patch) -> Result<(), LineFa
     Ok(())
 }
 
-// What a copy's receiver does.
+/// What a copy's receiver does.
 fn received(alloc: Global, map: &VersionMap, copy: &PatchCopy) -> Command {
     let slot = Slot(copy.object.0);
     let version = map.latest(copy.object);

@@ -28,7 +28,7 @@ impl Scene {
         })
     }
 
-    // These workers, where they are up to 16 and one of them is live.
+    /// These workers, where they are up to 16 and one of them is live.
     fn with_live(&mut self, live: Vec<bool>) -> Result<(), LineFault> {
         if live.len() > 16 || !live.iter().any(|flag| *flag) {
             return Err(LineFault::Form("there are 1 to 16 workers, and one of them is live"));
@@ -37,7 +37,7 @@ impl Scene {
         Ok(())
     }
 
-    // So many objects.
+    /// So many objects.
     fn with_objects(&mut self, objects: u16) -> Result<(), LineFault> {
         if objects > 512 {
             return Err(LineFault::Form("there are at most 512 objects"));

@@ -84,7 +84,7 @@ fn scheduled(
     Ok(schedule_task(alloc, map, task, place, position, &scene.place, live)?)
 }
 
-// Whether a task writes one of so many objects first.
+/// Whether a task writes one of so many objects first.
 fn writes_below(task: &Task, objects: u16) -> bool
     ensures { IsTrue result → IsSomeAnd (slice_get task.now.writes 0) (λ object. object.0 < objects) }
 {
@@ -94,7 +94,7 @@ fn writes_below(task: &Task, objects: u16) -> bool
     }
 }
 
-// Commands, a line each, behind their workers.
+/// Commands, a line each, behind their workers.
 fn push_commands(
     alloc: Global,
     out: &mut String,
@@ -126,7 +126,7 @@ fn push_holder(alloc: Global, out: &mut String, holder: Option<Worker>) -> Resul
     Ok(())
 }
 
-// What each worker holds of an object, and the end of the line.
+/// What each worker holds of an object, and the end of the line.
 fn push_held(
     alloc: Global,
     out: &mut String,

@@ -56,7 +56,7 @@ impl Sink for HostSink {
     }
 }
 
-// One write of a stream. It counts an error, and that nothing was taken of a piece that isn't empty.
+/// One write of a stream. It counts an error, and that nothing was taken of a piece that isn't empty.
 fn write_once<W: Write>(stream: &mut W, piece: &[u8], faults: &mut u64) -> Result<usize, Failed>
     ensures bound { WritesAtMost result piece.now }
     ensures bytes { WriteAppends (W.contents stream.old) (W.contents stream.new) result piece.now }

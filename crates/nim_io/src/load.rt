@@ -69,7 +69,7 @@ pub fn read_all<L: Files>(
     all
 }
 
-// All that is left of a source.
+/// All that is left of a source.
 fn drain<S: Source>(alloc: Global, source: &mut S, most: usize) -> Result<Vec<u8>, LoadFault>
     ensures bytes { IfOk result (λ bytes. IfSome (S.left source.old) (λ left. left ≡ bytes.items)) }
     ensures fits { IfOk result (λ bytes. length bytes.items ≤ most) }

@@ -47,7 +47,7 @@ impl MemFiles {
         }
     }
 
-    // The source that is opened next, of these bytes, with the reads at which it is to fail.
+    /// The source that is opened next, of these bytes, with the reads at which it is to fail.
     fn next_source(&self, alloc: Global, bytes: &[u8]) -> Result<MemSource, NoMemory>
         ensures bytes { IfOk result (λ s. ⟦<MemSource as Source>⟧.left s ≡ Some bytes.now) }
         ensures faults { IfOk result (λ s. ⟦<MemSource as Source>⟧.faults s ≡ 0) }
@@ -66,7 +66,7 @@ impl MemFiles {
     }
 }
 
-// The bytes of the first file of this name.
+/// The bytes of the first file of this name.
 fn find<'a>(files: &'a [(String, Vec<u8>)], name: &str) -> Option<&'a Vec<u8>>
     ensures { option_map (λ bytes. bytes.items) (option_copied result) ≡ content name.now (entries files.now) }
 {

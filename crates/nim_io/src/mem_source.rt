@@ -20,7 +20,7 @@ pub struct MemSource {
 impl MemSource {
     ghost use Rattle.nim_io.specs.MemSource.{fails_of, read_count};
 
-    // A source of these bytes. Each read fails whose number, from 0, stands in `fails`.
+    /// A source of these bytes. Each read fails whose number, from 0, stands in `fails`.
     pub(crate) fn new(bytes: Vec<u8>, fails: Vec<u32>) -> MemSource
         ensures bytes { ⟦<MemSource as Source>⟧.left result ≡ Some bytes.items }
         ensures faults { ⟦<MemSource as Source>⟧.faults result ≡ 0 }
@@ -34,7 +34,7 @@ impl MemSource {
         }
     }
 
-    // How often it has failed.
+    /// How often it has failed.
     pub(crate) fn faults(&self) -> u64
         ensures { result ≡ ⟦<MemSource as Source>⟧.faults self.now }
     {

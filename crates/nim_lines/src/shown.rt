@@ -127,7 +127,7 @@ fn push_entry_kind(alloc: Global, out: &mut String, kind: &EntryKind) -> Result<
     }
 }
 
-// The name of a function, behind a blank.
+/// The name of a function, behind a blank.
 fn push_named(out: &mut String, name: &str) -> Result<(), LineFault> {
     out.push_str(" ")?;
     out.push_str(name)?;
@@ -157,7 +157,7 @@ fn push_send(
     push_count(alloc, out, " entry ", u64::from(entry))
 }
 
-// A text and a slot, and another text and a number.
+/// A text and a slot, and another text and a number.
 fn push_with(
     alloc: Global,
     out: &mut String,
@@ -170,7 +170,7 @@ fn push_with(
     push_count(alloc, out, between, number)
 }
 
-// What is read and what is written.
+/// What is read and what is written.
 fn push_sides(
     alloc: Global,
     out: &mut String,
@@ -183,7 +183,7 @@ fn push_sides(
     push_slots(alloc, out, writes)
 }
 
-// What is waited for, and the end of the line.
+/// What is waited for, and the end of the line.
 fn push_after(alloc: Global, out: &mut String, before: &[u32]) -> Result<(), LineFault> {
     if !before.is_empty() {
         out.push_str(" after")?;

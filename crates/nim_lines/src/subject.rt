@@ -31,7 +31,7 @@ pub fn differences_from<S: Subject>(alloc: Global, file: &str) -> Result<Vec<Str
     Ok(found)
 }
 
-// The lines of a section that are answered, each with its answer.
+/// The lines of a section that are answered, each with its answer.
 fn replayed<S: Subject>(alloc: Global, text: &str) -> Result<String, FileFault> {
     let Ok(mut subject) = S::begin(alloc) else {
         return Err(FileFault::NoMemory);
@@ -47,7 +47,7 @@ fn replayed<S: Subject>(alloc: Global, text: &str) -> Result<String, FileFault> 
     Ok(got)
 }
 
-// The answer to a line; of one that can't be answered, just why.
+/// The answer to a line; of one that can't be answered, just why.
 fn answer_to<S: Subject>(alloc: Global, subject: &mut S, line: &str) -> Result<String, FileFault> {
     let mut answer = String::new(alloc);
     match subject.answer(alloc, line, &mut answer) {

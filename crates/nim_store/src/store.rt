@@ -124,7 +124,7 @@ fn put_into(slots: &mut Vec<Option<Held>>, slot: Slot, held: Held) -> Result<(),
     Ok(())
 }
 
-// Makes sure that there is a place for this slot; places that are new are empty.
+/// Makes sure that there is a place for this slot; places that are new are empty.
 fn reach(slots: &mut Vec<Option<Held>>, slot: Slot) -> Result<(), NoMemory>
     ensures slots { slot_content slots.new.items ≡ slot_content slots.old.items }
     ensures there { OnOk result (slot.0 < length slots.new.items) }

@@ -30,7 +30,7 @@ pub fn top_check<L: Files, K: Sink>(
     outcome.status()
 }
 
-// All but what is told on standard error.
+/// All but what is told on standard error.
 fn check<L: Files, K: Sink>(alloc: Global, words: &[String], files: &mut L, out: &mut K) -> Outcome
     ensures { Ends verb.Check (texts_of words.now)
         (outside_with (L.told files.old) (L.faults files.old) (K.written out.old) (K.faults out.old))

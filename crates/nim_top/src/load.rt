@@ -68,7 +68,7 @@ pub fn load<L: Files>(
     })
 }
 
-// Reads one file, of which at most so many bytes are wanted.
+/// Reads one file, of which at most so many bytes are wanted.
 fn load_one<L: Files>(
     alloc: Global,
     files: &mut L,

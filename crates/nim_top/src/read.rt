@@ -45,7 +45,7 @@ pub fn read(alloc: Global, inputs: &Inputs) -> Result<Plan, InputFault>
     Ok(Plan { job, schedule })
 }
 
-// The job of a driver and its data, or why they are refused.
+/// The job of a driver and its data, or why they are refused.
 fn job_in(alloc: Global, driver: &FileText, data_file: &FileText) -> Result<Job, ReadFault>
     ensures reads { (text file : List ℕ) → IsTextRead 1048576 driver.now text → IsTextRead 33554432 data_file.now file
         → ReadsJob text file result }
@@ -58,7 +58,7 @@ fn job_in(alloc: Global, driver: &FileText, data_file: &FileText) -> Result<Job,
     }
 }
 
-// That a driver or its data as a whole are refused by a rule.
+/// That a driver or its data as a whole are refused by a rule.
 fn too_long(input: Input, rule: u8) -> ReadFault
     ensures { result ≡ read_fault.At input (record { line = 0; rule = rule }) }
 {
@@ -68,7 +68,7 @@ fn too_long(input: Input, rule: u8) -> ReadFault
     }
 }
 
-// Why a driver or, where no rule refuses it, its data are refused, which are too long.
+/// Why a driver or, where no rule refuses it, its data are refused, which are too long.
 fn refused_data(alloc: Global, driver: &[u8]) -> ReadFault
     ensures { (file : List ℕ) → 33554432 < length file → TellsFile (job_refusal driver.now file) result }
 {
@@ -82,7 +82,7 @@ fn refused_data(alloc: Global, driver: &[u8]) -> ReadFault
     }
 }
 
-// The lines of a schedule, or why it is refused.
+/// The lines of a schedule, or why it is refused.
 fn schedule_in(alloc: Global, text: &FileText) -> Result<Vec<Line>, ScheduleFault>
     ensures { (bytes : List ℕ) → IsTextRead 16777216 text.now bytes → ReadsSchedule bytes result }
 {
@@ -108,7 +108,7 @@ pub fn refused(alloc: Global, fault: InputFault) -> Outcome
     }
 }
 
-// The line that tells a refusal.
+/// The line that tells a refusal.
 fn refusal_line(alloc: Global, file: InputFile, refusal: Refusal) -> Result<String, AllocError>
     ensures { IfOk result (λ text. string_bytes text ≡ refusal_line (record { file = file; refusal = refusal })) }
 {

@@ -49,7 +49,7 @@ pub fn top_replay<L: Files, K: Sink>(
     replayed.outcome.status()
 }
 
-// All but what is told on standard error.
+/// All but what is told on standard error.
 fn replay<L: Files, K: Sink>(
     alloc: Global,
     words: &[String],
@@ -73,7 +73,7 @@ fn replay<L: Files, K: Sink>(
     }
 }
 
-// Runs a job by its schedule, writes what it prints, and keeps its cluster. The summary is made where it is asked for.
+/// Runs a job by its schedule, writes what it prints, and keeps its cluster. The summary is made where it is asked for.
 fn follow<K: Sink>(
     alloc: Global,
     plan: Plan,
@@ -106,7 +106,7 @@ fn follow<K: Sink>(
     replayed
 }
 
-// Writes what a job printed that is done. The summary is made before, so that memory is refused before or not at all.
+/// Writes what a job printed that is done. The summary is made before, so that memory is refused before or not at all.
 fn done<K: Sink>(alloc: Global, cluster: &Cluster, is_asked: bool, out: &mut K) -> Replayed
     ensures prints { (s : ClusterState) → ClusterStands cluster.now s → MayPrint s.control.machine.driver.output
         (K.written out.old) (K.written out.new) (K.faults out.old) (K.faults out.new) result.outcome }
@@ -125,7 +125,7 @@ fn done<K: Sink>(alloc: Global, cluster: &Cluster, is_asked: bool, out: &mut K) 
     }
 }
 
-// The summary of a cluster, where it is asked for.
+/// The summary of a cluster, where it is asked for.
 fn summary_text(
     alloc: Global,
     cluster: &Cluster,
@@ -140,7 +140,7 @@ fn summary_text(
     }
 }
 
-// Puts a cluster that is kept where the caller says, in place of what was there.
+/// Puts a cluster that is kept where the caller says, in place of what was there.
 fn keep(kept: &mut Option<Cluster>, cluster: Cluster, is_kept: bool)
     ensures { kept.new ≡ if is_kept then some cluster else kept.old }
 {

@@ -32,7 +32,7 @@ pub fn setup(workers: Option<&str>, place: Option<&str>) -> Option<Setup>
     Some(Setup { workers, place })
 }
 
-// How many workers are said, or 4.
+/// How many workers are said, or 4.
 fn workers_said(word: Option<&str>) -> Option<u16>
     ensures { result ≡ spec.workers_said (word_of word.entry) }
 {
@@ -42,7 +42,7 @@ fn workers_said(word: Option<&str>) -> Option<u16>
     workers_in(number_word(word.as_bytes())?)
 }
 
-// 1 to 16 workers.
+/// 1 to 16 workers.
 fn workers_in(number: u64) -> Option<u16>
     ensures { result ≡ spec.workers_in number }
 {
@@ -53,7 +53,7 @@ fn workers_in(number: u64) -> Option<u16>
     }
 }
 
-// The placement that is said, or `cyclic`.
+/// The placement that is said, or `cyclic`.
 fn place_said(word: Option<&str>) -> Option<Placement>
     ensures { result ≡ spec.place_said (word_of word.entry) }
 {
@@ -63,7 +63,7 @@ fn place_said(word: Option<&str>) -> Option<Placement>
     }
 }
 
-// `cyclic`, `block`, or `mixed-` and a number.
+/// `cyclic`, `block`, or `mixed-` and a number.
 #[tactic(auto, unfolding(crate::specs::Words::place_word))]
 fn place_word(word: &str) -> Option<Placement>
     ensures { result ≡ spec.place_word word.now }
@@ -77,7 +77,7 @@ fn place_word(word: &str) -> Option<Placement>
     }
 }
 
-// `mixed-` and a number.
+/// `mixed-` and a number.
 fn mixed_word(word: &[u8]) -> Option<Placement>
     ensures { result ≡ mixed_word word.now }
 {
@@ -85,7 +85,7 @@ fn mixed_word(word: &[u8]) -> Option<Placement>
     Some(Placement::Mixed(number))
 }
 
-// The number of 1 to 20 digits; nothing where it isn't below 2^64.
+/// The number of 1 to 20 digits; nothing where it isn't below 2^64.
 #[tactic(auto, unfolding(crate::specs::Words::number_word))]
 fn number_word(word: &[u8]) -> Option<u64>
     ensures { result ≡ option_and_then below_2_64 (spec.number_word word.now) }
@@ -97,14 +97,14 @@ fn number_word(word: &[u8]) -> Option<u64>
     }
 }
 
-// A word of 1 to 20 bytes.
+/// A word of 1 to 20 bytes.
 fn is_short(word: &[u8]) -> bool
     ensures { result ≡ is_short 20 word.now }
 {
     !word.is_empty() && word.len() <= MOST_DIGITS
 }
 
-// The number that digits write, or the greatest of a `u128` where it is greater.
+/// The number that digits write, or the greatest of a `u128` where it is greater.
 fn number(digits: &[u8]) -> u128
     ensures { result ≡ min (lex.decimal_value digits.now) (2 ^ 128 - 1) }
 {

@@ -72,7 +72,7 @@ pub fn given<'a>(alloc: Global, verb: Verb, words: &'a [String]) -> Result<Reque
     }
 }
 
-// Whether a word is the name of a file.
+/// Whether a word is the name of a file.
 fn is_file_name(word: &str) -> bool
     ensures { result ≡ is_file_name word.now }
 {
@@ -82,7 +82,7 @@ fn is_file_name(word: &str) -> bool
     }
 }
 
-// Whether a word is the name of a file, where there is one.
+/// Whether a word is the name of a file, where there is one.
 fn is_optional(word: Option<&str>) -> bool
     ensures { result ≡ is_optional (word_of word.entry) }
 {
@@ -92,7 +92,7 @@ fn is_optional(word: Option<&str>) -> bool
     }
 }
 
-// Whether a command asks for the summary, by what clap says of the flag.
+/// Whether a command asks for the summary, by what clap says of the flag.
 fn sums_up(verb: Verb, flag: Option<&str>) -> bool
     ensures { result ≡ sums_up_by verb (word_of flag.entry) }
 {
@@ -102,7 +102,7 @@ fn sums_up(verb: Verb, flag: Option<&str>) -> bool
     }
 }
 
-// Whether the words have a flag: clap gives it a value of its own, `true` or `false`.
+/// Whether the words have a flag: clap gives it a value of its own, `true` or `false`.
 fn is_set(flag: Option<&str>) -> bool
     ensures { result ≡ is_set (word_of flag.entry) }
 {
@@ -112,7 +112,7 @@ fn is_set(flag: Option<&str>) -> bool
     }
 }
 
-// What clap finds behind the command, before it is tested.
+/// What clap finds behind the command, before it is tested.
 #[derive(Clone, Copy)]
 struct Found<'a> {
     driver: Option<&'a str>,
@@ -123,7 +123,7 @@ struct Found<'a> {
     summary: Option<&'a str>,
 }
 
-// Takes the words behind the command apart.
+/// Takes the words behind the command apart.
 #[tactic(auto, unfolding(crate::specs::Words::faults, crate::specs::Words::found))]
 fn parse<'a>(alloc: Global, verb: Verb, rest: &'a [String]) -> Result<Found<'a>, WordsFault>
     ensures taken { OnOk result (faults verb (texts_of rest.now) ≡ []) }
@@ -155,7 +155,7 @@ fn parse<'a>(alloc: Global, verb: Verb, rest: &'a [String]) -> Result<Found<'a>,
     }
 }
 
-// What a command takes.
+/// What a command takes.
 fn command<'a>(alloc: Global, verb: Verb) -> Result<Command<'a>, AllocError>
     ensures { IfOk result (λ command. app_of command ≡ app_for verb) }
 {
@@ -165,7 +165,7 @@ fn command<'a>(alloc: Global, verb: Verb) -> Result<Command<'a>, AllocError>
     }
 }
 
-// A driver, and a data file if it is named.
+/// A driver, and a data file if it is named.
 fn check_command<'a>(alloc: Global) -> Result<Command<'a>, AllocError>
     ensures { IfOk result (λ command. app_of command ≡ check_app) }
 {
@@ -174,7 +174,7 @@ fn check_command<'a>(alloc: Global) -> Result<Command<'a>, AllocError>
         .arg(positional(alloc, "driver"))
 }
 
-// These, how the job is run, and whether its summary is told.
+/// These, how the job is run, and whether its summary is told.
 fn replay_command<'a>(alloc: Global) -> Result<Command<'a>, AllocError>
     ensures { IfOk result (λ command. app_of command ≡ replay_app) }
 {
@@ -187,7 +187,7 @@ fn replay_command<'a>(alloc: Global) -> Result<Command<'a>, AllocError>
         .arg(positional(alloc, "driver"))
 }
 
-// A command without a name of its own, and without help and version.
+/// A command without a name of its own, and without help and version.
 fn bare_command<'a>(alloc: Global) -> Command<'a>
     ensures { app_of result ≡ bare_app }
 {
@@ -197,7 +197,7 @@ fn bare_command<'a>(alloc: Global) -> Command<'a>
         .disable_version_flag(true)
 }
 
-// An option with a value.
+/// An option with a value.
 fn option<'a>(alloc: Global, name: &'a str) -> Arg<'a>
     ensures rule { rule_of result ≡ option_rule name.entry.now }
     ensures local { result.global ≡ false }
@@ -205,7 +205,7 @@ fn option<'a>(alloc: Global, name: &'a str) -> Arg<'a>
     Arg::new(alloc, name).long(name)
 }
 
-// An option without a value.
+/// An option without a value.
 fn flag<'a>(alloc: Global, name: &'a str) -> Arg<'a>
     ensures rule { rule_of result ≡ flag_rule name.entry.now }
     ensures local { result.global ≡ false }
@@ -213,7 +213,7 @@ fn flag<'a>(alloc: Global, name: &'a str) -> Arg<'a>
     Arg::new(alloc, name).long(name).action(ArgAction::SetTrue)
 }
 
-// A word that has to be there.
+/// A word that has to be there.
 fn positional<'a>(alloc: Global, name: &'a str) -> Arg<'a>
     ensures rule { rule_of result ≡ positional_rule name.entry.now }
     ensures local { result.global ≡ false }

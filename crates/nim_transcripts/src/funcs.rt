@@ -58,7 +58,7 @@ pub fn apply_line(alloc: Global, text: &str, out: &mut String) -> Result<(), Lin
     Ok(())
 }
 
-// Values with `|` between them, and which of them are read in turn.
+/// Values with `|` between them, and which of them are read in turn.
 fn operands(alloc: Global, text: &str) -> Result<(Vec<Value>, Vec<usize>), LineFault> {
     let (mut values, mut reads) = (Vec::new(alloc), Vec::new(alloc));
     if text.trim().is_empty() {

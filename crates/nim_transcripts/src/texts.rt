@@ -20,7 +20,7 @@ pub fn tokens_line(alloc: Global, text: &str, out: &mut String) -> Result<(), Li
     Ok(())
 }
 
-// Where a token stands, and what it is.
+/// Where a token stands, and what it is.
 fn push_token(alloc: Global, out: &mut String, token: &Token) -> Result<(), LineFault> {
     let (line, at, len) = (token.line, token.at, token.len);
     out.push_str(format!(in alloc; "line {line} at {at} length {len} ")?.as_str())?;

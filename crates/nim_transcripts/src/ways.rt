@@ -57,8 +57,8 @@ struct Way {
     gave: String,
 }
 
-// Goes so many random ways: what is given in the plain one, by lines in order, whether they complete the commands in more
-// orders than half as many, and whether the same lines are given in each.
+/// Goes so many random ways: what is given in the plain one, by lines in order, whether they complete the commands in
+/// more orders than half as many, and whether the same lines are given in each.
 fn ways_line(alloc: Global, job: &Ways, text: &str, out: &mut String) -> Result<(), LineFault> {
     let (count, seed) = halves(text, " ")?;
     let mut draws = Draws::new(number::<u64>(seed)?);
@@ -98,7 +98,7 @@ fn go_ways(
     )
 }
 
-// Whether the way gave what the plain one did; its order is noted where it is new.
+/// Whether the way gave what the plain one did; its order is noted where it is new.
 fn go_one(
     alloc: Global,
     job: &Ways,
@@ -146,7 +146,7 @@ fn push_found(
     )
 }
 
-// The lines of a text, in order.
+/// The lines of a text, in order.
 fn sorted(alloc: Global, text: &str) -> Result<String, LineFault> {
     let mut lines: Vec<&str> = text.lines().collect(alloc)?;
     lines.sort()?;
@@ -158,7 +158,7 @@ fn sorted(alloc: Global, text: &str) -> Result<String, LineFault> {
     Ok(all)
 }
 
-// A way with so many random turns, after which all that is left is handed and completed.
+/// A way with so many random turns, after which all that is left is handed and completed.
 fn gone(alloc: Global, job: &Ways, turns: u16, draws: &mut Draws) -> Result<Way, LineFault> {
     let mut core = WorkerCore::new(alloc, Worker(0));
     let mut way = begin(alloc, job)?;
@@ -204,7 +204,7 @@ fn turn(
     complete(alloc, job, draws, core, way, batch)
 }
 
-// The next order or any frame.
+/// The next order or any frame.
 fn hand(
     job: &Ways,
     draws: &mut Draws,
@@ -254,7 +254,7 @@ fn hand_rest(job: &Ways, core: &mut WorkerCore, way: &mut Way) -> Result<(), Lin
     Ok(())
 }
 
-// Performs some works of a batch, hands something while it is out or not, and finishes it.
+/// Performs some works of a batch, hands something while it is out or not, and finishes it.
 fn complete(
     alloc: Global,
     job: &Ways,
@@ -278,7 +278,7 @@ fn note_works(alloc: Global, order: &mut String, batch: &Batch) -> Result<(), Li
     Ok(())
 }
 
-// Up to so many works as there are, in any order.
+/// Up to so many works as there are, in any order.
 fn perform_some(draws: &mut Draws, batch: &mut Batch) -> Result<(), LineFault> {
     let works = batch.works();
     for _ in 0..works.len() {

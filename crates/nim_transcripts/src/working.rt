@@ -49,14 +49,14 @@ impl Working {
         push_number(alloc, out, i64::from(self.core.worker().0))
     }
 
-    // `begin MOST`: the epoch of the batch, and of each work the position and what it reads.
+    /// `begin MOST`: the epoch of the batch, and of each work the position and what it reads.
     fn begin(&mut self, alloc: Global, most: u16, out: &mut String) -> Result<(), LineFault> {
         let batch = begun(&mut self.core, most)?;
         let batch = self.batch.insert(batch);
         push_batch(alloc, out, batch)
     }
 
-    // `perform`: each work of the batch.
+    /// `perform`: each work of the batch.
     fn perform(&mut self) -> Result<(), LineFault> {
         match &mut self.batch {
             Some(batch) => perform_all(batch.works()),
@@ -64,7 +64,7 @@ impl Working {
         }
     }
 
-    // `finish`: what the batch gives.
+    /// `finish`: what the batch gives.
     fn finish(&mut self, alloc: Global, out: &mut String) -> Result<(), LineFault> {
         match self.batch.take() {
             Some(batch) => finish(alloc, &mut self.core, batch, out),
@@ -72,13 +72,13 @@ impl Working {
         }
     }
 
-    // `reports`: what is given until no command may be completed.
+    /// `reports`: what is given until no command may be completed.
     fn reports(&mut self, alloc: Global, out: &mut String) -> Result<(), LineFault> {
         finish_rest(alloc, &mut self.core, out)
     }
 }
 
-// How many commands a batch may have, one where nothing is said.
+/// How many commands a batch may have, one where nothing is said.
 fn most_of(text: &str) -> Result<u16, LineFault> {
     if text.is_empty() {
         return Ok(1);
@@ -160,7 +160,7 @@ pub fn finish_rest(
     Err(LineFault::Form("there are more reports"))
 }
 
-// Whether there was none.
+/// Whether there was none.
 fn finish_one(alloc: Global, core: &mut WorkerCore, out: &mut String) -> Result<bool, LineFault> {
     let batch = begun(core, 1)?;
     let is_last = batch.is_empty();

@@ -27,7 +27,7 @@ pub fn difference(
     Ok(Some(text))
 }
 
-// The first place at which two texts differ.
+/// The first place at which two texts differ.
 fn first_difference(wanted: &[u8], got: &[u8]) -> usize {
     for (at, (one, other)) in wanted.iter().zip(got).enumerate() {
         if one != other {
@@ -37,12 +37,12 @@ fn first_difference(wanted: &[u8], got: &[u8]) -> usize {
     wanted.len().min(got.len())
 }
 
-// How many lines end before a place.
+/// How many lines end before a place.
 fn ends_before(text: &[u8], at: usize) -> usize {
     text.iter().take(at).filter(|byte| **byte == b'\n').count()
 }
 
-// The line in which a place stands, with its bytes that aren't plain as escapes.
+/// The line in which a place stands, with its bytes that aren't plain as escapes.
 fn line_at(alloc: Global, text: &[u8], at: usize) -> Result<String, AllocError> {
     let front = &text[..at.min(text.len())];
     let first = match front.iter().rposition(|byte| *byte == b'\n') {

@@ -24,7 +24,7 @@ pub(crate) fn push_line(
     Ok(())
 }
 
-// What stands behind `%repeat`: a number and a text. A text that doesn't count is read once.
+/// What stands behind `%repeat`: a number and a text. A text that doesn't count is read once.
 fn push_repeated(
     alloc: Global,
     text: &mut Vec<u8>,
@@ -72,7 +72,7 @@ pub fn push_escaped(
     Ok(())
 }
 
-// What stands behind a `\`; gives back what follows the escape.
+/// What stands behind a `\`; gives back what follows the escape.
 fn push_escape<'a>(
     alloc: Global,
     text: &mut Vec<u8>,
@@ -103,12 +103,12 @@ fn pushed<'a>(text: &mut Vec<u8>, byte: u8, rest: &'a [u8]) -> Result<&'a [u8], 
     Ok(rest)
 }
 
-// The byte of two hexadecimal digits.
+/// The byte of two hexadecimal digits.
 fn byte_of(high: u8, low: u8) -> u8 {
     digit_of(high) << 4 | digit_of(low)
 }
 
-// A byte that is no digit stands for 0.
+/// A byte that is no digit stands for 0.
 fn digit_of(digit: u8) -> u8 {
     match digit {
         b'0'..=b'9' => digit - b'0',

@@ -23,7 +23,7 @@ pub fn all_pass<T: Test, R: Env + Files + Print + Alloc<A = Global>>(rt: &R) -> 
     Ok(pass)
 }
 
-// Prints what was found in a file; whether nothing differs.
+/// Prints what was found in a file; whether nothing differs.
 fn tell<R: Print>(rt: &R, name: &str, found: Result<Vec<String>, FileFault>) -> io::Result<bool> {
     match found {
         Ok(found) if found.is_empty() => {

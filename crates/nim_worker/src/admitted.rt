@@ -73,7 +73,7 @@ impl Admitted {
         self.enqueue(commands)
     }
 
-    // Opens the next group, where it has commands.
+    /// Opens the next group, where it has commands.
     fn open_group(&mut self, head: GroupHead, told: bool, left: u64) -> Result<(), NoMemory>
         ensures queue { self.new.queue ≡ self.old.queue }
         ensures given { self.new.given ≡ self.old.given }
@@ -88,7 +88,7 @@ impl Admitted {
         Ok(())
     }
 
-    // Gives the commands of the group that was opened to the queue; closes the group again where memory is refused.
+    /// Gives the commands of the group that was opened to the queue; closes the group again where memory is refused.
     fn enqueue(&mut self, commands: Vec<Command>) -> Result<(), NoMemory>
         requires { self.old.given + 1 < 2 ^ 64 }
         ensures queue { (groups : List group_type) (ran : List ℕ) (next : group_type)
@@ -175,7 +175,7 @@ fn head_in(unfinished: &BTreeMap<u64, OpenGroup>, number: u64) -> Option<GroupHe
     }
 }
 
-// One command less is left of a group; it goes with the last.
+/// One command less is left of a group; it goes with the last.
 fn count_down(unfinished: &mut BTreeMap<u64, OpenGroup>, number: u64) -> Option<OpenGroup>
     ensures group { result ≡ option_map one_less (get nat_cmp unfinished.old number) }
     ensures table { CountsDown unfinished.old number unfinished.new }

@@ -149,7 +149,7 @@ impl Work {
         }
     }
 
-    // The position of the task that a command runs, if it runs one.
+    /// The position of the task that a command runs, if it runs one.
     fn position_of(kind: &Kind) -> Option<Position>
         ensures { result ≡ spec.position_of kind.now }
     {

@@ -58,7 +58,7 @@ pub(crate) fn complete(
     Ok((out, inputs))
 }
 
-// What a Run of a Single read, copied; of another group it isn't told.
+/// What a Run of a Single read, copied; of another group it isn't told.
 fn contents_told(
     alloc: Global,
     single: bool,
@@ -74,7 +74,7 @@ fn contents_told(
 }
 
 impl Inputs {
-    // Gives what was taken back to its slots.
+    /// Gives what was taken back to its slots.
     fn give_back(&mut self, store: &mut Store) -> Result<(), NoMemory>
         ensures slots { OnOk result (slot_at store.new
             ≡ given_back self.old.taken.items self.old.values.items (slot_at store.old)) }
@@ -94,7 +94,7 @@ impl Inputs {
     }
 }
 
-// What a slot had, put together again.
+/// What a slot had, put together again.
 fn held_of(taken: Taken, value: Value) -> Option<Held>
     ensures { result ≡ input_spec.held_of taken value }
 {

@@ -88,7 +88,7 @@ pub(crate) fn set(store: &mut Store, slot: Slot, held: Option<Held>) -> Result<(
     }
 }
 
-// A version of the slot's object.
+/// A version of the slot's object.
 fn held_at(slot: Slot, version: Version, value: Value) -> Held
     ensures { result ≡ spec.held_version slot version value }
 {
@@ -99,7 +99,7 @@ fn held_at(slot: Slot, version: Version, value: Value) -> Held
     }
 }
 
-// Makes the initial value of a slot's object, where the object has a shape.
+/// Makes the initial value of a slot's object, where the object has a shape.
 fn create(
     alloc: Global,
     store: &mut Store,
@@ -123,7 +123,7 @@ fn create(
     store.put(slot, held_at(slot, 0, value))
 }
 
-// Puts the value of a frame into a slot, where there is a frame.
+/// Puts the value of a frame into a slot, where there is a frame.
 fn receive(
     store: &mut Store,
     slot: Slot,
@@ -143,7 +143,7 @@ fn receive(
     }
 }
 
-// Copies what a slot has into another one.
+/// Copies what a slot has into another one.
 fn copy(store: &mut Store, from: Slot, to: Slot) -> Result<(), NoMemory>
     ensures slots { OnOk result (slot_at store.new ≡ put_at to (slot_at store.old from) (slot_at store.old)) }
     ensures shapes { store.new.shapes ≡ store.old.shapes }
@@ -155,7 +155,7 @@ fn copy(store: &mut Store, from: Slot, to: Slot) -> Result<(), NoMemory>
     set(store, to, copied)
 }
 
-// Puts the results of a task into the slots that have a shape, one after another.
+/// Puts the results of a task into the slots that have a shape, one after another.
 fn put_results(
     store: &mut Store,
     position: Position,
@@ -177,7 +177,7 @@ fn put_results(
     Ok(())
 }
 
-// Puts a value into a slot, where the slot's object has a shape.
+/// Puts a value into a slot, where the slot's object has a shape.
 fn put_shaped(store: &mut Store, slot: Slot, held: Held) -> Result<(), NoMemory>
     ensures slots { OnOk result (slot_at store.new
         ≡ spec.put_shaped store.old.shapes slot held (slot_at store.old)) }
@@ -189,7 +189,7 @@ fn put_shaped(store: &mut Store, slot: Slot, held: Held) -> Result<(), NoMemory>
     Ok(())
 }
 
-// What a Run tells: what it read, where it came as a Single.
+/// What a Run tells: what it read, where it came as a Single.
 fn ran(head: GroupHead, position: Position, contents: Vec<(Object, Version)>) -> Option<Out>
     ensures { option_to_list result
         ≡ (if head.single then Report (Ran head.epoch position contents.items) ∷ [] else []) }
@@ -205,7 +205,7 @@ fn ran(head: GroupHead, position: Position, contents: Vec<(Object, Version)>) ->
     }
 }
 
-// What a slot has, copied; an empty one is seen without rows.
+/// What a slot has, copied; an empty one is seen without rows.
 fn copied(alloc: Global, store: &Store, slot: Slot) -> Result<Held, NoMemory>
     ensures { IfOk result (λ held. held ≡ held_or_empty (slot_at store.now) slot) }
 {
@@ -215,7 +215,7 @@ fn copied(alloc: Global, store: &Store, slot: Slot) -> Result<Held, NoMemory>
     }
 }
 
-// What a Fetch reports: what the slot has.
+/// What a Fetch reports: what the slot has.
 fn fetch(
     alloc: Global,
     head: GroupHead,
@@ -236,7 +236,7 @@ fn fetch(
     }))
 }
 
-// What a Send sends: what the slot has.
+/// What a Send sends: what the slot has.
 fn send(
     alloc: Global,
     head: GroupHead,

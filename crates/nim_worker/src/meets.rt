@@ -83,7 +83,7 @@ pub(crate) fn key_of(admitted: &Admitted, ticket: u64) -> Option<Key>
     key_received(admitted.head(ticket)?, command.id, &command.kind)
 }
 
-// Whether a command receives a frame.
+/// Whether a command receives a frame.
 fn is_receive(kind: &Kind) -> bool
     ensures { (group : group_type) (number : ℕ) → result ≡ is_some (history.key_received group number kind.now) }
 {

@@ -31,7 +31,7 @@ impl Room {
     }
 }
 
-// Inputs for a batch of the most works.
+/// Inputs for a batch of the most works.
 fn idle_inputs(alloc: Global) -> Result<Vec<Box<Inputs>>, NoMemory>
     ensures idle { IfOk result (λ inputs. AreIdle inputs.items) }
     ensures enough { IfOk result (λ inputs. vec_len inputs ≡ 16) }

@@ -69,7 +69,7 @@ impl Inputs {
         }
     }
 
-    // Takes what a task reads out of its slots.
+    /// Takes what a task reads out of its slots.
     fn take(
         &mut self,
         alloc: Global,
@@ -103,7 +103,7 @@ impl Inputs {
     }
 }
 
-// Takes what a slot has, where it isn't taken yet: its place among what is taken, and its object and version.
+/// Takes what a slot has, where it isn't taken yet: its place among what is taken, and its object and version.
 fn take_read(
     alloc: Global,
     store: &mut Store,
@@ -141,14 +141,14 @@ fn take_read(
     (place, content_of(now))
 }
 
-// The place of a slot among what is taken; past the end where it isn't taken.
+/// The place of a slot among what is taken; past the end where it isn't taken.
 fn place_of(taken: &[Taken], slot: Slot) -> usize
     ensures { result ≡ position_or_len (is_from slot) taken.now }
 {
     taken.iter().take_while(|t| slot.0 != t.slot.0).count()
 }
 
-// What a slot that was emptied is read as.
+/// What a slot that was emptied is read as.
 fn content_of(taken: Taken) -> (Object, Version)
     ensures { result ≡ spec.content_of taken }
 {
@@ -158,7 +158,7 @@ fn content_of(taken: Taken) -> (Object, Version)
     }
 }
 
-// The content and the value of what a slot has, apart.
+/// The content and the value of what a slot has, apart.
 fn apart(alloc: Global, held: Option<Held>) -> (Option<(Object, Version)>, Value)
     ensures held { option_map
         (λ (content : object × ℕ). record { object = content.0; version = content.1; value = result.1 }) result.0
@@ -171,7 +171,7 @@ fn apart(alloc: Global, held: Option<Held>) -> (Option<(Object, Version)>, Value
     }
 }
 
-// Appends the shapes that results are fitted to, one a slot that is written.
+/// Appends the shapes that results are fitted to, one a slot that is written.
 fn push_shapes(fitting: &mut Vec<Shape>, store: &Store, writes: &[Slot])
     requires idle { fitting.old.items ≡ [] }
     requires fits { length writes.now ≤ 2 }
@@ -185,7 +185,7 @@ fn push_shapes(fitting: &mut Vec<Shape>, store: &Store, writes: &[Slot])
     }
 }
 
-// The shape of a slot's object, if it has one with columns.
+/// The shape of a slot's object, if it has one with columns.
 pub(crate) fn shape_of(store: &Store, slot: Slot) -> Option<Shape>
     ensures shape { result ≡ kept_spec.shape_of store.now.shapes slot }
     ensures wide { IfSome result (λ shape. 1 ≤ shape.width) }
@@ -196,7 +196,7 @@ pub(crate) fn shape_of(store: &Store, slot: Slot) -> Option<Shape>
     }
 }
 
-// The shape that a result is fitted to; where there is none the result isn't kept.
+/// The shape that a result is fitted to; where there is none the result isn't kept.
 fn fitting_shape(store: &Store, slot: Slot) -> Shape
     ensures shape { result ≡ kept_spec.fitting_shape store.now.shapes slot }
     ensures wide { 1 ≤ result.width }

@@ -29,14 +29,14 @@ fn main(rt: HostRuntime) -> ExitCode {
     ExitCode::from(status.0)
 }
 
-// Whether the command is `check`. Any other words, also none, are for `replay` to take or to refuse.
+/// Whether the command is `check`. Any other words, also none, are for `replay` to take or to refuse.
 fn is_check(words: &[String]) -> bool {
     words
         .first()
         .is_some_and(|command| command.as_str() == "check")
 }
 
-// The words behind the program's name. One that isn't text makes the command line a faulty one.
+/// The words behind the program's name. One that isn't text makes the command line a faulty one.
 fn words<R: Env + Alloc<A = Global>>(rt: &R) -> Result<Vec<String>, Status> {
     match env::args(rt) {
         Ok(args) => args.skip(1).collect(rt.alloc()).or(Err(Status::MEMORY)),
