@@ -10,8 +10,8 @@ use Rattle.std.proofs.lemmas.List.Elements.{All-cons, All-nil, All-tail}
 -- ---- tests
 
 -- five tests that all pass
-pub five_and : (a b c d e : Bool) → a ≡ true → b ≡ true → c ≡ true → d ≡ true → e ≡ true → (a && b && c && d && e) ≡ true
-five_and a b c d e first second third fourth fifth =
+pub and_from_five : (a b c d e : Bool) → a ≡ true → b ≡ true → c ≡ true → d ≡ true → e ≡ true → (a && b && c && d && e) ≡ true
+and_from_five a b c d e first second third fourth fifth =
     and_from (a && b && c && d) e (and_from (a && b && c) d (and_from (a && b) c (and_from a b first second) third) fourth) fifth
 
 -- behind a test only what holds where it passes counts

@@ -56,13 +56,13 @@ words-line (word ∷ next ∷ words) inner =
     (All-cons IsEnd 32 (join_with_byte 32 (next ∷ words)) (λ h. omega arith) (words-line (next ∷ words) (All-tail IsWord word (next ∷ words) inner)))
 
 -- decimals
-own : IsNumeralModel (λ digits. all_ascii_digits digits ≡ true) (digits_from 0)
-own = numerals_by_fold _ (search rules) digits_from (search rules)
+is_numeral_model : IsNumeralModel (λ digits. all_ascii_digits digits ≡ true) (digits_from 0)
+is_numeral_model = numerals_by_fold _ (search rules) digits_from (search rules)
 
 digits-word : (digits : List ℕ) → all_ascii_digits digits ≡ true → IsWord digits
 digits-word digits are =
     All-from_get_or IsInner digits 0 (λ i low.
-    let range : IsInRange 48 57 (get_or digits i 0) = digit_at digits i (own.to digits are) low in
+    let range : IsInRange 48 57 (get_or digits i 0) = digit_at digits i (is_numeral_model.to digits are) low in
     (λ h. omega (arith, range, h), λ h. omega (arith, range, h)))
 
 natural-digits : (digits : List ℕ) (n : ℕ) → 0 < length digits → all_ascii_digits digits ≡ true → digits_from 0 digits ≡ n → natural_of digits ≡ Some n
@@ -70,16 +70,16 @@ natural-digits [] n some are is = absurd (omega arith)
 natural-digits (digit ∷ digits) n some are is = rw are (ap Some is)
 
 natural-read : (n : ℕ) → n < 2 ^ 64 → natural_of (decimal n) ≡ Some n
-natural-read n fits = natural-digits (decimal n) n (decimal_nonempty n fits) (digits_decimal own n fits) (digits_value-decimal own n fits)
+natural-read n fits = natural-digits (decimal n) n (decimal_nonempty n fits) (digits_decimal is_numeral_model n fits) (digits_value-decimal is_numeral_model n fits)
 
 natural-word : (n : ℕ) → n < 2 ^ 64 → IsWord (decimal n)
-natural-word n fits = digits-word (decimal n) (digits_decimal own n fits)
+natural-word n fits = digits-word (decimal n) (digits_decimal is_numeral_model n fits)
 
 number-digits : (digits : List ℕ) (n : ℕ) → 0 < length digits → all_ascii_digits digits ≡ true → digits_from 0 digits ≡ n
     → signed_number_of digits ≡ Some (pos n)
 number-digits [] n some are is = absurd (omega arith)
 number-digits (digit ∷ digits) n some are is =
-    let range : IsInRange 48 57 digit = digit_at (digit ∷ digits) 0 (own.to (digit ∷ digits) are) (omega arith) in
+    let range : IsInRange 48 57 digit = digit_at (digit ∷ digits) 0 (is_numeral_model.to (digit ∷ digits) are) (omega arith) in
     let no : (digit == 45) ≡ false = ne_eqb digit 45 (λ h. omega (arith, range, h)) in
     rw (no, natural-digits (digit ∷ digits) n some are is)
 
@@ -89,7 +89,7 @@ IsSmall cell = mag cell < 2 ^ 63
 
 number-read : (cell : ℤ) → IsSmall cell → signed_number_of (signed_decimal cell) ≡ Some cell
 number-read (pos n) small =
-    number-digits (decimal n) n (decimal_nonempty n (omega arith)) (digits_decimal own n (omega arith)) (digits_value-decimal own n (omega arith))
+    number-digits (decimal n) n (decimal_nonempty n (omega arith)) (digits_decimal is_numeral_model n (omega arith)) (digits_value-decimal is_numeral_model n (omega arith))
 number-read (negsuc n) small =
     let natural : natural_of (decimal (suc n)) ≡ Some (suc n) = natural-read (suc n) (omega arith) in
     ap (option_map (λ number. neg_ℤ (pos number))) natural

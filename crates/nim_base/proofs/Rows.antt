@@ -14,8 +14,8 @@ rest : (n width : ℕ) (cells : List ℤ) → length cells ≡ suc n * width →
 rest n width cells whole = omega (arith, length-drop width cells, whole, suc-mul n width)
 
 -- the first row is whole
-first : (n width : ℕ) (cells : List ℤ) → length cells ≡ suc n * width → length (take width cells) ≡ width
-first n width cells whole = length-take-le width cells (omega (arith, whole, suc-mul n width))
+first_row_whole : (n width : ℕ) (cells : List ℤ) → length cells ≡ suc n * width → length (take width cells) ≡ width
+first_row_whole n width cells whole = length-take-le width cells (omega (arith, whole, suc-mul n width))
 
 pub cells_of-rows_of : (n width : ℕ) (cells : List ℤ) → length cells ≡ n * width → cells_of (rows_of n width cells) ≡ cells
 cells_of-rows_of zero width cells whole = sym (nil_from_length cells (omega (arith, whole)))
@@ -26,7 +26,7 @@ cells_of-rows_of (suc n) width cells whole =
 pub even-rows_of : (n width : ℕ) (cells : List ℤ) → length cells ≡ n * width → All (λ row. length row ≡ width) (rows_of n width cells)
 even-rows_of zero width cells whole = All-nil (λ row. length row ≡ width)
 even-rows_of (suc n) width cells whole =
-    All-cons (λ row. length row ≡ width) (take width cells) (rows_of n width (drop width cells)) (first n width cells whole)
+    All-cons (λ row. length row ≡ width) (take width cells) (rows_of n width (drop width cells)) (first_row_whole n width cells whole)
     (even-rows_of n width (drop width cells) (rest n width cells whole))
 
 pub rows_of-replicate : (n width : ℕ) (cell : ℤ) → rows_of n width (replicate (n * width) cell) ≡ replicate n (replicate width cell)

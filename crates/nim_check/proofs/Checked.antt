@@ -32,7 +32,7 @@ use Rattle.nim_check.specs.Names.{Word, place_in}
 use Rattle.nim_check.specs.Refusals.{first_refusal}
 use Rattle.nim_check.specs.Rules.{has_block, has_variable, is_known, opens, read_by, rule_41, rule_44, rule_47, rule_52, rule_53, rule_54, rule_of}
 use Rattle.nim_check.specs.DriverPlaces.{at_statement, empty_scope, places_of_statements, scope_of, scope_with}
-use Rattle.nim_base.proofs.Lists.{five_and}
+use Rattle.nim_base.proofs.Lists.{and_from_five}
 use Rattle.nim_check.proofs.Counts.{Begins, known_atoms, known_cond, known_value, one_known, read_begins, set_begins, sets}
 use Rattle.nim_check.proofs.Scanned.{Fits, checkpoint_scan, do_scan, else_fits, else_scan, end_fits, get_scan, if_bodies, if_scan, let_scan, loop_scan, no_second, opened_fits, output_scan, put_fits, put_scan, scan_bodies, turns_scan, while_scan}
 
@@ -212,12 +212,12 @@ and_some : (job : Job) (o : Option ℕ) → option_and_then (scan_bodies job [])
 and_some job None = refl
 and_some job (Some n) = refl
 
-last : (job : Job) (bs : List Body) (k : ℕ) → Fits [] bs → scan_bodies job bs 0 ≡ Some k → scan_all (map (scan_of job) (first_body bs)) 0 0 ≡ Some k
-last job [] k f h = absurd f
-last job (b ∷ []) k f h =
+last_body_scans : (job : Job) (bs : List Body) (k : ℕ) → Fits [] bs → scan_bodies job bs 0 ≡ Some k → scan_all (map (scan_of job) (first_body bs)) 0 0 ≡ Some k
+last_body_scans job [] k f h = absurd f
+last_body_scans job (b ∷ []) k f h =
     let o : Option ℕ = scan_all (map (scan_of job) b.first) 0 0 in
     sym (and_some job o) ∙ sym (no_second job b.second 0 (scan_bodies job []) o f) ∙ h
-last job (b ∷ c ∷ bs) k f h = absurd f
+last_body_scans job (b ∷ c ∷ bs) k f h = absurd f
 
 -- the statements of a tree that no rule refuses
 pub body_whole : (tree : Sections) (job : Job) → Ties tree job
@@ -227,7 +227,7 @@ body_whole tree job ties body nests none =
     let all = (scope_of empty_scope tree.statements).scalars in
     let both = all_lines tree job all tree.statements empty_scope [] ties refl refl none nests in
     ap (λ (b : List Stmt). is_some (scan_all (map (scan_of job) b) 0 0)) body
-    ∙ ap is_some (last job (bodies_of (names_for tree all) tree.statements) (length all) both.0 both.1)
+    ∙ ap is_some (last_body_scans job (bodies_of (names_for tree all) tree.statements) (length all) both.0 both.1)
 
 between : (n : ℕ) → 1 ≤ n → n ≤ 1000000 → is_between 1 1000000 n ≡ true
 between n low high = grind (arith, nat_tests)
@@ -240,6 +240,6 @@ pub job_whole : (job : Job) → 1 ≤ job.steps → job.steps ≤ 1000000 → ar
     → list_all (is_whole_block job.vars) job.blocks ≡ true
     → is_some (scalars_set job) ≡ true → is_checked job ≡ true
 job_whole job low high vars blocks each body =
-    five_and (is_between 1 1000000 job.steps) (are_vars job.vars) (nat_le (length job.blocks) 32) (list_all (is_whole_block job.vars) job.blocks)
+    and_from_five (is_between 1 1000000 job.steps) (are_vars job.vars) (nat_le (length job.blocks) 32) (list_all (is_whole_block job.vars) job.blocks)
     (is_some (scalars_set job))
     (between job.steps low high) vars (few (length job.blocks) blocks) each body

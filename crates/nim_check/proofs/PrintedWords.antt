@@ -95,15 +95,15 @@ not_bare (b ∷ w) rest plain =
 
 -- ---- numbers
 
-own : IsNumeralModel (λ digits. all_ascii_digits digits ≡ true) (λ digits. decimal_value digits)
-own = numerals_by_fold _ (search rules) (λ (before : ℕ) (digits : List ℕ). fold (λ (n digit : ℕ). n * 10 + (digit - 48)) before digits) (search rules)
+is_numeral_model : IsNumeralModel (λ digits. all_ascii_digits digits ≡ true) (λ digits. decimal_value digits)
+is_numeral_model = numerals_by_fold _ (search rules) (λ (before : ℕ) (digits : List ℕ). fold (λ (n digit : ℕ). n * 10 + (digit - 48)) before digits) (search rules)
 
 same_digits : (digits : List ℕ) → all_ascii_digits digits ≡ list_all is_ascii_digit digits
 same_digits [] = refl
 same_digits (digit ∷ digits) = ap (λ (t : Bool). is_ascii_digit digit && t) (same_digits digits)
 
 are_digits : (n : ℕ) → n < 2 ^ 64 → list_all is_ascii_digit (decimal n) ≡ true
-are_digits n fits = sym (same_digits (decimal n)) ∙ digits_decimal own n fits
+are_digits n fits = sym (same_digits (decimal n)) ∙ digits_decimal is_numeral_model n fits
 
 digit_plain : (b : ℕ) → is_ascii_digit b ≡ true → is_plain b ≡ true
 digit_plain b digit = grind (arith, nat_tests)
@@ -115,7 +115,7 @@ pub decimal_plain : (n : ℕ) → n < 2 ^ 64 → IsPlain (decimal n)
 decimal_plain n fits = (decimal_nonempty n fits, digits_plain (decimal n) (are_digits n fits))
 
 value : (n : ℕ) → n < 2 ^ 64 → decimal_value (decimal n) ≡ n
-value n fits = digits_value-decimal own n fits
+value n fits = digits_value-decimal is_numeral_model n fits
 
 some_digits : (digits : List ℕ) → 0 < length digits → list_all is_ascii_digit digits ≡ true → is_numeral digits ≡ true
 some_digits [] some are = absurd (omega arith)

@@ -27,7 +27,7 @@ use crate::fetch::fetch_objects;
 use crate::flight::InFlight;
 use crate::sites::SiteMap;
 use crate::told::{
-    cell_told, first_open, is_any_open, on_ran, on_through, push_open, tell_at, texts,
+    cell_told, first_open, is_any_open, push_open, tell_at, tell_ran, tell_through, texts,
 };
 use nim_base::{Epoch, Instance, NoMemory, Position, Seq, TaskForm, Worker};
 use nim_course::{Fetched, Outcome, Pending, Setup, Summary, Waiting};
@@ -467,12 +467,12 @@ impl ControllerCore {
                 ..
             } => {
                 if epoch == self.epoch {
-                    on_ran(&mut self.flight, from, position);
+                    tell_ran(&mut self.flight, from, position);
                 }
             }
             FromWorker::Through { epoch, instance } => {
                 if epoch == self.epoch {
-                    on_through(&mut self.flight, from, instance);
+                    tell_through(&mut self.flight, from, instance);
                 }
             }
             FromWorker::NoMemory => self.outcome = Some(Outcome::NoMemory),

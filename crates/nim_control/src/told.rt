@@ -46,7 +46,7 @@ pub(crate) fn push_open(flights: &mut Vec<InFlight>, flight: InFlight) -> Result
 }
 
 /// A worker reports the run of the task at a position; what isn't in flight any more goes.
-pub(crate) fn on_ran(flights: &mut Vec<InFlight>, from: Worker, position: Position)
+pub(crate) fn tell_ran(flights: &mut Vec<InFlight>, from: Worker, position: Position)
     ensures { flights.new.items ≡ reports.flight_after from position flights.old.items }
 {
     let mut at = 0;
@@ -61,7 +61,7 @@ pub(crate) fn on_ran(flights: &mut Vec<InFlight>, from: Worker, position: Positi
 }
 
 /// A worker reports that it is through with an instance; what isn't in flight any more goes.
-pub(crate) fn on_through(flights: &mut Vec<InFlight>, from: Worker, instance: Instance)
+pub(crate) fn tell_through(flights: &mut Vec<InFlight>, from: Worker, instance: Instance)
     ensures { flights.new.items ≡ reports.flight_through from instance flights.old.items }
 {
     let mut at = 0;

@@ -13,7 +13,7 @@ use Rattle.nim_job.specs.Tasks.{block_forms_of, stages_of, task_with_args}
 use Rattle.nim_job.specs.Whole.{are_distinct, is_object_within, is_whole_task, is_whole}
 use Rattle.nim_job.proofs.Whole.{tasks_there, whole_blocks}
 use Rattle.nim_template.specs.Fits.{are_below, is_fit}
-use Rattle.nim_base.proofs.Lists.{five_and}
+use Rattle.nim_base.proofs.Lists.{and_from_five}
 use Rattle.nim_job.proofs.FewTasks.{length_forms, tasks_at}
 use Rattle.nim_course.proofs.Counts.{counts_of, reads_few, task_counts, writes_few, writes_some}
 
@@ -37,7 +37,7 @@ form_fits objects args form is =
     let writes = list_all (is_object_within objects) form.writes in
     let three = (and_parts (func && reads && writes) (are_distinct form.writes) is).0 in
     let two = and_parts (func && reads) writes three in
-    five_and (nat_le 1 (length form.writes)) (nat_le (length form.writes) 2) (nat_le (length form.reads) 8) (are_below objects form.writes)
+    and_from_five (nat_le 1 (length form.writes)) (nat_le (length form.writes) 2) (nat_le (length form.reads) 8) (are_below objects form.writes)
     (are_below objects form.reads)
     (le-leb 1 (length form.writes) (omega (arith, counts.1, writes_some form.func)))
     (le-leb (length form.writes) 2 (omega (arith, counts.1, writes_few form.func)))

@@ -126,21 +126,21 @@ ten_refused = refl
 
 -- ---- each of three parts adds the next one to itself, in turn
 
-abbrev turn_block : WorkerTemplate
-turn_block = of_block two 3 (adds 0 1 0 ∷ adds 1 2 1 ∷ adds 2 0 2 ∷ [])
+abbrev ring_block : WorkerTemplate
+ring_block = of_block two 3 (adds 0 1 0 ∷ adds 1 2 1 ∷ adds 2 0 2 ∷ [])
 
 -- Worker 0 needs both reads of task 1 at entry and has them still: nothing is sent on.
-turn_halves : (migrated turn_block 1 (worker 0)).halves
+ring_halves : (migrated ring_block 1 (worker 0)).halves
     ≡ (run_adds 32 0 1 0 [] ∷ copies 88 1 513 [] ∷ copies 89 2 514 [] ∷ run_adds 96 513 514 513 (88 ∷ 89 ∷ []) ∷ sends 104 513 1 112 (96 ∷ [])
     ∷ run_adds 160 2 0 2 (32 ∷ 89 ∷ []) ∷ receives 65536 1 2 (32 ∷ 88 ∷ []) ∷ sends 65537 2 1 65537 (160 ∷ []) ∷ [])
     ∷ (receives 112 1 2 [] ∷ sends 65536 1 0 65536 (112 ∷ []) ∷ receives 65537 2 3 [] ∷ []) ∷ []
-turn_halves = refl
+ring_halves = refl
 
 -- Worker 1 has a[2] as at entry, and not what task 0 writes into a[0].
-turn_away : edits_of turn_block 2 (worker 1)
+ring_away : edits_of ring_block 2 (worker 1)
     ≡ (let spec : Spec = record { func = Add; params = []; reads = (object 2, 0) ∷ (object 0, 1) ∷ []; writes = object 2 ∷ [] } in
     (worker 0, Away 2 (worker 1) 1 spec) ∷ (worker 1, Here 2 (worker 0) 1 spec) ∷ [])
-turn_away = refl
+ring_away = refl
 
 -- what an earlier task of the block writes is there, at its home, and nothing else
 abbrev sum_block : WorkerTemplate

@@ -74,28 +74,28 @@ rolled job x fine = λ depth k behind within set.
 abbrev Part : Job → Type 0
 Part job = (stmt : Stmt) × Fine job stmt
 
-step : (job : Job) (y : Stmt-F (Part job)) → Fine job (roll-Stmt (map-Stmt (Part job) Stmt (λ e. e.0) y))
-step job (Stmt-F.Do block args) =
+fine_by_parts : (job : Job) (y : Stmt-F (Part job)) → Fine job (roll-Stmt (map-Stmt (Part job) Stmt (λ e. e.0) y))
+fine_by_parts job (Stmt-F.Do block args) =
     rolled job (Stmt-F.Do block args) (λ depth k behind within set.
     let found = taken (is_call job block (length args) && list_all (is_atom k) args) (Some k) behind set in
     ((and_parts (is_call job block (length args)) (list_all (is_atom k) args) found.0).0, omega (arith, within)))
-step job (Stmt-F.Let s first rest) = rolled job (Stmt-F.Let s first rest) (λ depth k behind within set. (refl, omega (arith, within)))
-step job (Stmt-F.Get s var part row cell) =
+fine_by_parts job (Stmt-F.Let s first rest) = rolled job (Stmt-F.Let s first rest) (λ depth k behind within set. (refl, omega (arith, within)))
+fine_by_parts job (Stmt-F.Get s var part row cell) =
     rolled job (Stmt-F.Get s var part row cell) (λ depth k behind within set.
     ((taken (nat_lt var (length job.vars)) (set_at k s) behind set).0, omega (arith, within)))
-step job (Stmt-F.Loop turns es) =
+fine_by_parts job (Stmt-F.Loop turns es) =
     let stmts = map (λ (e : Part job). e.0) es in
     rolled job (Stmt-F.Loop turns stmts) (λ depth k behind within set.
     let found = taken (is_atom k turns) (scan_body (map (scan_of job) stmts) depth k) behind set in
     let inner = body_fine job (λ (e : Part job). e.0) (λ e. e.1) es depth k behind found.1 in
     (inner.0, omega (arith, inner.1)))
-step job (Stmt-F.While cond es) =
+fine_by_parts job (Stmt-F.While cond es) =
     let stmts = map (λ (e : Part job). e.0) es in
     rolled job (Stmt-F.While cond stmts) (λ depth k behind within set.
     let found = taken (is_cond k cond) (scan_body (map (scan_of job) stmts) depth k) behind set in
     let inner = body_fine job (λ (e : Part job). e.0) (λ e. e.1) es depth k behind found.1 in
     (inner.0, omega (arith, inner.1)))
-step job (Stmt-F.If cond es fs) =
+fine_by_parts job (Stmt-F.If cond es fs) =
     let firsts = map (λ (e : Part job). e.0) es in
     let seconds = map (λ (e : Part job). e.0) fs in
     rolled job (Stmt-F.If cond firsts seconds) (λ depth k behind within set.
@@ -108,12 +108,12 @@ step job (Stmt-F.If cond es fs) =
       omega
           (arith, first.1, second.1),
     ))
-step job Stmt-F.Checkpoint = rolled job Stmt-F.Checkpoint (λ depth k behind within set. (refl, omega (arith, within)))
-step job (Stmt-F.Output var) =
+fine_by_parts job Stmt-F.Checkpoint = rolled job Stmt-F.Checkpoint (λ depth k behind within set. (refl, omega (arith, within)))
+fine_by_parts job (Stmt-F.Output var) =
     rolled job (Stmt-F.Output var) (λ depth k behind within set. ((taken (nat_lt var (length job.vars)) (Some k) behind set).0, omega (arith, within)))
 
 every_fine : (job : Job) (stmt : Stmt) → Fine job stmt
-every_fine job = ind-Stmt (Fine job) (λ x y is. subst (λ (z : Stmt-F Stmt). Fine job (roll-Stmt z)) is (step job y))
+every_fine job = ind-Stmt (Fine job) (λ x y is. subst (λ (z : Stmt-F Stmt). Fine job (roll-Stmt z)) is (fine_by_parts job y))
 
 pub set_some : (o : Option ℕ) → is_some o ≡ true → (n : ℕ) × (o ≡ Some n)
 set_some None is = absurd cc

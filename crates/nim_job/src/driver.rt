@@ -11,7 +11,7 @@ ghost use Rattle.nim_job.specs.Whole.{is_whole};
 
 use crate::arith::{atoms, set};
 use crate::copies::copy_stmts;
-use crate::path::{close, next_stmt, pass, replace, skip_first};
+use crate::path::{close, next_stmt, pass_first, replace, skip_first};
 use crate::span::{object_of_part, spans};
 use crate::wholeness::scalar_count;
 use crate::{Ask, Asked, DriverState, Job, Level, LevelKind, Span, Stmt};
@@ -208,7 +208,7 @@ impl DriverMachine {
         ensures passed { let next = record self.old { driver = quiet_step self.old.driver } in
             self.new ≡ (if result then next else self.old) }
     {
-        let passed = pass(
+        let passed = pass_first(
             self.body.as_slice(),
             &mut self.levels,
             self.scalars.as_mut_slice(),

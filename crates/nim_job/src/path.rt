@@ -12,7 +12,7 @@ use crate::arith::{atom, is_met, set, value};
 use crate::{Level, LevelKind, Stmt};
 
 /// Takes the first item that is to do, where it asks nothing, and says whether there was such an item.
-pub(crate) fn pass(whole: &[Stmt], levels: &mut Vec<Level>, scalars: &mut [i64]) -> bool
+pub(crate) fn pass_first(whole: &[Stmt], levels: &mut Vec<Level>, scalars: &mut [i64]) -> bool
     requires open { IsOpen whole.now (vec_capacity levels.old) levels.old.items }
     ensures open { IsOpen whole.now (vec_capacity levels.new) levels.new.items }
     ensures quiet { result ≡ is_quiet (todo_of whole.now levels.old.items) }

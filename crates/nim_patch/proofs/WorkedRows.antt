@@ -49,29 +49,29 @@ none_left : failing_in (after_copies before copies) preconditions ≡ 0
 none_left = refl
 
 -- block 0 after block 1
-abbrev turn : Key
-turn = patch_key 1 0
+abbrev zero_behind_one : Key
+zero_behind_one = patch_key 1 0
 
 -- before instance 2 no patch is kept, and the one that is made gets the number 0
-first_missed : patch_number_kept turn copies [] ≡ None
+first_missed : patch_number_kept zero_behind_one copies [] ≡ None
 first_missed = refl
 
-first_number : number_for turn [] ≡ 0
+first_number : number_for zero_behind_one [] ≡ 0
 unfolding least_free
 first_number = refl
 
 abbrev made : List Use
-made = after_use (use_of turn 0 copies) []
+made = after_use (use_of zero_behind_one 0 copies) []
 
 -- before instance 4 it is found, since that is a hit
-then_found : patch_number_kept turn copies made ≡ Some 0
+then_found : patch_number_kept zero_behind_one copies made ≡ Some 0
 then_found = refl
 
-then_hit : hit turn copies (use_of turn 0 copies ∷ []) ≡ Some 0
+then_hit : hit zero_behind_one copies (use_of zero_behind_one 0 copies ∷ []) ≡ Some 0
 then_hit = refl
 
 -- one with other copies, or for other blocks, isn't
-others_missed : patch_number_kept turn (copy 1 0 1 ∷ []) made ≡ None
+others_missed : patch_number_kept zero_behind_one (copy 1 0 1 ∷ []) made ≡ None
 others_missed = refl
 
 elsewhere_missed : patch_number_kept (patch_key 0 0) copies made ≡ None

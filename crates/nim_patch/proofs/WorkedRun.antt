@@ -70,10 +70,10 @@ run_1 : patch_runs_of 3 5 2 copies before 1 ≡ RunPatch 3 5 2 [] ∷ []
 run_1 = refl
 
 -- what a command of a copy is
-abbrev own : ℕ → ℕ → Kind → Worker × Command
-own at number kind = (worker at, record { id = number; kind = kind; before = [] })
+abbrev command_at : ℕ → ℕ → Kind → Worker × Command
+command_at at number kind = (worker at, record { id = number; kind = kind; before = [] })
 
-commands : patch_commands_of copies before ≡ own 0 131072 (Kind.Receive (slot 1) 8) ∷ own 1 131072 (Kind.Send (slot 1) (worker 0) 131072) ∷ []
+commands : patch_commands_of copies before ≡ command_at 0 131072 (Kind.Receive (slot 1) 8) ∷ command_at 1 131072 (Kind.Send (slot 1) (worker 0) 131072) ∷ []
 commands = refl
 
 -- behind them the block may begin

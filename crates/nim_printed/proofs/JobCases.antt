@@ -31,7 +31,7 @@ use Rattle.nim_printed.specs.Printer.{atom_for, block_name, condition_for, else_
 use Rattle.nim_printed.specs.Spelled as spelled
 use Rattle.nim_printed.specs.Spelled.{all_true, is_unreserved, is_small, is_stmt}
 use Rattle.nim_printed.specs.Trees as trees
-use Rattle.nim_base.proofs.Lists.{five_and}
+use Rattle.nim_base.proofs.Lists.{and_from_five}
 use Rattle.nim_printed.proofs.JobAtoms.{atom_back, atom_known, atom_printed, cond_back, cond_known, cond_printed, first_back, names_at, rest_back, scalars, scalars_length, scope_at, set_free, sets, value_known, value_printed}
 use Rattle.nim_printed.proofs.JobBlocks.{names_of_blocks}
 use Rattle.nim_printed.proofs.JobLines.{opened_after}
@@ -182,7 +182,7 @@ get_says job blocks depth k behind s var part row cell named within there set sm
           ∙ ap₂ (λ (scalar v : ℕ). onto (roll-Stmt (Stmt-F.Get scalar v part row cell)) bodies) place
           (place_at (names_of_vars job.vars) var named.vars_once at);
       printed =
-          five_and (is_unreserved (scalar_name s)) (is_unreserved name) (is_small part) (is_small row) (is_small cell)
+          and_from_five (is_unreserved (scalar_name s)) (is_unreserved name) (is_small part) (is_small row) (is_small cell)
           (scalar_free s (omega (arith, new.there, new.few)))
           (free_at (names_of_vars job.vars) var at named.vars_free) small.0 small.1 small.2;
       nests = λ open_now more. open_cases (λ op. opened_after op (Get (scalar_name s) name part row cell ∷ more) ≡ opened_after op more) refl

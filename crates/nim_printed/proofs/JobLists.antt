@@ -13,29 +13,29 @@ use Rattle.nim_check.specs.Rules.{rule_of}
 use Rattle.nim_check.specs.DriverPlaces.{DriverPlace, place_line}
 use Rattle.nim_check.proofs.Refused as refusals
 
-pub parts3 : (a b c : Bool) → (a && b && c) ≡ true → (a ≡ true) × (b ≡ true) × (c ≡ true)
-parts3 a b c is =
+pub and_three_parts : (a b c : Bool) → (a && b && c) ≡ true → (a ≡ true) × (b ≡ true) × (c ≡ true)
+and_three_parts a b c is =
     let p = and_parts (a && b) c is in
     let q = and_parts a b p.0 in
     (q.0, q.1, p.1)
 
-pub parts4 : (a b c d : Bool) → (a && b && c && d) ≡ true → (a ≡ true) × (b ≡ true) × (c ≡ true) × (d ≡ true)
-parts4 a b c d is =
+pub and_four_parts : (a b c d : Bool) → (a && b && c && d) ≡ true → (a ≡ true) × (b ≡ true) × (c ≡ true) × (d ≡ true)
+and_four_parts a b c d is =
     let p = and_parts (a && b && c) d is in
-    let q = parts3 a b c p.0 in
+    let q = and_three_parts a b c p.0 in
     (q.0, q.1, q.2, p.1)
 
-pub parts5 : (a b c d e : Bool) → (a && b && c && d && e) ≡ true → (a ≡ true) × (b ≡ true) × (c ≡ true) × (d ≡ true) × (e ≡ true)
-parts5 a b c d e is =
+pub and_five_parts : (a b c d e : Bool) → (a && b && c && d && e) ≡ true → (a ≡ true) × (b ≡ true) × (c ≡ true) × (d ≡ true) × (e ≡ true)
+and_five_parts a b c d e is =
     let p = and_parts (a && b && c && d) e is in
-    let q = parts4 a b c d p.0 in
+    let q = and_four_parts a b c d p.0 in
     (q.0, q.1, q.2, q.3, p.1)
 
-pub from3 : (a b c : Bool) → a ≡ true → b ≡ true → c ≡ true → (a && b && c) ≡ true
-from3 a b c x y z = and_from (a && b) c (and_from a b x y) z
+pub and_from_three : (a b c : Bool) → a ≡ true → b ≡ true → c ≡ true → (a && b && c) ≡ true
+and_from_three a b c x y z = and_from (a && b) c (and_from a b x y) z
 
-pub from4 : (a b c d : Bool) → a ≡ true → b ≡ true → c ≡ true → d ≡ true → (a && b && c && d) ≡ true
-from4 a b c d x y z w = and_from (a && b && c) d (from3 a b c x y z) w
+pub and_from_four : (a b c d : Bool) → a ≡ true → b ≡ true → c ≡ true → d ≡ true → (a && b && c && d) ≡ true
+and_from_four a b c d x y z w = and_from (a && b && c) d (and_from_three a b c x y z) w
 
 -- ---- lists
 

@@ -33,7 +33,7 @@ use Rattle.nim_printed.specs.Spelled as spelled
 use Rattle.nim_printed.specs.Spelled.{is_unreserved}
 use Rattle.nim_printed.specs.Trees as trees
 use Rattle.nim_job.proofs.Lists.{list_all_item}
-use Rattle.nim_printed.proofs.JobLists.{all_both, all_mapped, all_of_both, all_parts, from4, map_back, no_rule, none_mapped, parts4, parts5, passes_on, sum_same}
+use Rattle.nim_printed.proofs.JobLists.{all_both, all_mapped, all_of_both, all_parts, and_five_parts, and_four_parts, and_from_four, map_back, no_rule, none_mapped, passes_on, sum_same}
 use Rattle.nim_printed.proofs.JobNames.{arguments_free, arguments_once, first_names, func_back, func_free, in_at, name_free, name_in, name_place, once_fewer, place_at}
 use Rattle.nim_printed.proofs.JobPlaces.{distinct_unloaded, turns_unloaded}
 use Rattle.nim_printed.proofs.JobVars.{names_of_vars, unloaded_vars}
@@ -84,7 +84,7 @@ record IsWhole (vars : List job_var) (args : ℕ) (stage : job_stage) : Type 0 w
 
 whole_stage : (vars : List job_var) (args : ℕ) (stage : job_stage) → is_stage vars args stage ≡ true → IsWhole vars args stage
 whole_stage vars args stage is =
-    let parts = parts5 (has_counts stage.func (length stage.params) (length stage.reads) (length stage.writes)) (list_all (is_param args) stage.params)
+    let parts = and_five_parts (has_counts stage.func (length stage.params) (length stage.reads) (length stage.writes)) (list_all (is_param args) stage.params)
     (list_all (is_ref vars stage.each) stage.reads) (list_all (is_ref vars stage.each) stage.writes) (has_distinct vars stage) is in
     record { counts = parts.0; params = parts.1; reads = parts.2; writes = parts.3; distinct = parts.4 }
 
@@ -279,12 +279,12 @@ stage_printed vars args line stage free few is spells =
     and_parts (list_all (λ (ref : job_ref). spelled.is_spelled_place ref.place) (stage.reads ++ stage.writes))
     (list_all spelled.is_spelled_param stage.params) spells in
     let places = all_parts (λ (ref : job_ref). spelled.is_spelled_place ref.place) stage.reads stage.writes spelled_parts.0 in
-    let counts = parts4 (length stage.params == params_of stage.func) (nat_le (fewest_reads stage.func) (length stage.reads))
+    let counts = and_four_parts (length stage.params == params_of stage.func) (nat_le (fewest_reads stage.func) (length stage.reads))
     (nat_le (length stage.reads) (most_reads stage.func))
     (length stage.writes == result_count stage.func) whole.counts in
     let written : (length s.writes == result_count stage.func) ≡ true =
     ap (λ (n : ℕ). n == result_count stage.func) (length-map stage.writes (ref_for vars)) ∙ counts.3 in
-    from4 (is_unreserved (func_name stage.func)) (list_all trees.is_printable_ref s.reads) (trees.is_some_refs s.writes)
+    and_from_four (is_unreserved (func_name stage.func)) (list_all trees.is_printable_ref s.reads) (trees.is_some_refs s.writes)
     (list_all trees.is_printable_atom s.parameters)
     (func_free stage.func)
     (all_refs vars stage.each free stage.reads whole.reads places.0)

@@ -21,7 +21,7 @@ use Rattle.nim_printed.specs.Spelled as spelled
 use Rattle.nim_printed.specs.Spelled.{all_true, is_small, is_stmt}
 use Rattle.nim_job.proofs.Sound.{then_parts}
 use Rattle.nim_printed.proofs.JobCases.{Named, checkpoint_says, do_says, get_says, if_holds, if_opens, let_says, loop_opens, output_says, taken, while_opens}
-use Rattle.nim_printed.proofs.JobLists.{parts3}
+use Rattle.nim_printed.proofs.JobLists.{and_three_parts}
 use Rattle.nim_printed.proofs.JobStmts.{Shows, body_with, holds_part, shows_both, shows_none, shows_opened, shows_said}
 
 -- a statement that is whole where it stands is shown by its lines
@@ -60,9 +60,9 @@ rolled job blocks x shown = λ depth k behind within set spells.
 abbrev Part : Job → List Block → Type 0
 Part job blocks = (stmt : Stmt) × Shown job blocks stmt
 
-step : (job : Job) (blocks : List Block) → Named job blocks → (y : Stmt-F (Part job blocks))
+shown_by_parts : (job : Job) (blocks : List Block) → Named job blocks → (y : Stmt-F (Part job blocks))
     → Shown job blocks (roll-Stmt (map-Stmt (Part job blocks) Stmt (λ e. e.0) y))
-step job blocks named (Stmt-F.Do block args) =
+shown_by_parts job blocks named (Stmt-F.Do block args) =
     rolled job blocks (Stmt-F.Do block args) (λ depth k behind within set spells.
     let found = taken (is_call job block (length args) && list_all (whole.is_atom k) args) (Some k) behind set in
     let parts = and_parts (is_call job block (length args)) (list_all (whole.is_atom k) args) found.0 in
@@ -70,19 +70,19 @@ step job blocks named (Stmt-F.Do block args) =
     let stmt = roll-Stmt (Stmt-F.Do block args) in
     subst (λ (n : ℕ). Shows job blocks depth k n (line ∷ []) (stmt ∷ [])) (same_Some k behind found.1)
     (shows_said job blocks depth k k line stmt (do_says job blocks depth k block args named within parts.0 parts.1 spells)))
-step job blocks named (Stmt-F.Let s first rest) =
+shown_by_parts job blocks named (Stmt-F.Let s first rest) =
     rolled job blocks (Stmt-F.Let s first rest) (λ depth k behind within set spells.
     let found = taken (whole.is_atom k first && whole.is_rest k rest) (whole.set_at k s) behind set in
     let parts = and_parts (whole.is_atom k first) (whole.is_rest k rest) found.0 in
     let spelled_parts = and_parts (spelled.is_spelled_atom first) (spelled.is_spelled_rest rest) spells in
     shows_said job blocks depth k behind (Let (scalar_name s) (value_for first rest)) (roll-Stmt (Stmt-F.Let s first rest))
     (let_says job blocks depth k behind s first rest within parts.0 parts.1 found.1 spelled_parts.0 spelled_parts.1))
-step job blocks named (Stmt-F.Get s var part row cell) =
+shown_by_parts job blocks named (Stmt-F.Get s var part row cell) =
     rolled job blocks (Stmt-F.Get s var part row cell) (λ depth k behind within set spells.
     let found = taken (nat_lt var (length job.vars)) (whole.set_at k s) behind set in
     shows_said job blocks depth k behind (Get (scalar_name s) (var_name job.vars var) part row cell) (roll-Stmt (Stmt-F.Get s var part row cell))
-    (get_says job blocks depth k behind s var part row cell named within found.0 found.1 (parts3 (is_small part) (is_small row) (is_small cell) spells)))
-step job blocks named (Stmt-F.Loop turns es) =
+    (get_says job blocks depth k behind s var part row cell named within found.0 found.1 (and_three_parts (is_small part) (is_small row) (is_small cell) spells)))
+shown_by_parts job blocks named (Stmt-F.Loop turns es) =
     let stmts = map (λ (e : Part job blocks). e.0) es in
     rolled job blocks (Stmt-F.Loop turns stmts) (λ depth k behind within set spells.
     let found = taken (whole.is_atom k turns) (scan_body (map (scan_of job) stmts) depth k) behind set in
@@ -93,7 +93,7 @@ step job blocks named (Stmt-F.Loop turns es) =
     (loop_opens job blocks depth k turns within (ltb-true depth 16 deep.0) found.0 spelled_parts.0)
     (holds_part job blocks opening.Turns depth k behind lines stmts
     (all_shown job blocks (λ (e : Part job blocks). e.0) (λ e. e.1) es (depth + 1) k behind within deep.1 spelled_parts.1)))
-step job blocks named (Stmt-F.While c es) =
+shown_by_parts job blocks named (Stmt-F.While c es) =
     let stmts = map (λ (e : Part job blocks). e.0) es in
     rolled job blocks (Stmt-F.While c stmts) (λ depth k behind within set spells.
     let found = taken (whole.is_cond k c) (scan_body (map (scan_of job) stmts) depth k) behind set in
@@ -104,7 +104,7 @@ step job blocks named (Stmt-F.While c es) =
     (while_opens job blocks depth k c within (ltb-true depth 16 deep.0) found.0 spelled_parts.0)
     (holds_part job blocks opening.Turns depth k behind lines stmts
     (all_shown job blocks (λ (e : Part job blocks). e.0) (λ e. e.1) es (depth + 1) k behind within deep.1 spelled_parts.1)))
-step job blocks named (Stmt-F.If c es fs) =
+shown_by_parts job blocks named (Stmt-F.If c es fs) =
     let firsts = map (λ (e : Part job blocks). e.0) es in
     let seconds = map (λ (e : Part job blocks). e.0) fs in
     rolled job blocks (Stmt-F.If c firsts seconds) (λ depth k behind within set spells.
@@ -114,7 +114,7 @@ step job blocks named (Stmt-F.If c es fs) =
     let deep = taken (nat_lt depth 16) (scan_all (map (scan_of job) firsts) (depth + 1) k) between.0 between.1 in
     let deep_again = taken (nat_lt depth 16) (scan_all (map (scan_of job) seconds) (depth + 1) between.0) behind between.2 in
     let spelled_parts =
-    parts3 (spelled.is_spelled_cond c) (all_true (map (fold-Stmt Bool is_stmt) firsts)) (all_true (map (fold-Stmt Bool is_stmt) seconds)) spells in
+    and_three_parts (spelled.is_spelled_cond c) (all_true (map (fold-Stmt Bool is_stmt) firsts)) (all_true (map (fold-Stmt Bool is_stmt) seconds)) spells in
     let lines = joined (map (statements_of job) firsts) in
     let first = all_shown job blocks (λ (e : Part job blocks). e.0) (λ e. e.1) es (depth + 1) k between.0 within deep.1 spelled_parts.1 in
     let second = all_shown job blocks (λ (e : Part job blocks). e.0) (λ e. e.1) fs (depth + 1) between.0 behind first.few deep_again.1 spelled_parts.2 in
@@ -122,11 +122,11 @@ step job blocks named (Stmt-F.If c es fs) =
     (lines ++ else_for (map (statements_of job) seconds)) (body_with firsts seconds)
     (if_opens job blocks depth k c within (ltb-true depth 16 deep.0) found.0 spelled_parts.0)
     (if_holds job blocks depth k between.0 behind lines firsts seconds first second))
-step job blocks named Stmt-F.Checkpoint =
+shown_by_parts job blocks named Stmt-F.Checkpoint =
     rolled job blocks Stmt-F.Checkpoint (λ depth k behind within set spells.
     subst (λ (n : ℕ). Shows job blocks depth k n (Checkpoint ∷ []) (roll-Stmt Stmt-F.Checkpoint ∷ [])) (same_Some k behind set)
     (shows_said job blocks depth k k Checkpoint (roll-Stmt Stmt-F.Checkpoint) (checkpoint_says job blocks depth k within)))
-step job blocks named (Stmt-F.Output var) =
+shown_by_parts job blocks named (Stmt-F.Output var) =
     rolled job blocks (Stmt-F.Output var) (λ depth k behind within set spells.
     let found = taken (nat_lt var (length job.vars)) (Some k) behind set in
     let line = Output (var_name job.vars var) in
@@ -135,7 +135,7 @@ step job blocks named (Stmt-F.Output var) =
     (shows_said job blocks depth k k line stmt (output_says job blocks depth k var named within found.0)))
 
 every_shown : (job : Job) (blocks : List Block) → Named job blocks → (stmt : Stmt) → Shown job blocks stmt
-every_shown job blocks named = ind-Stmt (Shown job blocks) (λ x y is. subst (λ (z : Stmt-F Stmt). Shown job blocks (roll-Stmt z)) is (step job blocks named y))
+every_shown job blocks named = ind-Stmt (Shown job blocks) (λ x y is. subst (λ (z : Stmt-F Stmt). Shown job blocks (roll-Stmt z)) is (shown_by_parts job blocks named y))
 
 -- the whole body of a job
 pub body_shown : (job : Job) (blocks : List Block) (behind : ℕ) → Named job blocks → scalars_set job ≡ Some behind

@@ -34,13 +34,13 @@ use Rattle.nim_printed.specs.Spelled.{is_unreserved, is_spelled_init, is_small, 
 use Rattle.nim_printed.specs.Trees as trees
 use Rattle.nim_printed.specs.Trees.{is_closed, is_printable}
 use Rattle.nim_printed.specs.Printer.{argument_name}
-use Rattle.nim_base.proofs.Lists.{five_and}
+use Rattle.nim_base.proofs.Lists.{and_from_five}
 use Rattle.nim_job.proofs.Sound.{set_some}
 use Rattle.nim_printed.proofs.JobAtoms.{names_at}
 use Rattle.nim_printed.proofs.JobBlocks.{blocks_at_lines, blocks_back, blocks_length, blocks_named, blocks_pass, blocks_printed, names_of_blocks}
 use Rattle.nim_printed.proofs.JobCases.{Named}
 use Rattle.nim_printed.proofs.JobLines.{AreSound, bodies_of_lines, lines_at_lines, opened_after, opened_of_lines, printed_lines, scope_of_lines, statements_pass}
-use Rattle.nim_printed.proofs.JobLists.{all_parts, no_rule, parts5, passes_both, passes_on}
+use Rattle.nim_printed.proofs.JobLists.{all_parts, no_rule, and_five_parts, passes_both, passes_on}
 use Rattle.nim_printed.proofs.JobNames.{once_parts}
 use Rattle.nim_printed.proofs.JobStages.{AreThere}
 use Rattle.nim_printed.proofs.JobStmts.{Shows, put_first}
@@ -58,7 +58,7 @@ record IsChecked (job : Job) : Type 0 where
 
 checked_job : (job : Job) → is_checked job ≡ true → IsChecked job
 checked_job job checked =
-    let parts = parts5 (is_between 1 1000000 job.steps) (are_vars job.vars) (nat_le (length job.blocks) 32) (list_all (is_whole_block job.vars) job.blocks)
+    let parts = and_five_parts (is_between 1 1000000 job.steps) (are_vars job.vars) (nat_le (length job.blocks) 32) (list_all (is_whole_block job.vars) job.blocks)
     (is_some (scalars_set job)) checked in
     let vars = and_parts (are_few job.vars) (list_all is_var job.vars) parts.1 in
     record { steps = parts.0; few = vars.0; vars = vars.1; few_blocks = leb-true (length job.blocks) 32 parts.2; blocks = parts.3; body = parts.4 }
@@ -74,7 +74,7 @@ record IsSpelled (job : Job) : Type 0 where
 
 spelled_job : (job : Job) → is_spelled job ≡ true → IsSpelled job
 spelled_job job is =
-    let parts = parts5 (list_all is_unreserved (names_in job)) (not (has_twice (names_in job))) (list_all (λ (v : job_var). is_spelled_init v.init) job.vars)
+    let parts = and_five_parts (list_all is_unreserved (names_in job)) (not (has_twice (names_in job))) (list_all (λ (v : job_var). is_spelled_init v.init) job.vars)
     (list_all (λ (b : job_block). list_all spelled.is_spelled_stage b.stages) job.blocks)
     (list_all (λ (stmt : Stmt). fold-Stmt Bool is_stmt stmt) job.body) is in
     let free = all_parts is_unreserved (names_of_vars job.vars) (names_of_blocks job.blocks) parts.0 in
@@ -134,7 +134,7 @@ module _ (job : Job) (checked : IsChecked job) (spells : IsSpelled job) where
   printable : is_printable (tree_for job) ≡ true
   printable =
       let tree = tree_for job in
-      five_and (trees.is_steps tree.steps) (list_all trees.is_printable_var tree.vars) (list_all trees.is_printable_block tree.blocks)
+      and_from_five (trees.is_steps tree.steps) (list_all trees.is_printable_var tree.vars) (list_all trees.is_printable_block tree.blocks)
       (list_all (λ (l : Line). trees.is_statement l.statement) tree.statements) (is_closed (open_after [] tree.statements))
       (steps_small job.steps checked.steps) (vars_printed 3 job.vars spells.vars_free checked.vars spells.inits)
       (blocks_printed job.vars (3 + length job.vars) job.blocks spells.vars_free spells.blocks_free checked.blocks spells.stages)

@@ -164,21 +164,21 @@ head_for End = head.End
 head_for Checkpoint = head.Checkpoint
 head_for (Output variable) = head.Output
 
-on : (line : ℕ) (p : Parser Statement) (words : List Word) (s : Statement) → Reads p words s [] → Reads (on_line line <$> p) words (on_line line s) []
-on line p words s before = then_reads _ before (pure_reads (on_line line s) [])
+on_line_reads : (line : ℕ) (p : Parser Statement) (words : List Word) (s : Statement) → Reads p words s [] → Reads (on_line line <$> p) words (on_line line s) []
+on_line_reads line p words s before = then_reads _ before (pure_reads (on_line line s) [])
 
 pub statement_line : (line : ℕ) (s : Statement) → is_statement s ≡ true → Reads (line_form false line (head_for s)) (statement_words s) (on_line line s) []
 unfolding line_form
-statement_line line (Do called arguments) are = on line do_line _ _ (do_reads called arguments are)
-statement_line line (Let scalar value) are = on line let_line _ _ (let_reads scalar value are)
-statement_line line (Get scalar variable part row column) are = on line get_line _ _ (get_reads scalar variable part row column are)
-statement_line line (Loop turns) are = on line loop_line _ _ (loop_reads turns are)
-statement_line line (While test) are = on line while_line _ _ (while_reads test are)
-statement_line line (If test) are = on line if_line _ _ (if_reads test are)
-statement_line line Else are = on line (alone (codes "else") Else) _ _ (alone_reads (codes "else") Else)
-statement_line line End are = on line (alone (codes "end") End) _ _ (alone_reads (codes "end") End)
-statement_line line Checkpoint are = on line (alone (codes "checkpoint") Checkpoint) _ _ (alone_reads (codes "checkpoint") Checkpoint)
-statement_line line (Output variable) are = on line output_line _ _ (output_reads variable are)
+statement_line line (Do called arguments) are = on_line_reads line do_line _ _ (do_reads called arguments are)
+statement_line line (Let scalar value) are = on_line_reads line let_line _ _ (let_reads scalar value are)
+statement_line line (Get scalar variable part row column) are = on_line_reads line get_line _ _ (get_reads scalar variable part row column are)
+statement_line line (Loop turns) are = on_line_reads line loop_line _ _ (loop_reads turns are)
+statement_line line (While test) are = on_line_reads line while_line _ _ (while_reads test are)
+statement_line line (If test) are = on_line_reads line if_line _ _ (if_reads test are)
+statement_line line Else are = on_line_reads line (alone (codes "else") Else) _ _ (alone_reads (codes "else") Else)
+statement_line line End are = on_line_reads line (alone (codes "end") End) _ _ (alone_reads (codes "end") End)
+statement_line line Checkpoint are = on_line_reads line (alone (codes "checkpoint") Checkpoint) _ _ (alone_reads (codes "checkpoint") Checkpoint)
+statement_line line (Output variable) are = on_line_reads line output_line _ _ (output_reads variable are)
 
 pub header_line : (line : ℕ) → Reads (line_form false line head.Nimbus) (codes "nimbus" ∷ codes "1" ∷ []) form.Header []
 unfolding line_form

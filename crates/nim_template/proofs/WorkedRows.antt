@@ -91,17 +91,17 @@ sum_block : of_block 4 sum_forms
 sum_block = refl
 
 -- each part adds the next one to itself, in turn: behind the last task each worker gets again what it reads first
-abbrev turn_forms : List TaskForm
-turn_forms = adds 0 1 0 ∷ adds 1 2 1 ∷ adds 2 0 2 ∷ []
+abbrev ring_forms : List TaskForm
+ring_forms = adds 0 1 0 ∷ adds 1 2 1 ∷ adds 2 0 2 ∷ []
 
-turn_block : of_block 3 turn_forms
-    ≡ of_parts turn_forms
+ring_block : of_block 3 ring_forms
+    ≡ of_parts ring_forms
     ((run_adds 32 0 1 0 [] ∷ run_adds 160 2 0 2 (32 ∷ []) ∷ receives 65536 1 2 (32 ∷ []) ∷ sends 65537 2 1 65537 (160 ∷ []) ∷ [])
     ∷ (run_adds 96 1 2 1 [] ∷ sends 65536 1 0 65536 (96 ∷ []) ∷ receives 65537 2 3 (96 ∷ []) ∷ []) ∷ [])
     (at 0 0 ∷ at 0 1 ∷ at 0 2 ∷ at 1 1 ∷ at 1 2 ∷ [])
     (ends 0 0 1 ∷ ends 0 1 2 ∷ ends 0 2 3 ∷ ends 1 1 2 ∷ ends 1 2 3 ∷ [])
     (worker 0 ∷ worker 1 ∷ worker 0 ∷ [])
-turn_block = refl
+ring_block = refl
 
 -- eight parts are summed up each by itself, and then all of them at one worker: the other one sends its four
 abbrev norm_forms : List TaskForm

@@ -1,7 +1,7 @@
 use crate::draws::Draws;
 use crate::given::push_text;
 use crate::orders::{frame, order};
-use crate::working::{begun, finish, finish_rest, hand_frame, hand_order};
+use crate::working::{begun, finish_batch, finish_rest, hand_frame, hand_order};
 use nim_base::Worker;
 use nim_lines::{LineFault, halves, number, push_count};
 use nim_message::{Data, ToWorker};
@@ -268,7 +268,7 @@ fn complete(
     if draws.below(2) == 0 {
         hand(job, draws, core, way)?;
     }
-    finish(alloc, core, batch, &mut way.gave)
+    finish_batch(alloc, core, batch, &mut way.gave)
 }
 
 fn note_works(alloc: Global, order: &mut String, batch: &Batch) -> Result<(), LineFault> {

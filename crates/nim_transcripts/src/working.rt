@@ -67,7 +67,7 @@ impl Working {
     /// `finish`: what the batch gives.
     fn finish(&mut self, alloc: Global, out: &mut String) -> Result<(), LineFault> {
         match self.batch.take() {
-            Some(batch) => finish(alloc, &mut self.core, batch, out),
+            Some(batch) => finish_batch(alloc, &mut self.core, batch, out),
             None => Err(LineFault::Form("no batch is out")),
         }
     }
@@ -136,7 +136,7 @@ fn perform_all(works: &mut [Work]) -> Result<(), LineFault> {
 }
 
 /// Finishes the batch that is out, and adds what it gives.
-pub fn finish(
+pub fn finish_batch(
     alloc: Global,
     core: &mut WorkerCore,
     batch: Batch,
@@ -164,6 +164,6 @@ pub fn finish_rest(
 fn finish_one(alloc: Global, core: &mut WorkerCore, out: &mut String) -> Result<bool, LineFault> {
     let batch = begun(core, 1)?;
     let is_last = batch.is_empty();
-    finish(alloc, core, batch, out)?;
+    finish_batch(alloc, core, batch, out)?;
     Ok(is_last)
 }

@@ -6,7 +6,7 @@ use Rattle.nim_job.specs.declared.stmt.Stmt.{Stmt}
 use Rattle.nim_job.specs.Levels.{is_settled, spot_of}
 use Rattle.nim_job.specs.Quiet.{is_quiet, items_left, items_scalars}
 use Rattle.nim_job.proofs.Fronts.{loop_left, next_at, taken_front, turns_front}
-use Rattle.nim_job.proofs.path.pass.Goals as goal
+use Rattle.nim_job.proofs.path.pass_first.Goals as goal
 
 pub pass_stmt-requires-clause-next : goal.pass_stmt-requires-clause-next
 pass_stmt-requires-clause-next c =

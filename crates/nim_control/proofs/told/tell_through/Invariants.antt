@@ -1,12 +1,12 @@
 -- what is left of the flights behind a place, once all are told, is what the whole list is then
 use Rattle.std.proofs.Common.{◌≡◌, ◌≤◌, ◌-◌, ◌++◌, drop, length, take}
-use Rattle.nim_course.specs.Reports.{flight_after}
-use Rattle.nim_control.proofs.told.on_ran.Given as goal
+use Rattle.nim_course.specs.Reports.{flight_through}
+use Rattle.nim_control.proofs.told.tell_through.Given as goal
 
 abbrev pub invariant-loop-at : goal.invariant-loop-at
 invariant-loop-at l = record {
-  told : take l.at l.flights.items ++ flight_after l.from l.position (drop l.at l.flights.items)
-      ≡ flight_after l.from l.position l.initial.flights.items;
+  told : take l.at l.flights.items ++ flight_through l.from l.instance (drop l.at l.flights.items)
+      ≡ flight_through l.from l.instance l.initial.flights.items;
   within : l.at ≤ length l.flights.items;
 }
 
