@@ -74,12 +74,12 @@ def told(title, entries):
 
 
 def past(paths, width):
-    """The lines of files that are past a width."""
+    """The lines of files that are past a width, texts in quotes aside, which can't be broken."""
     return [
         f"{name_of(file)}:{at} {len(line)}"
         for file in paths
         for at, line in enumerate(file.read_text().split("\n"), 1)
-        if len(line) > width and not re.match(r"\s*(use |ghost use )", line)
+        if len(re.sub(r'"[^"]*"', '""', line)) > width and not re.match(r"\s*(use |ghost use )", line)
     ]
 
 
@@ -104,8 +104,13 @@ def main():
     for file in specs:
         for _, name, _ in definitions(file):
             places[name].append(f"{file.parts[-3]}.{file.stem}")
-    twice = sorted(((name, at) for name, at in places.items() if len(at) > 1), key=lambda it: (-len(it[1]), it[0]))
-    told("names of definitions that stand in several modules", [f"{name}: {', '.join(at)}" for name, at in twice])
+    twice = {name: at for name, at in places.items() if len(at) > 1}
+    reasons = dict(it.split(": ", 1) for it in (TOP / "bench/names.txt").read_text().split("\n") if it and it[0] != "#")
+    told(
+        f"names of definitions that stand in several modules with no reason in bench/names.txt (of {len(twice)})",
+        [f"{name}: {', '.join(at)}" for name, at in sorted(twice.items()) if name not in reasons],
+    )
+    told("reasons for names that stand once", sorted(set(reasons) - set(twice)))
 
 
 if __name__ == "__main__":

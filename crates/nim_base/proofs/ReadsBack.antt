@@ -70,7 +70,8 @@ natural-digits [] n some are is = absurd (omega arith)
 natural-digits (digit ∷ digits) n some are is = rw are (ap Some is)
 
 natural-read : (n : ℕ) → n < 2 ^ 64 → natural_of (decimal n) ≡ Some n
-natural-read n fits = natural-digits (decimal n) n (decimal_nonempty n fits) (digits_decimal is_numeral_model n fits) (digits_value-decimal is_numeral_model n fits)
+natural-read n fits = natural-digits (decimal n) n (decimal_nonempty n fits) (digits_decimal is_numeral_model n fits)
+    (digits_value-decimal is_numeral_model n fits)
 
 natural-word : (n : ℕ) → n < 2 ^ 64 → IsWord (decimal n)
 natural-word n fits = digits-word (decimal n) (digits_decimal is_numeral_model n fits)
@@ -89,7 +90,8 @@ IsSmall cell = mag cell < 2 ^ 63
 
 number-read : (cell : ℤ) → IsSmall cell → signed_number_of (signed_decimal cell) ≡ Some cell
 number-read (pos n) small =
-    number-digits (decimal n) n (decimal_nonempty n (omega arith)) (digits_decimal is_numeral_model n (omega arith)) (digits_value-decimal is_numeral_model n (omega arith))
+    number-digits (decimal n) n (decimal_nonempty n (omega arith)) (digits_decimal is_numeral_model n (omega arith))
+    (digits_value-decimal is_numeral_model n (omega arith))
 number-read (negsuc n) small =
     let natural : natural_of (decimal (suc n)) ≡ Some (suc n) = natural-read (suc n) (omega arith) in
     ap (option_map (λ number. neg_ℤ (pos number))) natural

@@ -17,8 +17,8 @@ const OWN: &[&str] = &[
     "reads",
 ];
 
-/// Cases of commands. A section `FILE: RESULT` is a run of its own with this text for the file, `words: RESULT` one with
-/// these words; a case without any is one run, or one for each schedule that is made.
+/// Cases of commands. A section `FILE: RESULT` is a run of its own with this text for the file, `words: RESULT` one
+/// with these words; a case without any is one run, or one for each schedule that is made.
 pub struct Cases;
 
 /// What a run is given: the sections of its case, the one that it is about, and the schedule that was made for it.

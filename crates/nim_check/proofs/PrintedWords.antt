@@ -96,7 +96,8 @@ not_bare (b ∷ w) rest plain =
 -- ---- numbers
 
 is_numeral_model : IsNumeralModel (λ digits. all_ascii_digits digits ≡ true) (λ digits. decimal_value digits)
-is_numeral_model = numerals_by_fold _ (search rules) (λ (before : ℕ) (digits : List ℕ). fold (λ (n digit : ℕ). n * 10 + (digit - 48)) before digits) (search rules)
+is_numeral_model = numerals_by_fold _ (search rules) (λ (before : ℕ) (digits : List ℕ). fold (λ (n digit : ℕ). n * 10 + (digit - 48)) before digits)
+    (search rules)
 
 same_digits : (digits : List ℕ) → all_ascii_digits digits ≡ list_all is_ascii_digit digits
 same_digits [] = refl

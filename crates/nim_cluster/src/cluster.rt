@@ -17,8 +17,8 @@ use nim_lockstep::{Given, Ran};
 use nim_schedule::Event;
 use std::alloc::Global;
 
-/// The controller of a job and its workers, each with its links, moved by events. What it has come to is `ClusterStands` of
-/// `specs/Stands.antt`.
+/// The controller of a job and its workers, each with its links, moved by events. What it has come to is
+/// `ClusterStands` of `specs/Stands.antt`.
 #[derive(Drop)]
 pub struct Cluster {
     pub(crate) alloc: Global,

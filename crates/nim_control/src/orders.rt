@@ -95,7 +95,8 @@ fn push_single(
     commands: Vec<Command>,
 ) -> Result<(), NoMemory>
     ensures { OnOk result (orders.new.items
-        ≡ orders.old.items ++ map (λ (order : order_type). (worker, order)) (single_with epoch instance commands.items)) }
+        ≡ orders.old.items ++ map (λ (order : order_type). (worker, order))
+        (single_with epoch instance commands.items)) }
 {
     if commands.is_empty() {
         return Ok(());

@@ -1,6 +1,6 @@
-//! Runs transcripts of the control plane's decisions: where data lies, the commands of one task, templates, patches, and
-//! moves of tasks. The words are the names of the files. Prints `ok NAME` for each file, or what differs, and ends with
-//! status 1 where something does.
+//! Runs transcripts of the control plane's decisions: where data lies, the commands of one task, templates, patches,
+//! and moves of tasks. The words are the names of the files. Prints `ok NAME` for each file, or what differs, and ends
+//! with status 1 where something does.
 #![tactic(auto)]
 
 mod blocks;

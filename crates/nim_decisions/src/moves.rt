@@ -78,9 +78,9 @@ impl Tries {
     }
 }
 
-/// `moves COUNT SEED`: so many moves, of tasks to workers that follow from a number; before each fourth one the edits are
-/// sent. How many were moved and refused, and behind how many of them the halves weren't those of a block built anew
-/// with its tasks moved straight to their owners.
+/// `moves COUNT SEED`: so many moves, of tasks to workers that follow from a number; before each fourth one the edits
+/// are sent. How many were moved and refused, and behind how many of them the halves weren't those of a block built
+/// anew with its tasks moved straight to their owners.
 pub fn moves_line(
     alloc: Global,
     template: &mut Movable,

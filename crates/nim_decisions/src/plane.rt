@@ -20,8 +20,8 @@ impl Test for Decisions {
     }
 }
 
-/// What the lines of a section are about: workers and objects, the map of versions, blocks with their templates, and the
-/// patches that are kept.
+/// What the lines of a section are about: workers and objects, the map of versions, blocks with their templates, and
+/// the patches that are kept.
 #[derive(Drop)]
 struct Plane {
     scene: Scene,

@@ -46,8 +46,8 @@ pub fn failing(template: &WorkerTemplate, map: &VersionMap, flags: &mut [bool]) 
 }
 
 /// The patch for the preconditions that `failing` flagged: in their order, a copy for each from the lowest worker whose
-/// main slot holds the latest version. Its meaning is `patch_copies` of `specs/Patches.antt`; one whose object no worker
-/// holds gets no copy.
+/// main slot holds the latest version. Its meaning is `patch_copies` of `specs/Patches.antt`; one whose object no
+/// worker holds gets no copy.
 pub fn build_patch(
     alloc: Global,
     template: &WorkerTemplate,

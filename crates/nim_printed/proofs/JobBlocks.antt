@@ -48,7 +48,8 @@ record IsWhole (vars : List job_var) (block : job_block) : Type 0 where
 
 whole_block : (vars : List job_var) (block : job_block) → is_whole_block vars block ≡ true → IsWhole vars block
 whole_block vars block is =
-    let parts = and_three_parts (nat_le block.args 8) (nat_le (sum_by (task_count vars) block.stages) 1024) (list_all (is_stage vars block.args) block.stages) is in
+    let parts = and_three_parts (nat_le block.args 8) (nat_le (sum_by (task_count vars) block.stages) 1024)
+    (list_all (is_stage vars block.args) block.stages) is in
     record { few = leb-true block.args 8 parts.0; tasks = leb-true (sum_by (task_count vars) block.stages) 1024 parts.1; stages = parts.2 }
 
 -- ---- read back
@@ -165,7 +166,8 @@ blocks_printed vars line (block ∷ blocks) named free all spells =
     and_parts (list_all spelled.is_spelled_stage block.stages) (list_all (λ (x : job_block). list_all spelled.is_spelled_stage x.stages) blocks) spells in
     let whole = whole_block vars block parts.0 in
     and_from (trees.is_printable_block b) (list_all trees.is_printable_block (blocks_for vars (line + block_lines block) blocks))
-    (and_from_three (is_unreserved block.name) (list_all is_unreserved b.arguments) (list_all trees.is_printable_stage b.stages) frees.0 (all_free block.args whole.few)
+    (and_from_three (is_unreserved block.name) (list_all is_unreserved b.arguments) (list_all trees.is_printable_stage b.stages)
+    frees.0 (all_free block.args whole.few)
     (stages_printed vars block.args (line + 1) block.stages named whole.few whole.stages spelled_parts.0))
     (blocks_printed vars (line + block_lines block) blocks named frees.1 parts.1 spelled_parts.1)
 

@@ -81,7 +81,8 @@ shown_by_parts job blocks named (Stmt-F.Get s var part row cell) =
     rolled job blocks (Stmt-F.Get s var part row cell) (λ depth k behind within set spells.
     let found = taken (nat_lt var (length job.vars)) (whole.set_at k s) behind set in
     shows_said job blocks depth k behind (Get (scalar_name s) (var_name job.vars var) part row cell) (roll-Stmt (Stmt-F.Get s var part row cell))
-    (get_says job blocks depth k behind s var part row cell named within found.0 found.1 (and_three_parts (is_small part) (is_small row) (is_small cell) spells)))
+    (get_says job blocks depth k behind s var part row cell named within found.0 found.1
+    (and_three_parts (is_small part) (is_small row) (is_small cell) spells)))
 shown_by_parts job blocks named (Stmt-F.Loop turns es) =
     let stmts = map (λ (e : Part job blocks). e.0) es in
     rolled job blocks (Stmt-F.Loop turns stmts) (λ depth k behind within set spells.
@@ -135,7 +136,8 @@ shown_by_parts job blocks named (Stmt-F.Output var) =
     (shows_said job blocks depth k k line stmt (output_says job blocks depth k var named within found.0)))
 
 every_shown : (job : Job) (blocks : List Block) → Named job blocks → (stmt : Stmt) → Shown job blocks stmt
-every_shown job blocks named = ind-Stmt (Shown job blocks) (λ x y is. subst (λ (z : Stmt-F Stmt). Shown job blocks (roll-Stmt z)) is (shown_by_parts job blocks named y))
+every_shown job blocks named = ind-Stmt (Shown job blocks)
+    (λ x y is. subst (λ (z : Stmt-F Stmt). Shown job blocks (roll-Stmt z)) is (shown_by_parts job blocks named y))
 
 -- the whole body of a job
 pub body_shown : (job : Job) (blocks : List Block) (behind : ℕ) → Named job blocks → scalars_set job ≡ Some behind

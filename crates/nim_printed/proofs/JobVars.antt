@@ -139,7 +139,8 @@ vars_printed line (v ∷ vars) free sized inits =
     let spelled = and_parts (is_spelled_init v.init) (list_all (λ (w : job_var). is_spelled_init w.init) vars) inits in
     let few = sizes_small v sizes.0 in
     and_from (trees.is_printable_var (var_for line v)) (list_all trees.is_printable_var (vars_for (line + 1) vars))
-    (and_from_five (is_unreserved v.name) (is_small v.parts) (is_small v.shape.width) (is_small v.shape.rows) (trees.is_printable_init (init_for v.init)) frees.0
+    (and_from_five (is_unreserved v.name) (is_small v.parts) (is_small v.shape.width) (is_small v.shape.rows) (trees.is_printable_init (init_for v.init))
+    frees.0
     (small v.parts (omega (arith, few.0))) (small v.shape.width (omega (arith, few.1))) (small v.shape.rows (omega (arith, few.2)))
     (init_printed v.init spelled.0))
     (vars_printed (line + 1) vars frees.1 sizes.1 spelled.1)

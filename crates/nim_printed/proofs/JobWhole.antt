@@ -58,7 +58,8 @@ record IsChecked (job : Job) : Type 0 where
 
 checked_job : (job : Job) → is_checked job ≡ true → IsChecked job
 checked_job job checked =
-    let parts = and_five_parts (is_between 1 1000000 job.steps) (are_vars job.vars) (nat_le (length job.blocks) 32) (list_all (is_whole_block job.vars) job.blocks)
+    let parts = and_five_parts (is_between 1 1000000 job.steps) (are_vars job.vars) (nat_le (length job.blocks) 32)
+    (list_all (is_whole_block job.vars) job.blocks)
     (is_some (scalars_set job)) checked in
     let vars = and_parts (are_few job.vars) (list_all is_var job.vars) parts.1 in
     record { steps = parts.0; few = vars.0; vars = vars.1; few_blocks = leb-true (length job.blocks) 32 parts.2; blocks = parts.3; body = parts.4 }
@@ -74,7 +75,8 @@ record IsSpelled (job : Job) : Type 0 where
 
 spelled_job : (job : Job) → is_spelled job ≡ true → IsSpelled job
 spelled_job job is =
-    let parts = and_five_parts (list_all is_unreserved (names_in job)) (not (has_twice (names_in job))) (list_all (λ (v : job_var). is_spelled_init v.init) job.vars)
+    let parts = and_five_parts (list_all is_unreserved (names_in job)) (not (has_twice (names_in job)))
+    (list_all (λ (v : job_var). is_spelled_init v.init) job.vars)
     (list_all (λ (b : job_block). list_all spelled.is_spelled_stage b.stages) job.blocks)
     (list_all (λ (stmt : Stmt). fold-Stmt Bool is_stmt stmt) job.body) is in
     let free = all_parts is_unreserved (names_of_vars job.vars) (names_of_blocks job.blocks) parts.0 in

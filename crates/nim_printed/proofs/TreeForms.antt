@@ -164,7 +164,8 @@ head_for End = head.End
 head_for Checkpoint = head.Checkpoint
 head_for (Output variable) = head.Output
 
-on_line_reads : (line : ℕ) (p : Parser Statement) (words : List Word) (s : Statement) → Reads p words s [] → Reads (on_line line <$> p) words (on_line line s) []
+on_line_reads : (line : ℕ) (p : Parser Statement) (words : List Word) (s : Statement) → Reads p words s []
+    → Reads (on_line line <$> p) words (on_line line s) []
 on_line_reads line p words s before = then_reads _ before (pure_reads (on_line line s) [])
 
 pub statement_line : (line : ℕ) (s : Statement) → is_statement s ≡ true → Reads (line_form false line (head_for s)) (statement_words s) (on_line line s) []

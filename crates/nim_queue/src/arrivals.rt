@@ -276,7 +276,8 @@ fn push_writer(
     slot: Slot,
 ) -> Result<(), NoMemory>
     ensures { OnOk result ((e : ℕ) → is_in e tickets.new
-        ≡ (is_in e tickets.old || (is_writer e (used_in slots.now.items slot.0) && is_some (get nat_eq waiting.now e)))) }
+        ≡ (is_in e tickets.old
+        || (is_writer e (used_in slots.now.items slot.0) && is_some (get nat_eq waiting.now e)))) }
 {
     if let Some(used) = use_of(slots.as_slice(), slot) {
         if let Some(writer) = used.writer {
@@ -293,7 +294,8 @@ fn push_readers(
     slot: Slot,
 ) -> Result<(), NoMemory>
     ensures { OnOk result ((e : ℕ) → is_in e tickets.new
-        ≡ (is_in e tickets.old || (is_reader e (used_in slots.now.items slot.0) && is_some (get nat_eq waiting.now e)))) }
+        ≡ (is_in e tickets.old
+        || (is_reader e (used_in slots.now.items slot.0) && is_some (get nat_eq waiting.now e)))) }
 {
     if let Some(used) = use_of(slots.as_slice(), slot) {
         push_each(tickets, waiting, &used.readers)?;

@@ -67,7 +67,8 @@ impl DecisionMap {
         }
     }
 
-    /// How many tasks a worker runs in an instance of a block, once its template is installed; 0 before. Takes no memory.
+    /// How many tasks a worker runs in an instance of a block, once its template is installed; 0 before. Takes no
+    /// memory.
     pub fn tasks(&self, block: u8, worker: Worker) -> u64
         ensures { result ≡ spec.half_tasks self.now block worker.0 }
     {

@@ -10,8 +10,8 @@ use std::alloc::Global;
 use std::marker::Model;
 
 /// A template that is installed, with what an instance of it needs, so that none walks its entries: a flag for each
-/// precondition, and for each half the objects that it receives as its block began with them and how many tasks it runs.
-/// Contracts see the template.
+/// precondition, and for each half the objects that it receives as its block began with them and how many tasks it
+/// runs. Contracts see the template.
 #[derive(Drop)]
 pub struct Ready {
     pub(crate) template: WorkerTemplate,

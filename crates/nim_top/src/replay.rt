@@ -23,8 +23,8 @@ use nim_lockstep::events_go_on;
 use std::alloc::Global;
 
 /// The command `replay DRIVER`, with `--data FILE`, `--workers N`, `--place P`, `--schedule FILE` and `--summary` if
-/// need be: reads the files, runs the driver's tasks on a cluster, and writes what they print to `out`. How it ended goes
-/// to `err`, or where all is done and the words ask for it the summary of the cluster. How it may end is `Ends` of
+/// need be: reads the files, runs the driver's tasks on a cluster, and writes what they print to `out`. How it ended
+/// goes to `err`, or where all is done and the words ask for it the summary of the cluster. How it may end is `Ends` of
 /// `specs/Answer.antt`. Where a job was run its cluster is kept.
 pub fn top_replay<L: Files, K: Sink>(
     alloc: Global,

@@ -4,8 +4,8 @@ use nim_command::{Entry, EntryKind, PatchPart};
 use nim_lines::{LineFault, func, halves, number, params, parts, words};
 use std::alloc::Global;
 
-/// An entry: its number, what it does and `after N ..` with the numbers that it waits for. It does `send S to P entry E`,
-/// `receive S offset N`, `copy S to S` or `run FUNC PARAM .. of S .. -> S ..`.
+/// An entry: its number, what it does and `after N ..` with the numbers that it waits for. It does `send S to P entry
+/// E`, `receive S offset N`, `copy S to S` or `run FUNC PARAM .. of S .. -> S ..`.
 pub fn entry(alloc: Global, text: &str) -> Result<Entry, LineFault> {
     let (told, before) = parts(text.trim(), " after ");
     let (id, told) = halves(told, " ")?;

@@ -35,8 +35,8 @@ fn has_counts(alloc: Global, text: &str) -> Result<bool, LineFault> {
     Ok(func(name)?.has_counts(*params, *reads, *writes))
 }
 
-/// `apply FUNC PARAM .. of VALUE | VALUE -> SHAPE ..`: the results, a line each. A value `same N` is the one of number N
-/// once more.
+/// `apply FUNC PARAM .. of VALUE | VALUE -> SHAPE ..`: the results, a line each. A value `same N` is the one of number
+/// N once more.
 pub fn apply_line(alloc: Global, text: &str, out: &mut String) -> Result<(), LineFault> {
     let (task, to) = halves(text, "->")?;
     let (head, from) = parts(task, " of ");

@@ -40,7 +40,8 @@ fn push_frame_copied(
     push_frame(alloc, out, peer, &copied)
 }
 
-/// Adds a line with a frame for another worker, without its epoch: `data to WORKER INSTANCE ENTRY OBJECT@VERSION: VALUE`.
+/// Adds a line with a frame for another worker, without its epoch: `data to WORKER INSTANCE ENTRY OBJECT@VERSION:
+/// VALUE`.
 fn push_frame(
     alloc: Global,
     out: &mut String,
