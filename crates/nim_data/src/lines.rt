@@ -89,7 +89,7 @@ fn add(cells: &mut Vec<i64>, cell: i64) -> Result<(), NoMemory>
 }
 
 /// The first word of a text, empty where there is none, and the text behind it.
-#[tactic(auto, unfolding(crate::specs::Lines::word, crate::specs::Lines::behind))]
+#[tactic(auto, unfolding(crate::specs::Lines::word, crate::specs::Lines::behind_first_word))]
 fn next_word(text: &[u8]) -> (&[u8], &[u8])
     ensures word { result.0.now ≡ spec.word text.now }
     ensures behind { result.1.now ≡ spec.behind_first_word text.now }

@@ -107,7 +107,7 @@ impl Reading {
     }
 
     /// Takes a line in, or answers the rule that refuses it. The row is a buffer.
-    #[tactic(auto, unfolding(crate::specs::Reading::line_rule, crate::specs::Reading::after))]
+    #[tactic(auto, unfolding(crate::specs::Reading::line_rule, crate::specs::Reading::after_data_line))]
     pub fn take(
         &mut self,
         alloc: Global,

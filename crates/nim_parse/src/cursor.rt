@@ -69,7 +69,7 @@ impl<'a> Cursor<'a> {
         }
     }
 
-    #[tactic(auto, unfolding(crate::specs::Input::next))]
+    #[tactic(auto, unfolding(crate::specs::Input::past_token))]
     fn advance(&mut self)
         ensures { self.new ≡ spec.past_token self.old }
     {
@@ -79,7 +79,7 @@ impl<'a> Cursor<'a> {
     }
 
     /// Takes this word or sign if it comes next, and says whether it did.
-    #[tactic(auto, unfolding(crate::specs::Input::after))]
+    #[tactic(auto, unfolding(crate::specs::Input::past_if_seen))]
     pub fn eat(&mut self, text: &[u8]) -> bool
         ensures found { result ≡ spec.sees text.now self.old }
         ensures after { self.new ≡ spec.past_if_seen text.now self.old }

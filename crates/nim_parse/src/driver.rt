@@ -68,7 +68,7 @@ fn number_of(line: &[Token]) -> u32
     }
 }
 
-#[tactic(auto, unfolding(crate::specs::Driver::found))]
+#[tactic(auto, unfolding(crate::specs::Driver::found_line))]
 fn find(alloc: Global, source: &[u8], state: &State, line: &[Token]) -> Result<Found, NoMemory>
     ensures { IfOk result (λ line_found. line_found ≡ found_line source.now state.now line.now) }
 {

@@ -124,7 +124,7 @@ struct Found<'a> {
 }
 
 /// Takes the words behind the command apart.
-#[tactic(auto, unfolding(crate::specs::Words::faults, crate::specs::Words::found))]
+#[tactic(auto, unfolding(crate::specs::Words::faults, crate::specs::Words::clap_found))]
 fn parse<'a>(alloc: Global, verb: Verb, rest: &'a [String]) -> Result<Found<'a>, WordsFault>
     ensures taken { OnOk result (faults verb (texts_of rest.now) ≡ []) }
     ensures refused { IsErrOf result WordsFault.Refused → faults verb (texts_of rest.now) ≢ [] }
