@@ -20,7 +20,7 @@ pub mod TreeTokens
 pub mod TreeWalk
 -- Behind the lines of a printed tree the state is that tree.
 pub mod TreeStates
--- Tests joined by `and` hold just when each holds, and lines are refused nothing where none of them is.
+-- Tests joined by `and` hold just when each holds, and no line is refused where each one passes.
 pub mod JobLists
 -- The words of a printed tree are names, numerals and signs.
 pub mod TreeSpelled

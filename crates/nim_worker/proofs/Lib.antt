@@ -36,5 +36,5 @@ pub mod Handed
 pub mod Finished
 -- the first of them is completed as the history says: clauses `stands` and `good` of `WorkerCore::finish`.
 pub mod FirstDone
--- A core has as many commands left as aren't complete.
+-- A core has as many commands left as aren't complete. Nothing cites this.
 pub mod Left
