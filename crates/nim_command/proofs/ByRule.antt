@@ -7,7 +7,7 @@ use Rattle.nim_command.specs.Before.{Footprint, before_of, footprint_of}
 use Rattle.nim_command.specs.Ruled.{commands_by_rule, entries_by_rule, entry_footprint}
 
 -- one more entry
-entries_more : (past : List Footprint) (xs : List Entry) (x : Entry)
+pub entries_more : (past : List Footprint) (xs : List Entry) (x : Entry)
     → entries_by_rule past (xs ++ x ∷ []) ≡ entries_by_rule past xs ++ record x { before = before_of (past ++ map entry_footprint xs) (entry_footprint x) } ∷ []
 entries_more past [] x = ap (λ (p : List Footprint). record x { before = before_of p (entry_footprint x) } ∷ []) (sym (append-nil past))
 entries_more past (e ∷ xs) x =
@@ -17,7 +17,7 @@ entries_more past (e ∷ xs) x =
     (append_assoc past (entry_footprint e ∷ []) (map entry_footprint xs)))
 
 -- a before set doesn't count for others
-prints_same : (past : List Footprint) (xs : List Entry) → map entry_footprint (entries_by_rule past xs) ≡ map entry_footprint xs
+pub prints_same : (past : List Footprint) (xs : List Entry) → map entry_footprint (entries_by_rule past xs) ≡ map entry_footprint xs
 prints_same past [] = refl
 prints_same past (e ∷ xs) = ap (λ (rest : List Footprint). entry_footprint e ∷ rest) (prints_same (past ++ entry_footprint e ∷ []) xs)
 

@@ -7,8 +7,9 @@ use Rattle.std.proofs.lemmas.List.{map-append}
 use Rattle.std.proofs.lemmas.List.Folds.{list_any-append}
 use Rattle.nim_base.specs.declared.number.Slot.{Slot}
 use Rattle.nim_command.specs.declared.last_uses.LastUses.{LastUses}
+use Rattle.nim_command.specs.declared.last_uses.SlotUse.{SlotUse}
 use Rattle.nim_command.specs.Before.{Footprint, is_before, is_rewritten}
-use Rattle.nim_command.specs.LastUses.{IsPastOf, is_in, is_last, is_last_user, is_writer, readers_of, writer_of}
+use Rattle.nim_command.specs.LastUses.{IsPastOf, is_in, is_last, is_last_user, is_writer, readers_of, use_of, writer_of, written}
 use Rattle.nim_command.specs.Slots.{is_among}
 use Rattle.nim_base.proofs.Lists.{any_same, guarded}
 use Rattle.nim_command.proofs.Lists.{any_and, any_nothing, any_or}
@@ -84,6 +85,28 @@ past_more old new kept past f reads writes place are_reads are_writes at before 
 } where
   here : place ≡ 0 + length past
   here = at ∙ sym (zero-add (length past))
+
+writer_chosen : (b : Bool) (s : Slot) (place : ℕ) (u : SlotUse) (p : ℕ)
+    → is_writer p (if b then written s place else u).writer ≡ (if b then p == place else is_writer p u.writer)
+writer_chosen true s place u p = refl
+writer_chosen false s place u p = refl
+
+readers_chosen : (b : Bool) (s : Slot) (place : ℕ) (u : SlotUse) → (if b then written s place else u).readers ≡ (if b then [] else u.readers)
+readers_chosen true s place u = refl
+readers_chosen false s place u = refl
+
+-- the last uses of a list with one more, whose writes are noted first
+pub past_noted : (old mid new : LastUses) (past : List Footprint) (f : Footprint) (reads writes : List Slot) (place : ℕ)
+    → reads ≡ f.reads → writes ≡ f.writes → place ≡ length past → IsPastOf old past
+    → ((s : Slot) → use_of mid s ≡ (if is_among writes s then written s place else use_of old s))
+    → ((s : Slot) → writer_of new s ≡ writer_of mid s)
+    → ((s : Slot) (p : ℕ) → is_in p (readers_of new s) ≡ (is_in p (readers_of mid s) || (is_among reads s && (p == place))))
+    → IsPastOf new (past ++ f ∷ [])
+past_noted old mid new past f reads writes place are_reads are_writes at before wrote kept read =
+    past_more old new (readers_of mid) past f reads writes place are_reads are_writes at before
+    (λ s p. ap (is_writer p) (kept s ∙ ap (λ (u : SlotUse). u.writer) (wrote s)) ∙ writer_chosen (is_among writes s) s place (use_of old s) p)
+    (λ s. ap (λ (u : SlotUse). u.readers) (wrote s) ∙ readers_chosen (is_among writes s) s place (use_of old s))
+    read
 
 -- whether a later one waits for the one at a place
 abbrev pub is_waited : ℕ → List Footprint → Footprint → ℕ → Bool

@@ -7,5 +7,7 @@ pub mod LastUses
 -- Sorted without doubles the places rise and stay the same: clauses `rise` and `met` of `LastUses::places`.
 -- They give the before set by the rule: the contract of `before_set`.
 pub mod Rises
--- Entries and commands take their before sets one at a time: the contracts of `entries_by_rule`, `commands_by_rule`.
+-- Commands take their before sets one at a time: the contract of `commands_by_rule`.
 pub mod ByRule
+-- Entries take them in place, those behind keep their own until then: the contract of `entries_by_rule`.
+pub mod InPlace

@@ -1,4 +1,5 @@
-ghost use Rattle.std.specs.Prelude.{◌≡◌, [], ◌++◌, map, IfOk, OnOk};
+ghost use Rattle.std.specs.Prelude.{◌≡◌, ◌<◌, [], ◌∷◌, ◌++◌, length, map, slice_index_or, slice_set, take, IfOk, OnOk};
+ghost use Rattle.nim_command.specs.declared.entry.Entry.{Entry as entry_type};
 ghost use Rattle.nim_command.specs.Before as spec;
 ghost use Rattle.nim_command.specs.LastUses as uses_spec;
 ghost use Rattle.nim_command.specs.LastUses.{IsPastOf};
@@ -59,25 +60,39 @@ impl Waits for Entry {
 
 /// Entries, each with the before set of the rule in place of its own. Their meaning is `entries_by_rule` of
 /// `specs/Ruled.antt`.
-pub fn entries_by_rule(alloc: Global, entries: Vec<Entry>) -> Result<Vec<Entry>, NoMemory>
+pub fn entries_by_rule(alloc: Global, mut entries: Vec<Entry>) -> Result<Vec<Entry>, NoMemory>
     ensures { IfOk result (λ all. all.items ≡ ruled.entries_by_rule [] entries.items) }
 {
-    let mut done = Vec::with_capacity(alloc, entries.len())?;
     let mut uses = LastUses::new(alloc);
-    for entry in entries {
-        let before = before_set(alloc, &uses, done.as_slice(), &entry)?;
-        uses.note(done.len(), &entry)?;
-        done.push(entry_with(entry, before))?;
+    let mut places = Vec::new(alloc);
+    for index in 0..entries.len() {
+        put_before(alloc, &mut uses, &mut places, entries.as_mut_slice(), index)?;
     }
-    Ok(done)
+    Ok(entries)
 }
 
-/// The entry with this before set in place of its own.
-fn entry_with(entry: Entry, before: Short<u32, 8>) -> Entry
-    ensures { result ≡ record entry { before = before } }
+/// The entry behind those whose last uses these are gets the before set of the rule, and is noted.
+fn put_before(
+    alloc: Global,
+    uses: &mut LastUses,
+    places: &mut Vec<usize>,
+    entries: &mut [Entry],
+    index: usize,
+) -> Result<(), NoMemory>
+    requires inside { index < length entries.old }
+    requires past { IsPastOf uses.old (map ruled.entry_footprint (take index entries.old)) }
+    ensures ruled { OnOk result ((e : entry_type) → e ≡ slice_index_or entries.old index e
+        → entries.new ≡ slice_set entries.old index (record e {
+          before = spec.before_of (map ruled.entry_footprint (take index entries.old)) (ruled.entry_footprint e);
+        })) }
+    ensures noted { OnOk result ((e : entry_type) → e ≡ slice_index_or entries.old index e
+        → IsPastOf uses.new (map ruled.entry_footprint (take index entries.old) ++ ruled.entry_footprint e ∷ [])) }
 {
-    let Entry { id, kind, .. } = entry;
-    Entry { id, kind, before }
+    let all = &entries[..];
+    let before = before_set(alloc, uses, places, &all[..index], &all[index])?;
+    uses.note(index, &all[index])?;
+    entries[index].before = before;
+    Ok(())
 }
 
 /// Commands, each with the before set of the rule in place of its own.
@@ -89,8 +104,9 @@ pub(crate) fn commands_by_rule(
 {
     let mut done = Vec::with_capacity(alloc, commands.len())?;
     let mut uses = LastUses::new(alloc);
+    let mut places = Vec::new(alloc);
     for command in commands {
-        let before = before_set(alloc, &uses, done.as_slice(), &command)?;
+        let before = before_set(alloc, &uses, &mut places, done.as_slice(), &command)?;
         uses.note(done.len(), &command)?;
         done.push(command_with(command, before))?;
     }
@@ -106,17 +122,18 @@ fn command_with(command: Command, before: Short<u32, 8>) -> Command
 }
 
 /// The before set of one that comes behind these, whose last uses these are: the numbers of those that it has to wait
-/// for, in order.
+/// for, in order. Their places are put into a list.
 fn before_set<T: Waits>(
     alloc: Global,
     uses: &LastUses,
+    places: &mut Vec<usize>,
     past: &[T],
     later: &T,
 ) -> Result<Short<u32, 8>, NoMemory>
     requires { IsPastOf uses.now (map T.footprint past.now) }
     ensures { IfOk result (λ before. before ≡ spec.before_of (map T.footprint past.now) (T.footprint later.now)) }
 {
-    let places = uses.places(later)?;
+    uses.places(places, later)?;
     numbers_at(alloc, past, places.as_slice())
 }
 

@@ -11,6 +11,6 @@ returns g c =
     IfOk-weaker c.numbers_at.result (λ (before : List ℕ). before ≡ numbers_at past c.as_slice.result.now) _
     (λ before is.
     is ∙ ap (numbers_at past) c.as_slice.ensures.value
-    ∙ before_told c.args.uses.now past (g.T.Waits.footprint c.args.later.now) c.in_ok-places.places.items c.requires
+    ∙ before_told c.args.uses.now past (g.T.Waits.footprint c.args.later.now) c.places.new.places.items c.requires
     c.in_ok-places.ensures.rise c.in_ok-places.ensures.met)
     c.numbers_at.ensures

@@ -14,6 +14,6 @@ returns g c place =
     ∙ ap₂ either
     (c.in_ok-push_writers-2.ensures place
     ∙ ap₂ either
-    (c.in_ok-push_writers.ensures place ∙ ap₂ either (ap (is_in place) c.new-places.ensures.items) (ap wrote c.reads-read.ensures))
+    (c.in_ok-push_writers.ensures place ∙ ap₂ either (ap (is_in place) c.clear.ensures.items) (ap wrote c.reads-read.ensures))
     (ap wrote c.writes-written.ensures))
     (ap read c.writes-written.ensures)

@@ -10,6 +10,6 @@ returns-clause-rise g c =
 
 pub returns-clause-met : goal.returns-clause-met
 returns-clause-met g c place =
-    sorted_in c.in_ok-places.places.items c.sort_unstable.new.self.items c.dedup.new.self.items place c.sort_unstable.ensures.permutation
+    sorted_in c.met.new.places.items c.sort_unstable.new.self.items c.dedup.new.self.items place c.sort_unstable.ensures.permutation
     (dedup_is eqb c.sort_unstable.new.self.items c.dedup.new.self.items c.dedup.ensures.filtered)
-    ∙ c.in_ok-places.ensures place
+    ∙ c.in_ok-met.ensures place
