@@ -2,7 +2,7 @@ use crate::case::{Given, files_of, words_of};
 use crate::faults::Faults;
 use crate::trace::{reads_text, trace_text};
 use crate::wanted::Wanted;
-use nim_cluster::Cluster;
+use nim_cluster::{Cluster, let_go};
 use nim_io::{MemFiles, MemSink};
 use nim_top::{Status, top_check, top_replay};
 use nim_txtar::{FileFault, Section, difference};
@@ -66,6 +66,7 @@ fn performed(
         Some(cluster) => compare_runs(alloc, sections, cluster, ran),
         None => Ok(()),
     };
+    let_go(kept);
     (status, compared)
 }
 

@@ -1,4 +1,4 @@
-ghost use Rattle.std.specs.Prelude.{◌≡◌, ◌≤◌, ◌&&◌, ℕ, true, not, List, replicate, IfOk, IsTrue};
+ghost use Rattle.std.specs.Prelude.{◌≡◌, ◌≤◌, ◌&&◌, ℕ, [], true, not, List, replicate, IfOk, IsTrue, OnOk};
 ghost use Rattle.std.specs.Option.{is_some};
 ghost use Rattle.nim_job.specs.Whole.{is_whole};
 ghost use Rattle.nim_place.specs.Extends.{is_live};
@@ -8,6 +8,7 @@ ghost use Rattle.nim_lockstep.specs.Events as events;
 ghost use Rattle.nim_cluster.specs.Stands.{AreNodes, StandsInStep, ClusterStands};
 ghost use Rattle.nim_cluster.specs.Steps as spec;
 
+use crate::keep::keep_on_ok;
 use crate::node::Node;
 use nim_base::{NoMemory, Worker};
 use nim_control::ControllerCore;
@@ -43,7 +44,7 @@ impl Cluster {
         ensures { IfOk result (λ cluster. (s : ClusterState) × (IsNew job setup s × ClusterStands cluster s)) }
     {
         let control = ControllerCore::new(alloc, job, setup)?;
-        let nodes = new_nodes(alloc, setup.workers)?;
+        let (control, nodes) = keep_on_ok(control, new_nodes(alloc, setup.workers))?;
         let mut cluster = Cluster {
             alloc,
             setup,
@@ -53,7 +54,8 @@ impl Cluster {
             given: Vec::new(alloc),
             failed: false,
         };
-        cluster.turn()?;
+        let turned = cluster.turn();
+        let (cluster, ()) = keep_on_ok(cluster, turned)?;
         Ok(cluster)
     }
 
@@ -122,10 +124,21 @@ fn new_nodes(alloc: Global, workers: u16) -> Result<Vec<Node>, NoMemory>
     ensures { IfOk result (λ nodes. AreNodes 0 nodes.items (replicate workers (new_node workers))) }
 {
     let mut nodes = Vec::new(alloc);
-    for number in 0..workers {
-        nodes.push(Node::new(alloc, Worker(number), workers)?)?;
-    }
+    let pushed = push_nodes(alloc, workers, &mut nodes);
+    let (nodes, ()) = keep_on_ok(nodes, pushed)?;
     Ok(nodes)
+}
+
+/// So many of them come behind no others.
+fn push_nodes(alloc: Global, workers: u16, nodes: &mut Vec<Node>) -> Result<(), NoMemory>
+    requires { nodes.old.items ≡ [] }
+    ensures { OnOk result (AreNodes 0 nodes.new.items (replicate workers (new_node workers))) }
+{
+    for number in 0..workers {
+        let node = Node::new(alloc, Worker(number), workers)?;
+        nodes.push(node)?;
+    }
+    Ok(())
 }
 
 /// The worker that takes, begins or finishes something by an event.

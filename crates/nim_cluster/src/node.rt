@@ -40,13 +40,14 @@ impl Node {
     pub(crate) fn new(alloc: Global, worker: Worker, workers: u16) -> Result<Node, NoMemory>
         ensures { IfOk result (λ kept. IsNode worker.0 kept (new_node workers)) }
     {
+        let frames = no_frames(alloc, workers)?;
         Ok(Node {
             alloc,
             core: WorkerCore::new(alloc, worker),
             batch: None,
             orders: VecDeque::new(alloc),
             reports: VecDeque::new(alloc),
-            frames: no_frames(alloc, workers)?,
+            frames,
             frames_wait: false,
         })
     }

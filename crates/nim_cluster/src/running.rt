@@ -5,12 +5,13 @@ ghost use Rattle.nim_schedule.specs.declared.event.Event.TheVariants as event_is
 ghost use Rattle.nim_lockstep.specs.Cluster.{ClusterState, Node as node_state, has_ended};
 ghost use Rattle.nim_lockstep.specs.Events.{is_enabled};
 ghost use Rattle.nim_lockstep.specs.InStep.{IsReached};
-ghost use Rattle.nim_lockstep.specs.Schedules.{AreLines, IsAuto, IsLine, IsOne, IsRunBy, frames_of, next_of};
+ghost use Rattle.nim_lockstep.specs.Schedules.{AreLines, FollowsSchedule, IsAuto, IsLine, IsOne, IsRunBy, frames_of, next_of};
 ghost use Rattle.nim_cluster.specs.Runs.{IsAdvance, IsRest, ended_as, event_of};
 ghost use Rattle.nim_cluster.specs.Stands.{IsNode, StandsInStep, ClusterStands};
 ghost use Rattle.nim_cluster.specs.Steps.{AreNodesIdle, may_take};
 
 use crate::Cluster;
+use crate::keep::keep_on_ok;
 use crate::node::Node;
 use nim_base::NoMemory;
 use nim_course::{Outcome, Setup};
@@ -61,9 +62,8 @@ pub fn run(alloc: Global, job: Job, setup: Setup, schedule: &[Line]) -> Result<R
     clusters_stay_in_step();
     events_go_on();
     let mut cluster = Cluster::new(alloc, job, setup)?;
-    cluster.follow(schedule)?;
-    cluster.go_on()?;
-    let outcome = cluster.end()?;
+    let ended = cluster.run_by(schedule);
+    let (cluster, outcome) = keep_on_ok(cluster, ended)?;
     Ok(RunEnd { outcome, cluster })
 }
 
@@ -86,6 +86,17 @@ impl Cluster {
             return Some(event);
         }
         self.first_of(Moving::Begin)
+    }
+
+    /// Is given the events of a schedule and those behind them, and tells how it ended.
+    fn run_by(&mut self, schedule: &[Line]) -> Result<RunOutcome, NoMemory>
+        ensures { (s : ClusterState) → ClusterStands self.old s → IfOk result (λ outcome. (t : ClusterState)
+            × (FollowsSchedule schedule.now s t
+            × (ClusterStands self.new t × (ended_as t.control.outcome ≡ Some outcome)))) }
+    {
+        self.follow(schedule)?;
+        self.go_on()?;
+        self.end()
     }
 
     /// The first worker's event of a kind that is enabled.

@@ -21,15 +21,6 @@ pub prints_same : (past : List Footprint) (xs : List Entry) → map entry_footpr
 prints_same past [] = refl
 prints_same past (e ∷ xs) = ap (λ (rest : List Footprint). entry_footprint e ∷ rest) (prints_same (past ++ entry_footprint e ∷ []) xs)
 
--- the entries so far, with one more
-pub entry_ruled : (done next : List Entry) (seen : List Entry) (x y : Entry) → done ≡ entries_by_rule [] seen
-    → y ≡ record x { before = before_of (map entry_footprint done) (entry_footprint x) } → next ≡ done ++ y ∷ [] → next ≡ entries_by_rule [] (seen ++ x ∷ [])
-entry_ruled done next seen x y before is push =
-    push ∙ ap (λ (e : Entry). done ++ e ∷ []) is
-    ∙ ap (λ (d : List Entry). d ++ record x { before = before_of (map entry_footprint d) (entry_footprint x) } ∷ []) before
-    ∙ ap (λ (p : List Footprint). entries_by_rule [] seen ++ record x { before = before_of p (entry_footprint x) } ∷ []) (prints_same [] seen)
-    ∙ sym (entries_more [] seen x)
-
 -- one more command
 commands_more : (past : List Footprint) (xs : List Command) (x : Command)
     → commands_by_rule past (xs ++ x ∷ []) ≡ commands_by_rule past xs ++ record x { before = before_of (past ++ map footprint_of xs) (footprint_of x) } ∷ []

@@ -1,6 +1,7 @@
 -- Entries by the rule, in place: those in front have the before sets of the rule, those behind have their own still.
 use Rattle.std.proofs.Common.{◌≡◌, ◌<◌, ◌≤◌, ◌+◌, ℕ, suc, List, [], ◌∷◌, ◌++◌, length, take, drop, map, set, get_or, refl, ap, ap₂, sym, subst, ◌∙◌, arith}
-use Rattle.std.proofs.lemmas.List.{append-nil, append_assoc, drop_more, get_or_default, length-append, length-set, length-take-le, map-append, take-append-drop, take_all, take_more}
+use Rattle.std.proofs.lemmas.List.{append-nil, append_assoc, drop_more, get_or_default, map-append}
+use Rattle.std.proofs.lemmas.List.{length-append, length-set, length-take-le, take-append-drop, take_all, take_more}
 use Rattle.nim_command.specs.declared.entry.Entry.{Entry}
 use Rattle.nim_command.specs.declared.entry.EntryKind.{EntryKind}
 use Rattle.nim_command.specs.declared.last_uses.LastUses.{LastUses}

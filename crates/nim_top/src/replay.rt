@@ -16,7 +16,7 @@ use crate::status::Outcome;
 use crate::tell::{print, tell};
 use crate::verb::Verb;
 use nim_base::NoMemory;
-use nim_cluster::{Cluster, RunOutcome, run};
+use nim_cluster::{Cluster, RunOutcome, let_go, run};
 use nim_course::Setup;
 use nim_io::{Files, Sink};
 use nim_lockstep::events_go_on;
@@ -39,7 +39,7 @@ pub fn top_replay<L: Files, K: Sink>(
         (outside_with (L.told files.new) (L.faults files.new) (K.written out.new) (K.faults out.new))
         (WritesText (K.written err.old) (K.written err.new) (K.faults err.old) (K.faults err.new)) result.0 }
 
-    // Each task that the kept cluster ran read the versions that program order names.
+    /// Each task that the kept cluster ran read the versions that program order names.
     ensures kept { KeepsCluster (L.told files.old) (texts_of words.now) result.0 kept.old kept.new }
     ensures summary { TellsSummary (texts_of words.now)
         (WritesText (K.written err.old) (K.written err.new) (K.faults err.old) (K.faults err.new)) result.0 kept.new }
@@ -99,7 +99,7 @@ fn follow<K: Sink>(
         RunOutcome::Done => done(alloc, &end.cluster, is_asked, out),
         RunOutcome::Limit => Replayed::without_summary(Outcome::Limit),
         RunOutcome::Stalled => Replayed::without_summary(Outcome::Stalled),
-        // No worker is lost yet.
+        /// No worker is lost yet.
         RunOutcome::NoWorker => unreachable!(),
     };
     keep(kept, end.cluster, replayed.outcome.has_run());
@@ -140,11 +140,13 @@ fn summary_text(
     }
 }
 
-/// Puts a cluster that is kept where the caller says, in place of what was there.
+/// Puts a cluster that is kept where the caller says, in place of what was there. The other one is let go of.
 fn keep(kept: &mut Option<Cluster>, cluster: Cluster, is_kept: bool)
     ensures { kept.new ≡ if is_kept then some cluster else kept.old }
 {
-    if is_kept {
-        *kept = Some(cluster);
-    }
+    let_go(if is_kept {
+        kept.replace(cluster)
+    } else {
+        Some(cluster)
+    });
 }

@@ -1,6 +1,7 @@
 //! The program: it hands the words of the command line to the top calls, and ends with their status.
 #![tactic(auto)]
 
+use nim_cluster::let_go;
 use nim_io::{HostFiles, HostSink, write_all};
 use nim_top::{Status, top_check, top_replay};
 use std::alloc::Global;
@@ -18,7 +19,17 @@ fn main(rt: HostRuntime) -> ExitCode {
             if is_check(words) {
                 top_check(rt.alloc(), words, &mut files, &mut out, &mut err)
             } else {
-                top_replay(rt.alloc(), words, &mut files, &mut out, &mut err, &mut None)
+                let mut kept = None;
+                let status = top_replay(
+                    rt.alloc(),
+                    words,
+                    &mut files,
+                    &mut out,
+                    &mut err,
+                    &mut kept,
+                );
+                let_go(kept);
+                status
             }
         }
         Err(status) => {
