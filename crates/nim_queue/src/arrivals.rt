@@ -13,8 +13,10 @@ use crate::slot_use::{SlotUse, use_of};
 use crate::waiting::Waiting;
 use nim_base::{NoMemory, Short, Slot};
 use nim_command::Command;
+use smallvec::SmallVec;
 use std::alloc::Global;
 use std::collections::{HashMap, HashSet, LinkedList};
+use std::default::MadeWith;
 
 /// Among no more tickets than these one is searched.
 const FEW: usize = 16;
@@ -24,9 +26,9 @@ const FEW: usize = 16;
 pub(crate) struct Arrival {
     pub(crate) command: Command,
     /// The tickets of those that it waits for, some maybe more than once, each with its own ticket for their followers.
-    pub(crate) waits: Vec<Link>,
+    pub(crate) waits: SmallVec<Link, 1>,
     /// The slots that it reads, each with its ticket for their readers.
-    pub(crate) reads: Vec<Reading>,
+    pub(crate) reads: SmallVec<Reading, 1>,
 }
 
 /// A ticket, and what is to be appended to the followers of its command.
@@ -36,11 +38,29 @@ pub(crate) struct Link {
     pub(crate) later: LinkedList<u64>,
 }
 
+impl MadeWith<Global> for Link {
+    fn made_with(alloc: Global) -> Link {
+        Link {
+            earlier: 0,
+            later: LinkedList::new(alloc),
+        }
+    }
+}
+
 /// A slot, and what is to be appended to its readers.
 #[derive(Drop)]
 pub(crate) struct Reading {
     pub(crate) slot: Slot,
     pub(crate) reader: LinkedList<u64>,
+}
+
+impl MadeWith<Global> for Reading {
+    fn made_with(alloc: Global) -> Reading {
+        Reading {
+            slot: Slot(0),
+            reader: LinkedList::new(alloc),
+        }
+    }
 }
 
 /// The commands of a group, the first with this ticket, behind those that wait.
@@ -70,7 +90,7 @@ pub(crate) fn arrive_all(
 #[derive(Drop)]
 pub(crate) struct Arrivals {
     alloc: Global,
-    numbers: HashMap<u32, LinkedList<u64>>,
+    numbers: HashMap<u32, Short<u64, 1>>,
     written: HashSet<u16>,
 }
 
@@ -221,7 +241,7 @@ impl Arrivals {
 
 fn note_number(
     alloc: Global,
-    numbers: &mut HashMap<u32, LinkedList<u64>>,
+    numbers: &mut HashMap<u32, Short<u64, 1>>,
     number: u32,
     ticket: u64,
 ) -> Result<(), NoMemory>
@@ -229,10 +249,10 @@ fn note_number(
         ≡ unwrap_or (get nat_eq numbers.old n) [] ++ (if number == n then ticket ∷ [] else [])) }
 {
     if let Some(named) = numbers.get_mut(&number) {
-        named.push_back(ticket)?;
+        named.push(ticket)?;
         return Ok(());
     }
-    numbers.insert(number, alone(alloc, ticket)?)?;
+    numbers.insert(number, Short::from_slice(alloc, &[ticket])?)?;
     Ok(())
 }
 
@@ -248,22 +268,22 @@ fn note_writes(written: &mut HashSet<u16>, slots: &[Slot]) -> Result<(), NoMemor
 
 fn push_named(
     tickets: &mut Short<u64, 8>,
-    numbers: &HashMap<u32, LinkedList<u64>>,
+    numbers: &HashMap<u32, Short<u64, 1>>,
     number: u32,
 ) -> Result<(), NoMemory>
     ensures { OnOk result ((e : ℕ) → is_in e tickets.new
         ≡ (is_in e tickets.old || is_in e (unwrap_or (get nat_eq numbers.now number) []))) }
 {
     if let Some(named) = numbers.get(&number) {
-        push_all(tickets, named)?;
+        push_all(tickets, named.as_slice())?;
     }
     Ok(())
 }
 
-fn push_all(tickets: &mut Short<u64, 8>, more: &LinkedList<u64>) -> Result<(), NoMemory>
+fn push_all(tickets: &mut Short<u64, 8>, more: &[u64]) -> Result<(), NoMemory>
     ensures { OnOk result (tickets.new ≡ tickets.old ++ more.now) }
 {
-    for ticket in more.iter() {
+    for ticket in more {
         tickets.push(*ticket)?;
     }
     Ok(())
@@ -341,10 +361,10 @@ fn is_known(tickets: &[u64], ticket: u64) -> bool
     tickets.iter().any(|other| ticket == *other)
 }
 
-fn links(alloc: Global, tickets: &[u64], later: u64) -> Result<Vec<Link>, NoMemory>
+fn links(alloc: Global, tickets: &[u64], later: u64) -> Result<SmallVec<Link, 1>, NoMemory>
     ensures { IfOk result (λ waits. waits.items ≡ map (link_to later) tickets.now) }
 {
-    let mut waits = Vec::with_capacity(alloc, tickets.len())?;
+    let mut waits = SmallVec::with_capacity(alloc, tickets.len())?;
     for earlier in tickets {
         waits.push(Link {
             earlier: *earlier,
@@ -354,10 +374,10 @@ fn links(alloc: Global, tickets: &[u64], later: u64) -> Result<Vec<Link>, NoMemo
     Ok(waits)
 }
 
-fn readings(alloc: Global, slots: &[Slot], reader: u64) -> Result<Vec<Reading>, NoMemory>
+fn readings(alloc: Global, slots: &[Slot], reader: u64) -> Result<SmallVec<Reading, 1>, NoMemory>
     ensures { IfOk result (λ reads. reads.items ≡ map (reading_of reader) slots.now) }
 {
-    let mut reads = Vec::with_capacity(alloc, slots.len())?;
+    let mut reads = SmallVec::with_capacity(alloc, slots.len())?;
     for slot in slots {
         reads.push(Reading {
             slot: *slot,

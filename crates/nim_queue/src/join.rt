@@ -14,10 +14,11 @@ use crate::slot_use::{SlotUse, read_more, rewrite};
 use crate::tickets::Tickets;
 use crate::waiting::Waiting;
 use nim_base::Slot;
+use smallvec::SmallVec;
 use std::collections::HashMap;
 
 /// Those that a command waits for are followed by it.
-pub(crate) fn follow(waiting: &mut HashMap<u64, Waiting>, waits: Vec<Link>)
+pub(crate) fn follow(waiting: &mut HashMap<u64, Waiting>, waits: SmallVec<Link, 1>)
     ensures followers { (k n : ℕ) (d : List ℕ) → AreShort (get nat_eq waiting.old) k → waits.items ≡ map (link_to n) d
         → k + length d < 2 ^ 63
         → (t : ℕ) → get nat_eq waiting.new t ≡ option_map (followed
@@ -64,7 +65,7 @@ fn write_one(slots: &mut Vec<Option<SlotUse>>, slot: Slot, ticket: u64)
 }
 
 /// It reads these slots, each of which has a use.
-pub(crate) fn read(slots: &mut Vec<Option<SlotUse>>, reads: Vec<Reading>)
+pub(crate) fn read(slots: &mut Vec<Option<SlotUse>>, reads: SmallVec<Reading, 1>)
     ensures { (k n : ℕ) (d : List slot_type) → AreBrief (used_in slots.old.items) k → reads.items ≡ map (reading_of n) d
         → k + length d < 2 ^ 63
         → (s : ℕ) → used_in slots.new.items s ≡ option_map (more_read (gathered_reads s reads.items))

@@ -16,11 +16,11 @@ loop-link-preserved c =
     let x = c.in-Some.link in
     let key : Link → ℕ = λ r. r.earlier in
     let own : Link → List ℕ = λ r. r.later in
-    let whole : past ++ x ∷ c.next.new.self.rest.items ≡ c.args.waits.items = search rules in
+    let whole : past ++ x ∷ c.next.new.self ≡ c.args.waits.items = search rules in
     record {
       added = λ k n d short is fits.
           let before = c.loop-link.invariant.added k n d short is fits in
-          let here = made_from (link_to n) own n d past c.next.new.self.rest.items x (λ a. refl) (whole ∙ is) in
+          let here = made_from (link_to n) own n d past c.next.new.self x (λ a. refl) (whole ∙ is) in
           let more : ℕ → List ℕ = λ t. if key x == t then own x else [] in
           let step = c.follow_one.ensures.followers (k + length past) before.1 (omega (arith, fits, here.1, ap length here.0)) in
           let total : k + length past + 1 ≡ k + length (past ++ x ∷ []) = omega (arith, length-append past (x ∷ [])) in (
@@ -32,14 +32,14 @@ loop-link-preserved c =
                 (k + length past)
                 (λ ms v. refl) step (few_at key own n x here.0) before.1),
           );
-      whole = append_assoc past (x ∷ []) c.next.new.self.rest.items ∙ whole;
+      whole = append_assoc past (x ∷ []) c.next.new.self ∙ whole;
       spare = search rules;
     }
 
 pub returns-clause-followers : goal.returns-clause-followers
 returns-clause-followers c k n d short is fits t =
     let past = c.loop-link.yielded in
-    let none : length c.loop-link.link-iterator.rest.items ≡ 0 = search rules in
+    let none : length c.loop-link.link-iterator ≡ 0 = search rules in
     let all : past ≡ c.args.waits.items = sym (append-nil past) ∙ ap (λ ys. past ++ ys) (sym (nil_from_length _ none)) ∙ c.loop-link.invariant.whole in
     (c.loop-link.invariant.added k n d short is fits).0 t
     ∙ ap (λ (xs : List Link). option_map (followed (gathered t xs)) (get nat_eq c.args.waiting.now t)) all

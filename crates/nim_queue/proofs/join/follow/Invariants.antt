@@ -11,6 +11,6 @@ invariant-loop-link l = record {
   added : (k n : ℕ) (d : List ℕ) → AreShort (get nat_eq l.fn.waiting) k → l.fn.waits.items ≡ map (link_to n) d → k + length d < 2 ^ 63
       → ((t : ℕ) → get nat_eq l.waiting t ≡ option_map (followed (gathered t l.yielded)) (get nat_eq l.fn.waiting t))
       × AreShort (get nat_eq l.waiting) (k + length l.yielded);
-  whole : l.yielded ++ l.link-iterator.rest.items ≡ l.fn.waits.items;
+  whole : l.yielded ++ l.link-iterator ≡ l.fn.waits.items;
   spare : spare l.waiting ≡ spare l.fn.waiting;
 }

@@ -16,11 +16,11 @@ loop-reading-preserved c =
     let x = c.in-Some.reading in
     let key : Reading → ℕ = λ r. r.slot.0 in
     let own : Reading → List ℕ = λ r. r.reader in
-    let whole : past ++ x ∷ c.next.new.self.rest.items ≡ c.args.reads.items = search rules in
+    let whole : past ++ x ∷ c.next.new.self ≡ c.args.reads.items = search rules in
     record {
       added = λ k n d short is fits.
           let before = c.loop-reading.invariant.added k n d short is fits in
-          let here = made_from (reading_of n) own n d past c.next.new.self.rest.items x (λ a. refl) (whole ∙ is) in
+          let here = made_from (reading_of n) own n d past c.next.new.self x (λ a. refl) (whole ∙ is) in
           let more : ℕ → List ℕ = λ t. if key x == t then own x else [] in
           let step = c.read_one.ensures (k + length past) before.1 (omega (arith, fits, here.1, ap length here.0)) in
           let total : k + length past + 1 ≡ k + length (past ++ x ∷ []) = omega (arith, length-append past (x ∷ [])) in (
@@ -33,13 +33,13 @@ loop-reading-preserved c =
                 (k + length past)
                 (λ ms v. refl) step (few_at key own n x here.0) before.1),
           );
-      whole = append_assoc past (x ∷ []) c.next.new.self.rest.items ∙ whole;
+      whole = append_assoc past (x ∷ []) c.next.new.self ∙ whole;
     }
 
 pub returns : goal.returns
 returns c k n d short is fits t =
     let past = c.loop-reading.yielded in
-    let none : length c.loop-reading.reading-iterator.rest.items ≡ 0 = search rules in
+    let none : length c.loop-reading.reading-iterator ≡ 0 = search rules in
     let all : past ≡ c.args.reads.items = sym (append-nil past) ∙ ap (λ ys. past ++ ys) (sym (nil_from_length _ none)) ∙ c.loop-reading.invariant.whole in
     (c.loop-reading.invariant.added k n d short is fits).0 t
     ∙ ap (λ (xs : List Reading). option_map (more_read (gathered_reads t xs)) (used_in c.args.slots.now.items t)) all

@@ -12,5 +12,5 @@ invariant-loop-reading l = record {
   added : (k n : ℕ) (d : List Slot) → AreBrief (used_in l.fn.slots.items) k → l.fn.reads.items ≡ map (reading_of n) d → k + length d < 2 ^ 63
       → ((t : ℕ) → used_in l.slots.items t ≡ option_map (more_read (gathered_reads t l.yielded)) (used_in l.fn.slots.items t))
       × AreBrief (used_in l.slots.items) (k + length l.yielded);
-  whole : l.yielded ++ l.reading-iterator.rest.items ≡ l.fn.reads.items;
+  whole : l.yielded ++ l.reading-iterator ≡ l.fn.reads.items;
 }

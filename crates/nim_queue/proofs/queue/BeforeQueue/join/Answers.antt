@@ -16,7 +16,7 @@ use Rattle.nim_queue.proofs.queue.BeforeQueue.join.Goals as goal
 pub returns-clause-waiting : goal.returns-clause-waiting
 returns-clause-waiting c k d short is fits room t =
     let old = c.args.self.now in
-    let count : c.len-pending.result ≡ length d = c.len-pending.ensures ∙ c.args.arrival.waits.ok.0 ∙ ap length is ∙ length-map d (link_to old.given) in
+    let count : c.len-pending.result ≡ length d = c.len-pending.ensures.value ∙ ap length is ∙ length-map d (link_to old.given) in
     c.enter.ensures.entered (omega (arith, room, c.follow.ensures.spare)) t
     ∙ ap₂ (λ (w : Waiting) (o : Option Waiting). if old.given == t then Some w else o)
     (ap₂ (λ (p : ℕ) (fs : List ℕ). let w : Waiting = record { group = old.groups; command = c.args.arrival.command; pending = p; followers = fs } in w) count
