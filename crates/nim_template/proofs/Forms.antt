@@ -1,5 +1,5 @@
 -- One task of a walk.
-use Rattle.std.proofs.Common.{◌≡◌, ℕ, ◌+◌, ◌<◌, Bool, List, ◌∷◌, ◌++◌, length, map, drop, drop-cons, get_or, add-one, ap, ap₂, sym, subst, ◌∙◌}
+use Rattle.std.proofs.Common.{◌≡◌, ℕ, zero, suc, ◌+◌, ◌<◌, Bool, List, [], ◌∷◌, ◌++◌, length, map, drop, drop-cons, get_or, set, add-one, refl, ap, ap₂, sym, subst, ◌∙◌}
 use Rattle.std.specs.Prelude.{IsSomeAnd, slice_get}
 use Rattle.std.specs.List.{flat_map, fold}
 use Rattle.nim_base.specs.declared.number.Object.{Object}
@@ -54,6 +54,17 @@ walked_more place live forms number walk next form within is after =
     drop-cons forms number form within
     ∙ ap₂ (λ (f : TaskForm) (fs : List TaskForm). f ∷ fs) (sym is) (ap (λ (k : ℕ). drop k forms) (sym (add-one number))) in
     ap (λ (w : Walk). walked place live (number + 1) w (drop (number + 1) forms)) after ∙ sym (ap (walked place live number walk) rest)
+
+put_same : (forms : List TaskForm) (number : ℕ) (form : TaskForm) → form ≡ get_or forms number form → set forms number form ≡ forms
+put_same [] number form is = refl
+put_same (f ∷ fs) zero form is = ap (λ (g : TaskForm). g ∷ fs) is
+put_same (f ∷ fs) (suc number) form is = ap (λ (l : List TaskForm). f ∷ l) (put_same fs number form is)
+
+-- a form that stayed what it is, in its place
+pub put_back : (now forms : List TaskForm) (number : ℕ) (form next : TaskForm) → now ≡ forms → form ≡ get_or forms number form → next ≡ form
+    → set now number next ≡ forms
+put_back now forms number form next is at same =
+    ap₂ (λ (l : List TaskForm) (f : TaskForm). set l number f) is same ∙ put_same forms number form at
 
 -- the template of a walk's end
 pub built_is : (place : Placement) (objects : ℕ) (live : List Bool) (template : ControllerTemplate) (homes : List Worker) (slots : List (Worker × Object))

@@ -6,6 +6,8 @@ pub mod Fits
 pub mod Forms
 -- The template of a walk has these parts: clause `built` of `build_halves`.
 pub mod Templates
+-- Entries moved to the lists of their workers one at a time are each worker's own, in order: `entries_by_worker`.
+pub mod ByWorker
 -- What a walk does leaves the numbers of workers and objects as they are.
 pub mod Sizes
 -- A task's entries have numbers from 64 times its own on, closing copies behind: clause `ascend` of `build_halves`.

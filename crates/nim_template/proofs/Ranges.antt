@@ -1,12 +1,11 @@
 -- Lists made from a number of workers or objects, one more at a time.
-use Rattle.std.proofs.Common.{◌≡◌, ℕ, zero, suc, ◌+◌, List, [], ◌∷◌, ◌++◌, add-one, ap, ap₂, sym, ◌∙◌, arith}
+use Rattle.std.proofs.Common.{◌≡◌, ℕ, zero, suc, ◌+◌, List, [], ◌∷◌, ◌++◌, add-one, ap, sym, ◌∙◌, arith}
 use Rattle.std.specs.List.{flat_map, range_with_len}
 use Rattle.std.proofs.lemmas.List.{append-nil, append_assoc}
 use Rattle.std.proofs.lemmas.List.FromFn.{map-range_with_len_more}
 use Rattle.nim_base.specs.declared.number.Object.{Object}
 use Rattle.nim_base.specs.declared.number.Worker.{Worker}
-use Rattle.nim_command.specs.declared.entry.Entry.{Entry}
-use Rattle.nim_template.specs.Built.{all_slots, half_for, all_halves, slots_of}
+use Rattle.nim_template.specs.Built.{all_slots, slots_of}
 
 flat_more : {X : Type 0} (f : ℕ → List X) (from n last : ℕ) → from + n ≡ last
     → flat_map f (range_with_len from (suc n)) ≡ flat_map f (range_with_len from n) ++ f last
@@ -27,12 +26,6 @@ all_more n objects =
     let own : ℕ → List (Worker × Object) = λ number. slots_of (record { 0 = number }) objects in
     ap (λ (k : ℕ). flat_map own (range_with_len 0 k)) (add-one n) ∙ flat_more own 0 n n (omega arith)
 
--- the half of one worker more
-halves_more : (n : ℕ) (entries : List (Worker × Entry)) → all_halves (n + 1) entries ≡ all_halves n entries ++ half_for (record { 0 = n }) entries ∷ []
-halves_more n entries =
-    let half : ℕ → List Entry = λ number. half_for (record { 0 = number }) entries in
-    map-range_with_len_more half 0 n n (omega arith)
-
 pub slots_pushed : (first before after : List (Worker × Object)) (worker : Worker) (n : ℕ) → before ≡ first ++ slots_of worker n
     → after ≡ before ++ (worker, record { 0 = n }) ∷ [] → after ≡ first ++ slots_of worker (n + 1)
 slots_pushed first before after worker n was push =
@@ -44,8 +37,3 @@ pub all_pushed : (before after : List (Worker × Object)) (n objects : ℕ) → 
     → after ≡ before ++ slots_of (record { 0 = n }) objects → after ≡ all_slots (n + 1) objects
 all_pushed before after n objects was push =
     push ∙ ap (λ (slots : List (Worker × Object)). slots ++ slots_of (record { 0 = n }) objects) was ∙ sym (all_more n objects)
-
-pub halves_pushed : (before after : List (List Entry)) (half : List Entry) (n : ℕ) (entries : List (Worker × Entry)) → before ≡ all_halves n entries
-    → half ≡ half_for (record { 0 = n }) entries → after ≡ before ++ half ∷ [] → after ≡ all_halves (n + 1) entries
-halves_pushed before after half n entries was is push =
-    push ∙ ap₂ (λ (halves : List (List Entry)) (h : List Entry). halves ++ h ∷ []) was is ∙ sym (halves_more n entries)

@@ -48,7 +48,12 @@ abbrev pub entries_for : Worker → List (Worker × Entry) → List Entry
 entries_for worker entries =
     map (λ (e : Worker × Entry). e.1) (filter (λ (e : Worker × Entry). e.0.0 == worker.0) entries)
 
--- its half, each before set that of the rule
+-- the entries of each of so many workers
+abbrev pub entries_by_worker : ℕ → List (Worker × Entry) → List (List Entry)
+entries_by_worker workers entries =
+    map (λ (number : ℕ). entries_for (record { 0 = number }) entries) (range_with_len 0 workers)
+
+-- the half of one worker, each before set that of the rule
 abbrev pub half_for : Worker → List (Worker × Entry) → List Entry
 half_for worker entries = entries_by_rule [] (entries_for worker entries)
 

@@ -1,5 +1,6 @@
-ghost use Rattle.std.specs.Prelude.{◌≡◌, ◌≤◌, true, length, map, IfOk};
+ghost use Rattle.std.specs.Prelude.{◌≡◌, ◌≤◌, ◌++◌, ◌∷◌, [], true, length, map, slice_index_or, slice_set, IfOk, OnOk};
 ghost use Rattle.std.specs.List.{list_all, list_any};
+ghost use Rattle.nim_command.specs.Ruled as ruled;
 ghost use Rattle.nim_place.specs.Sound.{IsSound};
 ghost use Rattle.nim_template.specs.Again.{HoldAgain};
 ghost use Rattle.nim_template.specs.Ascends.{does_ascend};
@@ -65,11 +66,14 @@ fn built(
     requires { MayBuild objects live.now template.now.forms }
     ensures { IfOk result (λ made. made ≡ spec.built place.now objects live.now template.now) }
 {
-    let forms = template.forms.as_slice();
-    let homes = homes_of(alloc, forms, place, objects, live)?;
-    let walk = walked(alloc, forms, place, objects, live)?;
+    let block = template.block;
+    let mut forms = template.forms.copy()?.into_vec();
+    let homes = homes_of(alloc, forms.as_slice(), place, objects, live)?;
+    let walk = walked(alloc, &mut forms, place, objects, live)?;
+    let forms = Seq::from_vec(forms);
     let workers = live.len() as u16;
     let slots = all_slots(alloc, workers, objects)?;
+    let template = ControllerTemplate { block, forms };
     let made = template_of(alloc, template, workers, slots, walk, homes)?;
     Ok(made)
 }
@@ -95,14 +99,15 @@ fn homes_of(
 /// The template that the end of the walk gives, its closing copies behind it.
 fn template_of(
     alloc: Global,
-    template: &ControllerTemplate,
+    template: ControllerTemplate,
     workers: u16,
     slots: Vec<(Worker, Object)>,
     walk: Walk,
     homes: Vec<Worker>,
 ) -> Result<WorkerTemplate, NoMemory>
-    ensures { IfOk result (λ built. built ≡ spec.template_of template.now workers slots.items walk homes.items) }
+    ensures { IfOk result (λ built. built ≡ spec.template_of template workers slots.items walk homes.items) }
 {
+    let ControllerTemplate { block, forms } = template;
     let Walk {
         mut offsets,
         needed,
@@ -111,13 +116,13 @@ fn template_of(
     let needs = needs_of(alloc, &needed, slots.as_slice())?;
     let copies = closings(alloc, &mut offsets, needs.as_slice())?;
     push_closings(&mut entries, copies.as_slice())?;
-    let halves = Seq::from_vec(all_halves(alloc, workers, entries.as_slice())?);
+    let halves = Seq::from_vec(all_halves(alloc, workers, entries.into_vec())?);
     let built = halves.copy()?;
     let effect = effect_of(alloc, &offsets, slots.as_slice())?;
     let owners = Vec::from_slice(alloc, homes.as_slice())?;
     Ok(WorkerTemplate {
-        block: template.block,
-        forms: template.forms.copy()?,
+        block,
+        forms,
         halves,
         built,
         preconditions: Seq::from_vec(needs),
@@ -132,39 +137,61 @@ fn template_of(
 fn all_halves(
     alloc: Global,
     workers: u16,
-    entries: &[(Worker, Entry)],
+    entries: Vec<(Worker, Entry)>,
 ) -> Result<Vec<Half>, NoMemory>
-    ensures { IfOk result (λ halves. halves.items ≡ spec.all_halves workers entries.now) }
+    ensures { IfOk result (λ halves. halves.items ≡ spec.all_halves workers entries.items) }
 {
-    let mut halves = Vec::new(alloc);
-    for number in 0..workers {
-        halves.push(half_for(alloc, Worker(number), entries)?)?;
+    let lists = entries_by_worker(alloc, workers, entries)?;
+    halves_of(alloc, lists)
+}
+
+/// The half of each worker's entries, by the rule.
+fn halves_of(alloc: Global, lists: Vec<Seq<Entry>>) -> Result<Vec<Half>, NoMemory>
+    ensures { IfOk result (λ halves. halves.items ≡ map (ruled.entries_by_rule []) lists.items) }
+{
+    let mut halves = Vec::with_capacity(alloc, lists.len())?;
+    for own in lists {
+        let entries = entries_by_rule(alloc, own.into_vec())?;
+        halves.push(Half::from_entries(Seq::from_vec(entries)))?;
     }
     Ok(halves)
 }
 
-/// The half of a worker.
-fn half_for(alloc: Global, worker: Worker, entries: &[(Worker, Entry)]) -> Result<Half, NoMemory>
-    ensures { IfOk result (λ half. half ≡ spec.half_for worker entries.now) }
+/// The entries of each of so many workers, in order, before sets aside; an entry of another worker is dropped.
+fn entries_by_worker(
+    alloc: Global,
+    workers: u16,
+    entries: Vec<(Worker, Entry)>,
+) -> Result<Vec<Seq<Entry>>, NoMemory>
+    ensures { IfOk result (λ lists. lists.items ≡ spec.entries_by_worker workers entries.items) }
 {
-    let own = entries_for(alloc, worker, entries)?;
-    let ruled = entries_by_rule(alloc, own)?;
-    Ok(Half::from_entries(Seq::from_vec(ruled)))
+    let room = entries.len().checked_div(usize::from(workers)).unwrap_or(0);
+    let mut lists = no_entries(alloc, workers, room)?;
+    for (worker, entry) in entries {
+        push_own(&mut lists, worker, entry)?;
+    }
+    Ok(lists)
 }
 
-/// The entries of a worker, in order, before sets aside.
-fn entries_for(
-    alloc: Global,
-    worker: Worker,
-    entries: &[(Worker, Entry)],
-) -> Result<Vec<Entry>, NoMemory>
-    ensures { IfOk result (λ own. own.items ≡ spec.entries_for worker entries.now) }
+/// A list without entries for each of so many workers, with room for so many.
+fn no_entries(alloc: Global, workers: u16, room: usize) -> Result<Vec<Seq<Entry>>, NoMemory>
+    ensures { IfOk result (λ lists. lists.items ≡ spec.entries_by_worker workers []) }
 {
-    let mut own = Vec::new(alloc);
-    for entry in entries {
-        if entry.0.0 == worker.0 {
-            own.push(entry.1.copy()?)?;
-        }
+    let mut lists = Vec::new(alloc);
+    for _number in 0..workers {
+        lists.push(Seq::from_vec(Vec::with_capacity(alloc, room)?))?;
     }
-    Ok(own)
+    Ok(lists)
+}
+
+/// Adds an entry to its worker's list, if the worker has one.
+fn push_own(lists: &mut Vec<Seq<Entry>>, worker: Worker, entry: Entry) -> Result<(), NoMemory>
+    ensures { OnOk result (lists.new.items
+        ≡ slice_set lists.old.items worker.0 (slice_index_or lists.old.items worker.0 [] ++ entry ∷ [])) }
+{
+    let place = usize::from(worker.0);
+    if place < lists.len() {
+        lists[place].push(entry)?;
+    }
+    Ok(())
 }

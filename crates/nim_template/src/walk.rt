@@ -6,12 +6,11 @@ ghost use Rattle.nim_template.specs.MayBuild.{MayBuild};
 ghost use Rattle.nim_template.specs.Walk as spec;
 
 use crate::entry::push_all;
-use nim_base::{
-    Copied, NoMemory, Object, Position, Seq, Short, Slot, Task, TaskForm, Version, Worker,
-};
+use nim_base::{NoMemory, Object, Position, Seq, Short, Slot, Task, TaskForm, Version, Worker};
 use nim_command::{Command, Entry, Kind};
 use nim_place::{Placement, VersionMap, home, schedule_task};
 use std::alloc::Global;
+use std::mem;
 
 /// Where a walk over the tasks of a block stands. Its maps have offsets in place of versions: 0 is what an object has
 /// at entry, `j + 1` what task `j` of the block writes.
@@ -25,21 +24,22 @@ pub(crate) struct Walk {
     pub(crate) entries: Seq<(Worker, Entry)>,
 }
 
-/// Walks the tasks of a block in order, each at its home.
+/// Walks the tasks of a block in order, each at its home. The forms stay what they are.
 pub(crate) fn walked(
     alloc: Global,
-    forms: &[TaskForm],
+    forms: &mut Vec<TaskForm>,
     place: &Placement,
     objects: u16,
     live: &[bool],
 ) -> Result<Walk, NoMemory>
-    requires { MayBuild objects live.now forms.now }
-    ensures { IfOk result (λ walk.
-        walk ≡ spec.walked place.now live.now 0 (spec.empty_walk (length live.now) objects) forms.now) }
+    requires { MayBuild objects live.now forms.old.items }
+    ensures walk { IfOk result (λ walk.
+        walk ≡ spec.walked place.now live.now 0 (spec.empty_walk (length live.now) objects) forms.old.items) }
+    ensures forms { OnOk result (forms.new.items ≡ forms.old.items) }
 {
     let mut walk = empty_walk(alloc, live.len() as u16, objects)?;
-    for (number, form) in forms.iter().enumerate() {
-        walk.take_form(alloc, number as u16, form, place, live)?;
+    for number in 0..forms.len() {
+        walk.take_form(alloc, number as u16, &mut forms[number], place, live)?;
     }
     Ok(walk)
 }
@@ -57,24 +57,25 @@ fn empty_walk(alloc: Global, workers: u16, objects: u16) -> Result<Walk, NoMemor
 }
 
 impl Walk {
-    /// Takes the next task of the block, of this number: what it needs, and its commands.
+    /// Takes the next task of the block, of this number: what it needs, and its commands. Its form stays what it is.
     fn take_form(
         &mut self,
         alloc: Global,
         number: u16,
-        form: &TaskForm,
+        form: &mut TaskForm,
         place: &Placement,
         live: &[bool],
     ) -> Result<(), NoMemory>
         requires workers { length live.now ≡ self.old.offsets.workers }
         requires few { length live.now ≤ 16 }
         requires live { list_any (λ flag. flag) live.now ≡ true }
-        requires writes { IsSomeAnd (slice_get form.now.writes 0) (λ object. object.0 < self.old.offsets.objects) }
-        ensures { OnOk result (self.new ≡ spec.walked_past place.now live.now number self.old form.now) }
+        requires writes { IsSomeAnd (slice_get form.old.writes 0) (λ object. object.0 < self.old.offsets.objects) }
+        ensures walk { OnOk result (self.new ≡ spec.walked_past place.now live.now number self.old form.old) }
+        ensures form { OnOk result (form.new ≡ form.old) }
     {
-        let task = task_for(alloc, form)?;
         let owner = home_of(place, form, self.offsets.objects(), live);
         self.need_all(alloc, owner, form.reads.as_slice());
+        let task = lent_task(alloc, form);
         let position = Position::from(number);
         let commands = schedule_task(
             alloc,
@@ -85,6 +86,7 @@ impl Walk {
             place,
             live,
         )?;
+        give_back(form, task);
         push_all(&mut self.entries, form, commands.as_slice())?;
         Ok(())
     }
@@ -136,14 +138,24 @@ pub(crate) fn home_of(place: &Placement, form: &TaskForm, objects: u16, live: &[
     home(place, first, objects, live)
 }
 
-/// A form as a task, its parameters aside.
-fn task_for(alloc: Global, form: &TaskForm) -> Result<Task, NoMemory>
-    ensures { IfOk result (λ task. task ≡ spec.task_for form.now) }
+/// A form as a task, its parameters aside. The task has the reads and writes of the form, which keeps none.
+fn lent_task(alloc: Global, form: &mut TaskForm) -> Task
+    ensures task { result ≡ spec.task_for form.old }
+    ensures form { form.new ≡ record form.old { reads = []; writes = [] } }
 {
-    Ok(Task {
+    Task {
         func: form.func,
         params: Seq::new(alloc),
-        reads: form.reads.copy()?,
-        writes: form.writes.copy()?,
-    })
+        reads: mem::replace(&mut form.reads, Seq::new(alloc)),
+        writes: mem::replace(&mut form.writes, Seq::new(alloc)),
+    }
+}
+
+/// A form has the reads and writes of a task again.
+fn give_back(form: &mut TaskForm, task: Task)
+    ensures { form.new ≡ record form.old { reads = task.reads; writes = task.writes } }
+{
+    let Task { reads, writes, .. } = task;
+    form.reads = reads;
+    form.writes = writes;
 }

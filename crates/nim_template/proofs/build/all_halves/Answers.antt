@@ -1,7 +1,8 @@
-use Rattle.nim_template.proofs.Ranges.{halves_pushed}
+use Rattle.std.proofs.lemmas.Result.{IfOk-weaker}
+use Rattle.nim_template.proofs.ByWorker.{halves_made}
 use Rattle.nim_template.proofs.build.all_halves.Goals as goal
 
-pub loop-number-preserved : goal.loop-number-preserved
-loop-number-preserved c =
-    halves_pushed c.loop-number.halves.items c.push.new.self.items c.in_ok-half_for.field-0 c.loop-number.number c.args.entries.now c.loop-number.invariant
-    c.in_ok-half_for.ensures c.in_ok-push.ensures.items
+pub returns : goal.returns
+returns c =
+    IfOk-weaker c.halves_of.result _ _ (λ halves is. halves_made c.args.workers c.args.entries.items halves.items c.in_ok-lists.lists.items is c.in_ok-lists.ensures)
+    c.halves_of.ensures

@@ -5,7 +5,8 @@ use Rattle.nim_template.proofs.walk.walked.Given as goal
 
 abbrev pub invariant-loop-number : goal.invariant-loop-number
 invariant-loop-number l = record {
+  forms : l.forms.items ≡ l.fn.forms.items;
   workers : l.walk.offsets.workers ≡ length l.live;
   objects : l.walk.offsets.objects ≡ l.objects;
-  so_far : walked l.place l.live l.number l.walk (drop l.number l.forms) ≡ walked l.place l.live 0 (empty_walk (length l.live) l.objects) l.forms;
+  so_far : walked l.place l.live l.number l.walk (drop l.number l.fn.forms.items) ≡ walked l.place l.live 0 (empty_walk (length l.live) l.objects) l.fn.forms.items;
 }
