@@ -13,7 +13,9 @@ use Rattle.nim_history.specs.History.{Asked, asked_at}
 use Rattle.nim_history.proofs.Left.{asked_is, asked_none}
 use Rattle.nim_worker.specs.declared.batch.Work.{Work}
 use Rattle.nim_worker.specs.Stands.{tickets_of}
-use Rattle.nim_worker.specs.Taken.{do_share, touch_one_slot}
+use Rattle.nim_store.specs.declared.key.Key.{Key}
+use Rattle.nim_history.specs.InTurn.{key_at}
+use Rattle.nim_worker.specs.Taken.{do_share, have_one_frame, is_key, touch_one_slot}
 
 -- a command that isn't complete is the one that was asked for
 pub command_asked : (groups : List Group) (ran : List ℕ) (place : ℕ) → is_one_of ran place ≡ false
@@ -40,6 +42,19 @@ touch_is groups ran one other a b first second here there =
       either None q = refl
       either (Some p) None = refl
       either (Some p) (Some q) = refl
+
+never : (o : Option Key) → option_map_or (λ (a : Key). false) o false ≡ false
+never None = refl
+never (Some a) = refl
+
+-- whether a command receives the frame of another one's key, if that one receives any
+pub frame_is : (groups : List Group) (one other : ℕ) (key : Option Key) → key ≡ key_at groups other
+    → option_map_or (λ (a : Key). option_map_or (is_key a) key false) (key_at groups one) false ≡ have_one_frame groups one other
+frame_is groups one other key is = ap (λ (k : Option Key). option_map_or (λ (a : Key). option_map_or (is_key a) k false) (key_at groups one) false) is
+
+-- a command that receives nothing has no frame with another
+pub no_frame : (groups : List Group) (one other : ℕ) → None ≡ key_at groups other → false ≡ have_one_frame groups one other
+no_frame groups one other is = sym (never (key_at groups one)) ∙ frame_is groups one other None is
 
 -- what holds of all tickets holds of that of a work
 pub ticket_within : (P : ℕ → Type 0) (works : List Work) (i : ℕ) (work : Work) → i < length works → work ≡ get_or works i work
