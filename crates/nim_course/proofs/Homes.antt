@@ -13,8 +13,6 @@ use Rattle.nim_place.specs.Schedule.{owner_of}
 use Rattle.nim_place.proofs.Live.{ahead_within}
 use Rattle.nim_template.proofs.InTurn.{ahead_live}
 
-]
-
 -- where one is live, a home is
 pub home_live : (place : Placement) (object : Object) (objects : ℕ) (live : List Bool) → list_any (λ (flag : Bool). flag) live ≡ true
     → is_live live (home place object objects live) ≡ true

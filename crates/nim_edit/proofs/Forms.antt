@@ -236,8 +236,6 @@ migrated_form template task to move = record {
 
 -- ---- moves that are taken
 
-]
-
 -- where no rule applies
 pub not_refused : (template : WorkerTemplate) (task : ℕ) (to : Worker) (live : List Bool) → nat_le (length template.forms) task ≡ false
     → is_live live to ≡ true → ((worker_at template.owners task).0 == to.0) ≡ false

@@ -58,7 +58,7 @@ first_passes test from (suc count) ticket is = either (test from) refl (first_pa
 -- a released command: it was asked for, and isn't complete
 pub record IsNext (state : WorkerState) (ticket : ℕ) : Type 0 where
   pub asked : Asked
-  pub get_some : asked_at state.session.groups ticket ≡ Some asked
+  pub there : asked_at state.session.groups ticket ≡ Some asked
   pub released : is_released state.session.groups (is_one_of state.ran) ticket ≡ true
   pub waiting : is_one_of state.ran ticket ≡ false
   pub within : ticket < length (members_of state.session.groups)
@@ -74,7 +74,7 @@ next_is state after ticket ready =
     let asked = asked_is groups ticket member.0 member.1 in
     record {
       asked = record { number = member.0.group; group = asked.0; command = member.0.command };
-      get_some = asked.2;
+      there = asked.2;
       released = released;
       waiting = not_ran groups state.ran ticket released;
       within = within;
@@ -92,7 +92,7 @@ framed_as state ticket next frame is =
     may_next state ticket next
     ∙ sym (subst (λ (o : Option Asked). IfSome o (λ (asked : Asked). frame ≡ has_frame state asked)) next.there is)
 
--- it may, where its frame is get_some
+-- it may, where its frame is there
 pub one_released : (state : WorkerState) (ticket : ℕ) → IsNext state ticket
     → IfSome (asked_at state.session.groups ticket) (λ (asked : Asked). true ≡ has_frame state asked) → has_released state ≡ true
 one_released state ticket next frame =

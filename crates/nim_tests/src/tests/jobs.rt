@@ -1,4 +1,4 @@
-ghost use Rattle.std.specs.Prelude.{◌≡◌};
+ghost use Rattle.std.specs.Prelude.{◌≡◌, ◌≤◌, length, IsTrue};
 ghost use Rattle.nim_job.specs.Tasks.{takes_of};
 
 use nim_base::{Func, Object, Param};
@@ -19,7 +19,7 @@ fn a_block_has_a_task_for_each_part(rt: HostRuntime) -> Result<(), Fail> {
     let Ok(job) = read_driver(rt.alloc(), PAIR) else {
         return Err(Fail::from("it isn't read"));
     };
-    if !is_whole(&job) || job.blocks.len() == 0 || takes(&job, 0) != 0 {
+    if !is_whole(&job) || !takes_none(&job) {
         return Err(Fail::from("there is no such block"));
     }
     assert_eq!(rt; shapes(rt.alloc(), &job)?.len(), 4);
@@ -38,13 +38,13 @@ fn a_block_has_a_task_for_each_part(rt: HostRuntime) -> Result<(), Fail> {
     Ok(())
 }
 
-/// How many arguments a block takes.
-fn takes(job: &Job, block: u8) -> u8
-    ensures { result ≡ takes_of job.now block }
+/// Whether there is a first block, and it takes no argument.
+fn takes_none(job: &Job) -> bool
+    ensures { IsTrue result → (1 ≤ length job.now.blocks) × (takes_of job.now 0 ≡ 0) }
 {
-    match job.blocks.as_slice().get(usize::from(block)) {
-        Some(found) => found.args,
-        None => 0,
+    match job.blocks.as_slice().first() {
+        Some(block) => block.args == 0,
+        None => false,
     }
 }
 

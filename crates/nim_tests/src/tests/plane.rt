@@ -50,12 +50,25 @@ fn filled(alloc: Global, id: u32, slot: u16) -> Command {
 
 /// A task that adds to object 1 and writes object 0.
 fn task(alloc: Global) -> Result<Task, NoMemory> {
-    Ok(Task {
+    let mut task = Task {
         func: Func::Addc,
-        params: Seq::from_vec(Vec::from_slice(alloc, &[4])?),
-        reads: Seq::from_vec(Vec::from_slice(alloc, &[Object(1)])?),
-        writes: Seq::from_vec(Vec::from_slice(alloc, &[Object(0)])?),
-    })
+        params: Seq::new(alloc),
+        reads: Seq::new(alloc),
+        writes: Seq::new(alloc),
+    };
+    match fill(&mut task) {
+        Ok(()) => Ok(task),
+        Err(refused) => {
+            drop(task);
+            Err(refused)
+        }
+    }
+}
+
+fn fill(task: &mut Task) -> Result<(), NoMemory> {
+    task.params.push(4)?;
+    task.reads.push(Object(1))?;
+    task.writes.push(Object(0))
 }
 
 /// Whether a task writes one of two objects first.
@@ -111,12 +124,13 @@ fn a_block_without_tasks_has_empty_halves(rt: HostRuntime) -> Result<(), Fail> {
 /// A template that has to find object 0 at two workers.
 fn template(alloc: Global) -> Result<WorkerTemplate, NoMemory> {
     let places = [(Worker(0), Object(0)), (Worker(1), Object(0))];
+    let preconditions = Seq::from_vec(Vec::from_slice(alloc, &places)?);
     Ok(WorkerTemplate {
         block: 0,
         forms: Seq::new(alloc),
         halves: Seq::new(alloc),
         built: Seq::new(alloc),
-        preconditions: Seq::from_vec(Vec::from_slice(alloc, &places)?),
+        preconditions,
         effect: Seq::new(alloc),
         homes: Seq::new(alloc),
         owners: Seq::new(alloc),
