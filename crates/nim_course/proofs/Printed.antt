@@ -152,7 +152,7 @@ parts_told values name number (f ∷ fs) all none =
 text_printed : (values : List Grid) (output : List ℕ) (name : List ℕ) (fs : List Fetched) → IsOfValues values output → AllByRecursion (IsToldOf values) fs
     → list_any is_open fs ≡ false → IsOfValues values (output ++ part_texts name 0 (map value_in fs))
 text_printed values output name fs is all told =
-    let more : List Part = parts_from name 0 fs in
+    let more : List PrintedPart = parts_from name 0 fs in
     record {
       parts = is.parts ++ more;
       is = ap₂ (λ (a b : List ℕ). a ++ b) is.is (text_parts name 0 fs) ∙ sym (flat_map-append part_text is.parts more);
