@@ -9,14 +9,10 @@ use Rattle.nim_command.specs.declared.command.Command.{Command}
 use Rattle.nim_command.specs.declared.command.Kind.{Kind}
 use Rattle.nim_place.specs.declared.placement.Placement.{Placement}
 use Rattle.nim_place.specs.Versions.{Versions, after_commands, after_kind, no_versions, puts_of, version_of, with_version}
+use Rattle.nim_reuse.specs.Reuse.{MapStays}
 use Rattle.nim_control.specs.Sites.{AreSites, Sites, SitesStay}
 use Rattle.nim_base.proofs.Lists.{some_set}
 use Rattle.nim_reuse.proofs.Stays.{put_stays, same_stays, then_stays}
-
--- a map has the workers and objects of another
-pub record MapStays (old new : Versions) : Type 0 where
-  pub workers : new.workers ≡ old.workers
-  pub objects : new.objects ≡ old.objects
 
 puts_stay : (worker : Worker) (version : ℕ) (slots : List Slot) (versions : Versions) → MapStays versions (fold (with_version worker version) versions slots)
 puts_stay worker version [] versions = record { workers = refl; objects = refl }
